@@ -1,0 +1,5 @@
+pub mod Bytes
+pub mod Segments
+pub mod Admission
+pub mod Messages
+pub mod Calls

@@ -1,0 +1,26 @@
+// Cuts a delivery of EDIFACT bytes into segments and finds its messages, for any service characters. No call asks anything of its
+// caller, and each says its whole answer by a definition of specs/. The calls of `base` run at the service characters `:+.?'`.
+pub mod base;
+
+mod admit;
+mod begins;
+mod message;
+mod scan;
+mod service;
+mod steps;
+mod tags;
+mod totals;
+
+pub use admit::admission;
+pub use begins::begins_segment;
+pub use message::Found;
+pub use message::message_at;
+pub use message::next_message;
+pub use scan::Cut;
+pub use scan::segment_at;
+pub use service::Syntax;
+pub use steps::Cursor;
+pub use steps::Step;
+pub use tags::Tag;
+pub use totals::Counts;
+pub use totals::count;

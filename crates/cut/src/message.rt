@@ -1,0 +1,89 @@
+// Messages, found by walking segments.
+use crate::admit::admission;
+use crate::begins::begins_segment;
+use crate::begins::first_from;
+use crate::service::Syntax;
+use crate::tags::Spot;
+use crate::tags::Tag;
+use crate::tags::spot_at;
+
+// A message's first byte and the byte after its last; or nothing.
+pub enum Found {
+    Message {
+        start: usize,
+        end: usize,
+    },
+    Nothing,
+}
+
+// The message that begins at `at`.
+pub fn message_at(y: Syntax, d: &[u8], at: usize) -> Found {
+    if !begins_segment(y, d, at) {
+        return Found::Nothing;
+    }
+    let s = spot_at(y, d, at);
+    let Spot::At { start, tag, end } = s else {
+        return Found::Nothing;
+    };
+    if !begins_message(tag) {
+        return Found::Nothing;
+    }
+    Found::Message {
+        start,
+        end: message_end(y, d, end),
+    }
+}
+
+// The next message that begins at `from` or later. The cost is what lies between `from` and the end of that message.
+pub fn next_message(y: Syntax, d: &[u8], from: usize) -> Found {
+    if admission(y, d) != 0 {
+        return Found::Nothing;
+    }
+    next_from(y, d, first_from(y, d, from))
+}
+
+// The first message of the segments that begin at `from`.
+fn next_from(y: Syntax, d: &[u8], from: usize) -> Found {
+    let mut at = from;
+    loop {
+        let s = spot_at(y, d, at);
+        let Spot::At { start, tag, end } = s else {
+            return Found::Nothing;
+        };
+        if begins_message(tag) {
+            return Found::Message {
+                start,
+                end: message_end(y, d, end),
+            };
+        }
+        at = end;
+    }
+}
+
+// Where the message ends whose first segment ends at `from`.
+fn message_end(y: Syntax, d: &[u8], from: usize) -> usize {
+    let mut at = from;
+    loop {
+        let s = spot_at(y, d, at);
+        let Spot::At { start: _, tag, end } = s else {
+            return at;
+        };
+        match tag {
+            Tag::Unh => return at,
+            Tag::Unt => return end,
+            Tag::Unz => return at,
+            Tag::Other => {
+                at = end;
+            }
+        }
+    }
+}
+
+fn begins_message(tag: Tag) -> bool {
+    match tag {
+        Tag::Unh => true,
+        Tag::Unt => false,
+        Tag::Unz => false,
+        Tag::Other => false,
+    }
+}
