@@ -1,3 +1,5 @@
 pub mod Parts
 pub mod Scanning
 pub mod Words
+pub mod Appended
+pub mod First

@@ -3,3 +3,4 @@ pub mod Segments
 pub mod Admission
 pub mod Messages
 pub mod Calls
+pub mod Fronts

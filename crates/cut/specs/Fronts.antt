@@ -1,0 +1,38 @@
+-- What demand 3 speaks of: a front before a tail, and places moved by the front's length.
+use Prim.Native.Nat.{ℕ, _+_}
+use mathlib.Core.Bool.{Bool, true, false, not, _&&_}
+use mathlib.Core.List.{List, [], _∷_, _++_, map}
+use Rattle.cut.specs.declared.service.Syntax.{Syntax}
+use Rattle.cut.specs.Segments.{Segment, frees}
+use Rattle.cut.specs.Messages.{Message}
+
+-- the same segment k places later
+abbrev pub moved : ℕ → Segment → Segment
+moved k s = record { start = k + s .start; bytes = s .bytes; piece = s .piece }
+
+-- the same message k places later
+abbrev pub movedMessage : ℕ → Message → Message
+movedMessage k m = record { first = moved k (m .first); rest = map (moved k) (m .rest) }
+
+-- none of them is a piece: what they stand in "ends where a segment ends"
+unfoldable pub whole : List Segment → Bool
+whole [] = true
+whole (s ∷ ss) = not (s .piece) && whole ss
+
+-- whether the byte after xs is released; r: whether the first of xs is
+unfoldable pub after : Syntax → Bool → List ℕ → Bool
+after y r [] = r
+after y r (x ∷ xs) = after y (frees y r x) xs
+
+unfoldable pub glued : Segment → List Segment → List Segment
+glued s [] = s ∷ []
+glued s (t ∷ ts) = record { start = s .start; bytes = s .bytes ++ t .bytes; piece = t .piece } ∷ ts
+
+abbrev pub pickSegments : Bool → List Segment → List Segment → List Segment
+pickSegments true ss ts = ss
+pickSegments false ss ts = ts
+
+-- a front's segments and then those of what follows: a piece and the first of these are one segment
+unfoldable pub meet : List Segment → List Segment → List Segment
+meet [] ts = ts
+meet (s ∷ ss) ts = pickSegments (s .piece) (glued s ts) (s ∷ meet ss ts)
