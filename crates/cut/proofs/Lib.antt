@@ -3,3 +3,5 @@ pub mod Scanning
 pub mod Words
 pub mod Appended
 pub mod First
+pub mod Starts
+pub mod Boundaries

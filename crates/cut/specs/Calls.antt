@@ -30,6 +30,24 @@ cutFrom y d at r = headCut (segmentsFrom y at r (drop at d))
 abbrev pub segmentAt : Syntax → List ℕ → ℕ → Cut
 segmentAt y d at = cutFrom y d at false
 
+abbrev pub pickStep : Bool → Step → Step → Step
+pickStep true a b = a
+pickStep false a b = b
+
+-- a segment as a step, with the cursor after it
+abbrev pub stepped : Syntax → Cut → Step
+stepped y (cut.Segment s e p) = step.Segment s e p (record { syntax = y; at = e })
+stepped y cut.Nothing = step.Nothing
+
+-- Cursor::opened: before the first segment
+abbrev pub openedAt : Syntax → Cursor
+openedAt y = record { syntax = y; at = 0 }
+
+-- Cursor::step: the segment from the cursor's place on, a place within UNA being before the first; nothing, if the delivery is not admitted
+unfoldable pub stepOf : Cursor → List ℕ → Step
+stepOf c d =
+    pickStep (eqb (admissionOf (c .syntax) d) 0) (stepped (c .syntax) (segmentAt (c .syntax) d (max (c .at) (openingOf d)))) step.Nothing
+
 -- begins_segment: whether one of the delivery's segments begins at a place
 unfoldable pub beginsSegment : Syntax → List ℕ → ℕ → Bool
 beginsSegment y d at = beginsIn at (segments y d)

@@ -4,3 +4,4 @@ pub mod Admission
 pub mod Messages
 pub mod Calls
 pub mod Fronts
+pub mod Workers

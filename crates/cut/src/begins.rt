@@ -4,9 +4,21 @@ use crate::admit::opening;
 use crate::scan::Cut;
 use crate::scan::cut_from;
 use crate::service::Syntax;
+ghost use Prim.Native.Nat.{_≤_, _<_};
+ghost use mathlib.Core.Bool.{false};
+ghost use mathlib.Core.Path.{_≡_};
+ghost use lib.ListN.{length, drop};
+ghost use Rattle.cut.specs.Bytes.{part};
+ghost use Rattle.cut.specs.Segments.{frees, segmentsFrom};
+ghost use Rattle.cut.specs.Admission.{openingOf};
+ghost use Rattle.cut.specs.Calls.{beginsSegment};
+ghost use Rattle.cut.specs.Fronts.{whole, after};
+ghost use Rattle.cut.specs.Workers.{since};
 
-// Whether a segment of the delivery begins at `at`. The cost is the run of release characters before it.
-pub fn begins_segment(y: Syntax, d: &[u8], at: usize) -> bool {
+// Whether a segment of the delivery begins at `at`. The cost is the run of release characters before it, not the place.
+pub fn begins_segment(y: Syntax, d: &[u8], at: usize) -> bool
+    ensures { λ r. ⌜ r ≡ beginsSegment y (now (d .entry)) at ⌝ }
+{
     if admission(y, d) != 0 {
         return false;
     }
@@ -20,8 +32,32 @@ pub fn begins_segment(y: Syntax, d: &[u8], at: usize) -> bool {
     follows_end(y, d, first, at)
 }
 
-// Whether a segment ends right before `at`, or it is the first place.
-fn follows_end(y: Syntax, d: &[u8], first: usize, at: usize) -> bool {
+// Where the first segment begins that begins at `from` or later; the end of the delivery, if none does.
+pub(crate) fn first_from(y: Syntax, d: &[u8], from: usize) -> usize
+    ensures { λ r. ⌜ since from (segmentsFrom y (openingOf (now (d .entry))) false (drop (openingOf (now (d .entry))) (now (d .entry)))) ≡ segmentsFrom y r false (drop r (now (d .entry))) ⌝ }
+{
+    let first = opening(d);
+    if from <= first {
+        return first;
+    }
+    if d.len() <= from {
+        return from;
+    }
+    if follows_end(y, d, first, from) {
+        return from;
+    }
+    let c = cut_from(y, d, from, released_at(y, d, first, from));
+    match c {
+        Cut::Segment { start: _, end, piece: _ } => end,
+        Cut::Nothing => from,
+    }
+}
+
+// Whether the bytes from `first` up to `at` end where a segment ends.
+fn follows_end(y: Syntax, d: &[u8], first: usize, at: usize) -> bool
+    requires { ⌜ (first ≤ at) × (at < length (now d)) ⌝ }
+    ensures { λ r. ⌜ r ≡ whole (segmentsFrom y first false (part first at (now (d .entry)))) ⌝ }
+{
     if at == first {
         return true;
     }
@@ -32,40 +68,29 @@ fn follows_end(y: Syntax, d: &[u8], first: usize, at: usize) -> bool {
     !released_at(y, d, first, last)
 }
 
-// Whether the byte at `at` is released, where the segments begin at `first`: an odd run of release characters stands before it.
-fn released_at(y: Syntax, d: &[u8], first: usize, at: usize) -> bool {
+// Whether the byte at `at` is released: an odd run of release characters stands before it.
+fn released_at(y: Syntax, d: &[u8], first: usize, at: usize) -> bool
+    requires { ⌜ at < length (now d) ⌝ }
+    ensures { λ r. ⌜ r ≡ after y false (part first at (now (d .entry))) ⌝ }
+{
     let mut i = at;
     let mut released = false;
     while first < i {
-        if !is_release(y, d[i - 1]) {
+        i -= 1;
+        if !is_release(y, d[i]) {
             return released;
         }
         released = !released;
-        i -= 1;
     }
     released
 }
 
 // A byte that releases the next one unless it is released itself.
-fn is_release(y: Syntax, x: u8) -> bool {
-    x != y.terminator && x == y.release
-}
-
-// Where the first segment begins that begins at `from` or later, or the end of the delivery.
-pub(crate) fn first_from(y: Syntax, d: &[u8], from: usize) -> usize {
-    let first = opening(d);
-    if from <= first {
-        return first;
+fn is_release(y: Syntax, x: u8) -> bool
+    ensures { λ r. ⌜ r ≡ frees y false x ⌝ }
+{
+    if x == y.terminator {
+        return false;
     }
-    if d.len() <= from {
-        return d.len();
-    }
-    if follows_end(y, d, first, from) {
-        return from;
-    }
-    let c = cut_from(y, d, from, released_at(y, d, first, from));
-    match c {
-        Cut::Segment { start: _, end, piece: _ } => end,
-        Cut::Nothing => d.len(),
-    }
+    x == y.release
 }

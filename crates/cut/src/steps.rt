@@ -4,7 +4,11 @@ use crate::admit::opening;
 use crate::scan::Cut;
 use crate::scan::segment_at;
 use crate::service::Syntax;
+ghost use Prim.Native.Nat.{max};
+ghost use mathlib.Core.Path.{_≡_};
+ghost use Rattle.cut.specs.Calls.{openedAt, stepOf};
 
+// The service characters and the place that the next segment is looked for at.
 pub struct Cursor {
     pub syntax: Syntax,
     pub at: usize,
@@ -23,7 +27,9 @@ pub enum Step {
 
 impl Cursor {
     // Before the first segment.
-    pub fn opened(y: Syntax) -> Cursor {
+    pub fn opened(y: Syntax) -> Cursor
+        ensures { λ r. ⌜ r ≡ openedAt y ⌝ }
+    {
         Cursor {
             syntax: y,
             at: 0,
@@ -31,14 +37,15 @@ impl Cursor {
     }
 
     // A place within UNA counts as before the first segment.
-    pub fn step(self, d: &[u8]) -> Step {
+    pub fn step(self, d: &[u8]) -> Step
+        ensures { λ r. ⌜ r ≡ stepOf self (now (d .entry)) ⌝ }
+    {
         let y = self.syntax;
         let at = self.at;
         if admission(y, d) != 0 {
             return Step::Nothing;
         }
-        let first = opening(d);
-        let c = segment_at(y, d, if at < first { first } else { at });
+        let c = segment_at(y, d, later(at, opening(d)));
         match c {
             Cut::Segment { start, end, piece } => Step::Segment {
                 start,
@@ -52,4 +59,10 @@ impl Cursor {
             Cut::Nothing => Step::Nothing,
         }
     }
+}
+
+fn later(a: usize, b: usize) -> usize
+    ensures { λ r. ⌜ r ≡ max a b ⌝ }
+{
+    if a < b { b } else { a }
 }

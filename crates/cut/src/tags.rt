@@ -2,6 +2,15 @@
 use crate::scan::Cut;
 use crate::scan::segment_at;
 use crate::service::Syntax;
+ghost use Prim.Native.Nat.{_≤_};
+ghost use mathlib.Core.Bool.{false};
+ghost use mathlib.Core.List.{[], _∷_};
+ghost use mathlib.Core.Path.{_≡_};
+ghost use lib.ListN.{length, drop};
+ghost use Rattle.cut.specs.Bytes.{part};
+ghost use Rattle.cut.specs.Segments.{segmentsFrom};
+ghost use Rattle.cut.specs.Messages.{tagOf};
+ghost use Rattle.cut.specs.Workers.{headSpot};
 
 pub enum Tag {
     Unh,
@@ -10,7 +19,7 @@ pub enum Tag {
     Other,
 }
 
-// A segment's tag and the byte after its last; or nothing.
+// A segment's first byte, its tag and the byte after its last; or nothing.
 pub enum Spot {
     At {
         start: usize,
@@ -20,7 +29,10 @@ pub enum Spot {
     Nothing,
 }
 
-pub(crate) fn spot_at(y: Syntax, d: &[u8], at: usize) -> Spot {
+// The segment that the bytes from `at` on begin with, by its tag.
+pub(crate) fn spot_at(y: Syntax, d: &[u8], at: usize) -> Spot
+    ensures { λ r. ⌜ r ≡ headSpot (segmentsFrom y at false (drop at (now (d .entry)))) ⌝ }
+{
     let c = segment_at(y, d, at);
     match c {
         Cut::Segment { start, end, piece: _ } => Spot::At {
@@ -32,7 +44,10 @@ pub(crate) fn spot_at(y: Syntax, d: &[u8], at: usize) -> Spot {
     }
 }
 
-fn tag_of(d: &[u8], start: usize, end: usize) -> Tag {
+fn tag_of(d: &[u8], start: usize, end: usize) -> Tag
+    requires { ⌜ (start ≤ end) × (end ≤ length (now d)) ⌝ }
+    ensures { λ r. ⌜ r ≡ tagOf (part start end (now (d .entry))) ⌝ }
+{
     if end - start < 3 {
         return Tag::Other;
     }
@@ -42,8 +57,14 @@ fn tag_of(d: &[u8], start: usize, end: usize) -> Tag {
     if d[start + 1] != 78 {
         return Tag::Other;
     }
-    let third = d[start + 2];
-    match third {
+    third_of(d[start + 2])
+}
+
+// The tag of a segment that begins UN, by its third byte.
+fn third_of(x: u8) -> Tag
+    ensures { λ r. ⌜ r ≡ tagOf (85 ∷ 78 ∷ x ∷ []) ⌝ }
+{
+    match x {
         72 => Tag::Unh,
         84 => Tag::Unt,
         90 => Tag::Unz,

@@ -5,6 +5,9 @@ use crate::service::Syntax;
 use crate::tags::Spot;
 use crate::tags::Tag;
 use crate::tags::spot_at;
+ghost use mathlib.Core.Path.{_≡_};
+ghost use Rattle.cut.specs.Calls.{countsOf};
+ghost use Rattle.cut.specs.Workers.{begunBy, outBy, openBy, oneIf};
 
 pub struct Counts {
     pub messages: usize,
@@ -12,7 +15,9 @@ pub struct Counts {
 }
 
 // Both counts in one walk over the segments.
-pub fn count(y: Syntax, d: &[u8]) -> Counts {
+pub fn count(y: Syntax, d: &[u8]) -> Counts
+    ensures { λ r. ⌜ r ≡ countsOf y (now (d .entry)) ⌝ }
+{
     let mut messages = 0;
     let mut outside = 0;
     if admission(y, d) != 0 {
@@ -39,7 +44,9 @@ pub fn count(y: Syntax, d: &[u8]) -> Counts {
 }
 
 // 1 for the segment that begins a message, else 0.
-fn begun(tag: Tag) -> usize {
+fn begun(tag: Tag) -> usize
+    ensures { λ r. ⌜ r ≡ begunBy tag ⌝ }
+{
     match tag {
         Tag::Unh => 1,
         Tag::Unt => 0,
@@ -49,7 +56,9 @@ fn begun(tag: Tag) -> usize {
 }
 
 // 1 for a segment outside, else 0; `inside`: a message is open before it.
-fn left_out(tag: Tag, inside: bool) -> usize {
+fn left_out(tag: Tag, inside: bool) -> usize
+    ensures { λ r. ⌜ r ≡ oneIf (outBy tag inside) ⌝ }
+{
     match tag {
         Tag::Unh => 0,
         Tag::Unz => 1,
@@ -59,7 +68,9 @@ fn left_out(tag: Tag, inside: bool) -> usize {
 }
 
 // Whether a message is open after a segment.
-fn stays_inside(tag: Tag, inside: bool) -> bool {
+fn stays_inside(tag: Tag, inside: bool) -> bool
+    ensures { λ r. ⌜ r ≡ openBy tag inside ⌝ }
+{
     match tag {
         Tag::Unh => true,
         Tag::Unt => false,
