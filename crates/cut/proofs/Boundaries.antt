@@ -38,6 +38,19 @@ unfolding frees
 frees-not y true x h = refl
 frees-not y false x h = h
 
+ends-other : (y : Syntax) (r : Bool) (x : ℕ) → (x ≡ y .terminator → ⊥) → ends y r x ≡ false
+unfolding ends
+ends-other y true x n = refl
+ends-other y false x n = ne-eqb _ _ n
+
+ends-terminator : (y : Syntax) (r : Bool) (x : ℕ) → x ≡ y .terminator → ends y r x ≡ not r
+unfolding ends
+ends-terminator y true x t = refl
+ends-terminator y false x t = eq-eqb _ _ t
+
+le-lt : {a b : ℕ} → a ≤ b → (b ≡ a → ⊥) → a < b
+le-lt h n = omega arith
+
 whole-join : (e : Bool) (p x : ℕ) (ss : List Segment) → (ss ≡ [] → ⊥) → whole (join e p x ss) ≡ whole ss
 unfolding join whole
 whole-join true p x ss n = refl
@@ -78,7 +91,7 @@ pub record Open (at : ℕ) (ss ts : List Segment) : Type 0 where
   pub same : meet ss ts ≡ front ++ drop 1 ts
 
 pub meet-open : (at : ℕ) (ss ts : List Segment) → Below at ss → whole ss ≡ false → Open at ss ts
-unfolding meet whole glued
+unfolding meet whole glued Below
 meet-open at [] ts k h = absurd (false≢true (sym h))
 meet-open at (s ∷ ss) ts k h = go (s .piece) refl ts h (meet-open at ss ts (k .1))
   where
@@ -91,15 +104,12 @@ meet-open at (s ∷ ss) ts k h = go (s .piece) refl ts h (meet-open at ss ts (k 
         record { front = s ∷ o .front; below = (k .0, o .below); same = rw (e, o .same) }
 
 rising-rest : (y : Syntax) (at : ℕ) (r : Bool) (xs : List ℕ) → Rising (suc at) (drop 1 (segmentsFrom y at r xs))
+unfolding Rising
 rising-rest y at r xs = go (segmentsFrom y at r xs) refl (segments-rising y at r xs)
   where
     go : (ss : List Segment) → segmentsFrom y at r xs ≡ ss → Rising at ss → Rising (suc at) (drop 1 ss)
     go [] l k = tt
     go (s ∷ ss) l k = rising-weaken (suc at) (suc (s .start)) ss (omega (arith, first y at r xs s ss l .starts)) (k .1)
-
-rest-since : (y : Syntax) (at : ℕ) (r : Bool) (xs : List ℕ) → since at (drop 1 (segmentsFrom y at r xs)) ≡ drop 1 (segmentsFrom y at r xs)
-rest-since y at r xs =
-    since-all at (drop 1 (segmentsFrom y at r xs)) (rising-weaken at (suc at) (drop 1 (segmentsFrom y at r xs)) (omega arith) (rising-rest y at r xs))
 
 begins-here : (y : Syntax) (at : ℕ) (r : Bool) (x : ℕ) (xs : List ℕ) → beginsIn at (segmentsFrom y at r (x ∷ xs)) ≡ true
 unfolding segmentsFrom beginsIn join
@@ -147,7 +157,7 @@ module _ (y : Syntax) (d : List ℕ) (from at : ℕ) (h : from ≤ at) (k : at �
     → since at (segmentsFrom y from false (drop from d)) ≡ drop 1 (segmentsFrom y at (after y false (part from at d)) (drop at d))
   since-open w =
       let o = meet-open at _ (segmentsFrom y at (after y false (part from at d)) (drop at d)) front-below w in
-      rw (parted, o .same, since-none at (o .front) _ (o .below)) (rest-since y at _ _)
+      rw (parted, o .same, since-none at (o .front) _ (o .below)) (since-all at _ (rising-weaken at (suc at) _ (omega arith) (rising-rest y at _ _)))
 
 -- b, or its opposite
 unfoldable pub turned : Bool → Bool → Bool
@@ -182,3 +192,25 @@ module _ (y : Syntax) (d : List ℕ) (from i : ℕ) (r : Bool) where
   pub run-out : i ≤ from → turned r (after y false (part from i d)) ≡ r
   unfolding after
   run-out h = rw (part-none d from i h) (turned-false r)
+
+-- whether the bytes up to a place end where a segment ends
+module _ (y : Syntax) (d : List ℕ) (from at : ℕ) where
+  pub closed-first : at ≡ from → whole (segmentsFrom y from false (part from at d)) ≡ true
+  unfolding segmentsFrom whole
+  closed-first e =
+      let h : at ≤ from = omega arith in
+      rw (part-none d from at h)
+
+  closed-last
+    : from < at → at ≤ length d → whole (segmentsFrom y from false (part from at d)) ≡ ends y (after y false (part from (at - 1) d)) (getD d (at - 1) 0)
+  closed-last h k = rw (part-last d from at h k) (whole-last y from false (part from (at - 1) d) (getD d (at - 1) 0))
+
+  pub closed-not
+    : from ≤ at → (at ≡ from → ⊥) → at ≤ length d → (getD d (at - 1) 0 ≡ y .terminator → ⊥)
+    → whole (segmentsFrom y from false (part from at d)) ≡ false
+  closed-not h e k n = closed-last (le-lt h e) k ∙ ends-other y (after y false (part from (at - 1) d)) (getD d (at - 1) 0) n
+
+  pub closed-by
+    : from ≤ at → (at ≡ from → ⊥) → at ≤ length d → getD d (at - 1) 0 ≡ y .terminator
+    → whole (segmentsFrom y from false (part from at d)) ≡ not (after y false (part from (at - 1) d))
+  closed-by h e k t = closed-last (le-lt h e) k ∙ ends-terminator y (after y false (part from (at - 1) d)) (getD d (at - 1) 0) t

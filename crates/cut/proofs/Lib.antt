@@ -5,3 +5,4 @@ pub mod Appended
 pub mod First
 pub mod Starts
 pub mod Boundaries
+pub mod Places

@@ -13,62 +13,68 @@ use Rattle.cut.specs.Messages.{beginsIn}
 use Rattle.cut.specs.Workers.{since}
 
 -- each begins at q or later, and after the one before it
-abbrev pub Rising : ℕ → List Segment → Type 0
+unfoldable pub Rising : ℕ → List Segment → Type 0
 Rising q [] = Unit {0}
 Rising q (s ∷ ss) = (q ≤ s .start) × Rising (suc (s .start)) ss
 
 -- each begins before b
-abbrev pub Below : ℕ → List Segment → Type 0
+unfoldable pub Below : ℕ → List Segment → Type 0
 Below b [] = Unit {0}
 Below b (s ∷ ss) = (s .start < b) × Below b ss
 
 pub rising-weaken : (q q′ : ℕ) (ss : List Segment) → q ≤ q′ → Rising q′ ss → Rising q ss
+unfolding Rising
 rising-weaken q q′ [] h k = tt
 rising-weaken q q′ (s ∷ ss) h k = (omega (arith, k .0), k .1)
 
+pub below-more : (b b′ : ℕ) (ss : List Segment) → b ≤ b′ → Below b ss → Below b′ ss
+unfolding Below
+below-more b b′ [] h k = tt
+below-more b b′ (s ∷ ss) h k = (omega (arith, k .0), below-more b b′ ss h (k .1))
+
 join-rising : (e : Bool) (p x : ℕ) (ss : List Segment) → Rising (suc p) ss → Rising p (join e p x ss)
-unfolding join
+unfolding join Rising
 join-rising true p x ss h = (le-refl p, h)
 join-rising false p x [] h = (le-refl p, tt)
 join-rising false p x (s ∷ ss) h = (le-refl p, rising-weaken (suc p) (suc (s .start)) ss (omega (arith, h .0)) (h .1))
 
 pub segments-rising : (y : Syntax) (p : ℕ) (r : Bool) (xs : List ℕ) → Rising p (segmentsFrom y p r xs)
-unfolding segmentsFrom
+unfolding segmentsFrom Rising
 segments-rising y p r [] = tt
 segments-rising y p r (x ∷ xs) = join-rising (ends y r x) p x _ (segments-rising y (suc p) (frees y r x) xs)
 
 join-below : (e : Bool) (p x b : ℕ) (ss : List Segment) → p < b → Below b ss → Below b (join e p x ss)
-unfolding join
+unfolding join Below
 join-below true p x b ss h k = (h, k)
 join-below false p x b [] h k = (h, tt)
 join-below false p x b (s ∷ ss) h k = (h, k .1)
 
 pub segments-below : (y : Syntax) (p : ℕ) (r : Bool) (xs : List ℕ) (b : ℕ) → p + length xs ≤ b → Below b (segmentsFrom y p r xs)
-unfolding segmentsFrom
+unfolding segmentsFrom Below
 segments-below y p r [] b h = tt
 segments-below y p r (x ∷ xs) b h =
     join-below (ends y r x) p x b _ (omega arith) (segments-below y (suc p) (frees y r x) xs b (omega arith))
 
 pub begins-past : (at q : ℕ) (ss : List Segment) → Rising q ss → at < q → beginsIn at ss ≡ false
-unfolding beginsIn
+unfolding beginsIn Rising
 begins-past at q [] k h = refl
 begins-past at q (s ∷ ss) k h =
     let n : at ≡ s .start → ⊥ = λ e. omega (arith, k .0) in
     rw (ne-eqb _ _ n, begins-past at (suc (s .start)) ss (k .1) (omega (arith, k .0)))
 
 pub begins-append : (at b : ℕ) (ss ts : List Segment) → Below b ss → b ≤ at → beginsIn at (ss ++ ts) ≡ beginsIn at ts
-unfolding beginsIn
+unfolding beginsIn Below
 begins-append at b [] ts k h = refl
 begins-append at b (s ∷ ss) ts k h =
     let n : at ≡ s .start → ⊥ = λ e. omega (arith, k .0) in
     rw (ne-eqb _ _ n, begins-append at b ss ts (k .1) h)
 
 pub since-all : (q : ℕ) (ss : List Segment) → Rising q ss → since q ss ≡ ss
-unfolding since
+unfolding since Rising
 since-all q [] k = refl
 since-all q (s ∷ ss) k = rw (le-leb _ _ (k .0), since-all q ss (rising-weaken q (suc (s .start)) ss (omega (arith, k .0)) (k .1)))
 
 pub since-none : (q : ℕ) (ss ts : List Segment) → Below q ss → since q (ss ++ ts) ≡ since q ts
-unfolding since
+unfolding since Below
 since-none q [] ts k = refl
 since-none q (s ∷ ss) ts k = rw (lt-leb _ _ (k .0), since-none q ss ts (k .1))

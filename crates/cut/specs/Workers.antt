@@ -34,6 +34,20 @@ isUnh Unt = false
 isUnh Unz = false
 isUnh Other = false
 
+-- whether a message goes on after a segment that follows its first
+abbrev pub goesOn : Tag → Bool
+goesOn Unh = false
+goesOn Unt = false
+goesOn Unz = false
+goesOn Other = true
+
+-- where it ends if it does not: UNT belongs to it
+abbrev pub lastBy : Tag → ℕ → ℕ → ℕ
+lastBy Unh at e = at
+lastBy Unt at e = e
+lastBy Unz at e = at
+lastBy Other at e = at
+
 -- how many messages a segment begins
 abbrev pub begunBy : Tag → ℕ
 begunBy Unh = 1

@@ -10,7 +10,6 @@ ghost use mathlib.Core.Path.{_≡_};
 ghost use lib.ListN.{length, drop};
 ghost use Rattle.cut.specs.Bytes.{part};
 ghost use Rattle.cut.specs.Segments.{frees, segmentsFrom};
-ghost use Rattle.cut.specs.Admission.{openingOf};
 ghost use Rattle.cut.specs.Calls.{beginsSegment};
 ghost use Rattle.cut.specs.Fronts.{whole, after};
 ghost use Rattle.cut.specs.Workers.{since};
@@ -32,16 +31,15 @@ pub fn begins_segment(y: Syntax, d: &[u8], at: usize) -> bool
     follows_end(y, d, first, at)
 }
 
-// Where the first segment begins that begins at `from` or later; the end of the delivery, if none does.
-pub(crate) fn first_from(y: Syntax, d: &[u8], from: usize) -> usize
-    ensures { λ r. ⌜ since from (segmentsFrom y (openingOf (now (d .entry))) false (drop (openingOf (now (d .entry))) (now (d .entry)))) ≡ segmentsFrom y r false (drop r (now (d .entry))) ⌝ }
+// Where the first segment begins that begins at `from` or later, of those from `first` on; the end of the delivery, if none does.
+pub(crate) fn first_from(y: Syntax, d: &[u8], first: usize, from: usize) -> usize
+    ensures { λ r. ⌜ since from (segmentsFrom y first false (drop first (now (d .entry)))) ≡ segmentsFrom y r false (drop r (now (d .entry))) ⌝ }
 {
-    let first = opening(d);
     if from <= first {
         return first;
     }
     if d.len() <= from {
-        return from;
+        return d.len();
     }
     if follows_end(y, d, first, from) {
         return from;
@@ -49,7 +47,7 @@ pub(crate) fn first_from(y: Syntax, d: &[u8], from: usize) -> usize
     let c = cut_from(y, d, from, released_at(y, d, first, from));
     match c {
         Cut::Segment { start: _, end, piece: _ } => end,
-        Cut::Nothing => from,
+        Cut::Nothing => d.len(),
     }
 }
 

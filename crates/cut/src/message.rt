@@ -1,5 +1,6 @@
 // Messages, found by walking segments.
 use crate::admit::admission;
+use crate::admit::opening;
 use crate::begins::begins_segment;
 use crate::begins::first_from;
 use crate::service::Syntax;
@@ -12,7 +13,7 @@ ghost use lib.ListN.{drop};
 ghost use Rattle.cut.specs.Segments.{segmentsFrom};
 ghost use Rattle.cut.specs.Messages.{body, lastEnd, messagesIn};
 ghost use Rattle.cut.specs.Calls.{messageAt, nextMessage};
-ghost use Rattle.cut.specs.Workers.{headFound, isUnh};
+ghost use Rattle.cut.specs.Workers.{headFound, isUnh, goesOn, lastBy};
 
 // A message's first byte and the byte after its last; or nothing.
 pub enum Found {
@@ -50,7 +51,7 @@ pub fn next_message(y: Syntax, d: &[u8], from: usize) -> Found
     if admission(y, d) != 0 {
         return Found::Nothing;
     }
-    next_from(y, d, first_from(y, d, from))
+    next_from(y, d, first_from(y, d, opening(d), from))
 }
 
 // The first message of the segments that begin at `from`.
@@ -83,14 +84,34 @@ fn message_end(y: Syntax, d: &[u8], from: usize) -> usize
         let Spot::At { start: _, tag, end } = s else {
             return at;
         };
-        match tag {
-            Tag::Unh => return at,
-            Tag::Unt => return end,
-            Tag::Unz => return at,
-            Tag::Other => {
-                at = end;
-            }
+        if !goes_on(tag) {
+            return last_end(tag, at, end);
         }
+        at = end;
+    }
+}
+
+// Whether a message goes on after a segment that follows its first.
+fn goes_on(tag: Tag) -> bool
+    ensures { λ r. ⌜ r ≡ goesOn tag ⌝ }
+{
+    match tag {
+        Tag::Unh => false,
+        Tag::Unt => false,
+        Tag::Unz => false,
+        Tag::Other => true,
+    }
+}
+
+// Where it ends, if it does not go on after the segment from `at` to `end`.
+fn last_end(tag: Tag, at: usize, end: usize) -> usize
+    ensures { λ r. ⌜ r ≡ lastBy tag at end ⌝ }
+{
+    match tag {
+        Tag::Unh => at,
+        Tag::Unt => end,
+        Tag::Unz => at,
+        Tag::Other => at,
     }
 }
 

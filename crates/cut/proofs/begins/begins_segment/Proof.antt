@@ -1,39 +1,39 @@
+-- `cut::begins::begins_segment` meets its contract.
+use mathlib.Core.Path.{sym, _∙_}
 use borrow.Author.Needs.{needs}
+use Rattle.cut.proofs.Places.{begins-refused, begins-beyond, begins-before, begins-at}
 use Rattle.cut.proofs.begins.begins_segment.Statement.{statement}
 use Rattle.cut.proofs.begins.begins_segment.Tie as tie
-use Rattle.cut.proofs.begins.begins_segment.Reads as reads
-use Rattle.cut.proofs.begins.begins_segment.Lts as lts
-use Rattle.cut.proofs.admit.admission.Reads as admission-reads
-use Rattle.cut.proofs.admit.opening.Reads as opening-reads
-use Rattle.cut.proofs.begins.follows_end.Reads as follows-end-reads
 
--- src/begins.rt:22:8
 admission-requires : tie.Need-admission-requires
 admission-requires c κs = search needs
 
--- src/begins.rt:23:9
 returns : tie.Need-returns
-returns c = ?
+returns c = sym (begins-refused _ _ _ (λ e. c .if1 .taken (c .before .admission .ensures ∙ e)))
 
--- src/begins.rt:26:9
 returns-2 : tie.Need-returns-2
-returns-2 c = ?
+returns-2 c = sym (begins-beyond _ _ _ (sym (c .before .before .admission .ensures) ∙ c .before .if1 .left) (c .if2 .taken))
 
--- src/begins.rt:28:9
 opening-requires : tie.Need-opening-requires
 opening-requires c κs = search needs
 
--- src/begins.rt:30:9
 returns-3 : tie.Need-returns-3
-returns-3 c = ?
+returns-3 c =
+    sym
+    (begins-before _ _ _ _
+    (sym (c .before .before .before .before .admission .ensures) ∙ c .before .before .before .if1 .left)
+    (c .before .opening .ensures) (c .if3 .taken))
 
--- src/begins.rt:32:5
 follows-end-requires : tie.Need-follows-end-requires
 follows-end-requires c κs = search needs
 
--- src/begins.rt:19:1
 returns-4 : tie.Need-returns-4
-returns-4 c = ?
+returns-4 c =
+    c .follows-end .ensures
+    ∙ sym
+      (begins-at _ _ _ _
+      (sym (c .before .before .before .before .before .admission .ensures) ∙ c .before .before .before .before .if1 .left)
+      (c .before .before .opening .ensures) (c .before .if3 .left) (c .before .before .before .if2 .left))
 
 pub begins-segment-spec : {M : Type 1} → statement M
 begins-segment-spec =

@@ -2,6 +2,8 @@ use Rattle.cut.proofs.message.message_end.Statement.{statement}
 use Rattle.cut.proofs.message.message_end.Tie as tie
 use Rattle.cut.proofs.message.message_end.Reads as reads
 use Rattle.cut.proofs.message.message_end.Lts as lts
+use Rattle.cut.proofs.message.goes_on.Reads as goes-on-reads
+use Rattle.cut.proofs.message.last_end.Reads as last-end-reads
 use Rattle.cut.proofs.tags.spot_at.Reads as spot-at-reads
 
 abbrev Inv-loop : tie.InvT-loop
@@ -10,59 +12,43 @@ Inv-loop y d from at₀ at = ?
 abbrev μ-loop : tie.MeasureT-loop
 μ-loop y d from at₀ at = ?
 
--- src/message.rt:81:5
+-- src/message.rt:82:5
 loop-holds : tie.Need-loop-holds Inv-loop μ-loop
 loop-holds c = ?
 
--- src/message.rt:82:13
+-- src/message.rt:83:13
 spot-at-requires : tie.Need-spot-at-requires Inv-loop μ-loop
 spot-at-requires c κs = ?
 
--- src/message.rt:83:34
+-- src/message.rt:84:34
 enum-known-s : tie.Need-enum-known-s Inv-loop μ-loop
 enum-known-s c = ?
 
--- src/message.rt:84:13
+-- src/message.rt:85:13
 enum-told : tie.Need-enum-told Inv-loop μ-loop
 enum-told c = ?
 
--- src/message.rt:84:13
+-- src/message.rt:85:13
 returns : tie.Need-returns Inv-loop μ-loop
 returns c = ?
 
--- src/message.rt:87:25
-enum-told-2 : tie.Need-enum-told-2 Inv-loop μ-loop
-enum-told-2 c = ?
+-- src/message.rt:87:13
+goes-on-requires : tie.Need-goes-on-requires Inv-loop μ-loop
+goes-on-requires c κs = ?
 
--- src/message.rt:87:25
+-- src/message.rt:88:13
+last-end-requires : tie.Need-last-end-requires Inv-loop μ-loop
+last-end-requires c κs = ?
+
+-- src/message.rt:88:13
 returns-2 : tie.Need-returns-2 Inv-loop μ-loop
 returns-2 c = ?
 
--- src/message.rt:88:25
-enum-told-3 : tie.Need-enum-told-3 Inv-loop μ-loop
-enum-told-3 c = ?
-
--- src/message.rt:88:25
-returns-3 : tie.Need-returns-3 Inv-loop μ-loop
-returns-3 c = ?
-
--- src/message.rt:89:25
-enum-told-4 : tie.Need-enum-told-4 Inv-loop μ-loop
-enum-told-4 c = ?
-
--- src/message.rt:89:25
-returns-4 : tie.Need-returns-4 Inv-loop μ-loop
-returns-4 c = ?
-
--- src/message.rt:91:17
-enum-told-5 : tie.Need-enum-told-5 Inv-loop μ-loop
-enum-told-5 c = ?
-
--- src/message.rt:81:5
+-- src/message.rt:82:5
 loop-less : tie.Need-loop-less Inv-loop μ-loop
 loop-less c = ?
 
--- src/message.rt:81:5
+-- src/message.rt:82:5
 loop-again : tie.Need-loop-again Inv-loop μ-loop
 loop-again c = ?
 
@@ -77,12 +63,8 @@ message-end-spec =
     enum-known-s
     enum-told
     returns
-    enum-told-2
+    goes-on-requires
+    last-end-requires
     returns-2
-    enum-told-3
-    returns-3
-    enum-told-4
-    returns-4
-    enum-told-5
     loop-less
     loop-again)

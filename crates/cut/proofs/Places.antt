@@ -1,0 +1,92 @@
+-- What admission and the places say: the answers on a delivery that is not admitted, before its first segment and past its end.
+use Prim.Native.Nat.{ℕ, _+_, _-_, _≤_, _<_}
+use mathlib.Core.Path.{_≡_, refl, sym, _∙_, ap}
+use mathlib.Core.Bool.{Bool, true, false}
+use mathlib.Core.List.{List, [], _∷_, _++_, append-nil}
+use native.Mathlib.Nat.{le-refl}
+use native.Mathlib.Omega.{arith}
+use lib.ListN.{length, drop, length-drop, drop-of-length-le}
+use lib.Dec.{leb}
+use borrow.Author.Tests.{eq-eqb, ne-eqb, leb-true, leb-false}
+use Rattle.cut.specs.declared.service.Syntax.{Syntax}
+use Rattle.cut.specs.declared.scan.Cut.the-variants as cut
+use Rattle.cut.specs.Bytes.{part}
+use Rattle.cut.specs.Segments.{Segment, segmentsFrom}
+use Rattle.cut.specs.Admission.{admissionOf, openingOf, segments}
+use Rattle.cut.specs.Messages.{beginsIn}
+use Rattle.cut.specs.Calls.{cutFrom, beginsSegment}
+use Rattle.cut.specs.Fronts.{whole, after}
+use Rattle.cut.specs.Workers.{since}
+use Rattle.cut.proofs.Scanning.{segments-none}
+use Rattle.cut.proofs.First.{cutting, nothing}
+use Rattle.cut.proofs.Starts.{Rising, Below, rising-weaken, segments-rising, segments-below, begins-past, begins-append, below-more, since-all, since-none}
+use Rattle.cut.proofs.Boundaries.{begins-told, since-closed, since-open}
+
+module _ (y : Syntax) (d : List ℕ) where
+  pub refused : (admissionOf y d ≡ 0 → ⊥) → segments y d ≡ []
+  unfolding segments
+  refused n = rw (ne-eqb _ _ n)
+
+  pub admitted : admissionOf y d ≡ 0 → segments y d ≡ segmentsFrom y (openingOf d) false (drop (openingOf d) d)
+  unfolding segments
+  admitted e = rw (eq-eqb _ _ e)
+
+  -- every segment begins within the delivery
+  pub within : (p : ℕ) (r : Bool) → Below (length d) (segmentsFrom y p r (drop p d))
+  unfolding Below
+  within p r = go (leb p (length d)) refl
+    where
+      go : (b : Bool) → leb p (length d) ≡ b → Below (length d) (segmentsFrom y p r (drop p d))
+      go true e =
+          let h = leb-true p (length d) e in
+          segments-below y p r (drop p d) (length d) (omega (arith, length-drop p d))
+      go false e =
+          let h = leb-false p (length d) e in
+          let n : length d ≤ p = omega arith in
+          rw (segments-none y d p r n) tt
+
+  module _ (at : ℕ) where
+    pub begins-refused : (admissionOf y d ≡ 0 → ⊥) → beginsSegment y d at ≡ false
+    unfolding beginsSegment beginsIn
+    begins-refused n = rw (refused n)
+
+    pub begins-beyond : admissionOf y d ≡ 0 → length d ≤ at → beginsSegment y d at ≡ false
+    unfolding beginsSegment beginsIn
+    begins-beyond e h =
+        rw (admitted e, ← append-nil (segmentsFrom y (openingOf d) false (drop (openingOf d) d)))
+        (begins-append at (length d) _ [] (within (openingOf d) false) h)
+
+    pub begins-before : (p : ℕ) → admissionOf y d ≡ 0 → p ≡ openingOf d → at < p → beginsSegment y d at ≡ false
+    unfolding beginsSegment
+    begins-before p e o h = rw (admitted e, ← o) (begins-past at p _ (segments-rising y p false _) h)
+
+    pub begins-at
+      : (p : ℕ) → admissionOf y d ≡ 0 → p ≡ openingOf d → p ≤ at → at < length d
+      → beginsSegment y d at ≡ whole (segmentsFrom y p false (part p at d))
+    unfolding beginsSegment
+    begins-at p e o h k = rw (admitted e, ← o) (begins-told y d p at h (omega arith) k)
+
+  module _ (p from : ℕ) where
+    pub since-opening : from ≤ p → since from (segmentsFrom y p false (drop p d)) ≡ segmentsFrom y p false (drop p d)
+    since-opening h = since-all from _ (rising-weaken from p _ h (segments-rising y p false (drop p d)))
+
+    pub since-end : (z : ℕ) → length d ≤ from → length d ≤ z → since from (segmentsFrom y p false (drop p d)) ≡ segmentsFrom y z false (drop z d)
+    unfolding since
+    since-end z h k =
+        rw (segments-none y d z false k, ← append-nil (segmentsFrom y p false (drop p d)))
+        (since-none from _ [] (below-more (length d) from _ h (within p false)))
+
+    -- where a segment is open at a place, the first that begins later begins where it ends
+    pub since-cut
+      : (s e : ℕ) (q : Bool) → p ≤ from → from ≤ length d → whole (segmentsFrom y p false (part p from d)) ≡ false
+      → cutFrom y d from (after y false (part p from d)) ≡ cut.Segment s e q
+      → since from (segmentsFrom y p false (drop p d)) ≡ segmentsFrom y e false (drop e d)
+    since-cut s e q h k w a = since-open y d p from h k w ∙ ap (drop 1) (cutting y d from _ s e q a .list)
+
+    pub since-nothing
+      : p ≤ from → from ≤ length d → whole (segmentsFrom y p false (part p from d)) ≡ false
+      → cutFrom y d from (after y false (part p from d)) ≡ cut.Nothing
+      → since from (segmentsFrom y p false (drop p d)) ≡ segmentsFrom y (length d) false (drop (length d) d)
+    since-nothing h k w a =
+        since-open y d p from h k w ∙ ap (drop 1) (nothing y d from _ a) ∙ sym (segments-none y d (length d) false (le-refl (length d)))
+
