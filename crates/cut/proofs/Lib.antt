@@ -6,3 +6,5 @@ pub mod First
 pub mod Starts
 pub mod Boundaries
 pub mod Places
+pub mod Tagging
+pub mod Stepping

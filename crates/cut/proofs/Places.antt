@@ -78,15 +78,14 @@ module _ (y : Syntax) (d : List ℕ) where
 
     -- where a segment is open at a place, the first that begins later begins where it ends
     pub since-cut
-      : (s e : ℕ) (q : Bool) → p ≤ from → from ≤ length d → whole (segmentsFrom y p false (part p from d)) ≡ false
-      → cutFrom y d from (after y false (part p from d)) ≡ cut.Segment s e q
+      : (r : Bool) (s e : ℕ) (q : Bool) → p ≤ from → from ≤ length d → whole (segmentsFrom y p false (part p from d)) ≡ false
+      → r ≡ after y false (part p from d) → cutFrom y d from r ≡ cut.Segment s e q
       → since from (segmentsFrom y p false (drop p d)) ≡ segmentsFrom y e false (drop e d)
-    since-cut s e q h k w a = since-open y d p from h k w ∙ ap (drop 1) (cutting y d from _ s e q a .list)
+    since-cut r s e q h k w f a = since-open y d p from h k w ∙ rw (← f, cutting y d from r s e q a .list)
 
     pub since-nothing
-      : p ≤ from → from ≤ length d → whole (segmentsFrom y p false (part p from d)) ≡ false
-      → cutFrom y d from (after y false (part p from d)) ≡ cut.Nothing
+      : (r : Bool) → p ≤ from → from ≤ length d → whole (segmentsFrom y p false (part p from d)) ≡ false
+      → r ≡ after y false (part p from d) → cutFrom y d from r ≡ cut.Nothing
       → since from (segmentsFrom y p false (drop p d)) ≡ segmentsFrom y (length d) false (drop (length d) d)
-    since-nothing h k w a =
-        since-open y d p from h k w ∙ ap (drop 1) (nothing y d from _ a) ∙ sym (segments-none y d (length d) false (le-refl (length d)))
-
+    since-nothing r h k w f a =
+        since-open y d p from h k w ∙ rw (← f, nothing y d from r a, segments-none y d (length d) false (le-refl (length d)))

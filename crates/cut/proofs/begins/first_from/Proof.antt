@@ -1,51 +1,49 @@
+-- `cut::begins::first_from` meets its contract.
+use mathlib.Core.Path.{sym, _∙_}
+use Rattle.cut.proofs.Boundaries.{since-closed}
+use Rattle.cut.proofs.Places.{since-opening, since-end, since-cut, since-nothing}
 use borrow.Author.Needs.{needs}
 use Rattle.cut.proofs.begins.first_from.Statement.{statement}
 use Rattle.cut.proofs.begins.first_from.Tie as tie
-use Rattle.cut.proofs.begins.first_from.Reads as reads
-use Rattle.cut.proofs.begins.first_from.Lts as lts
-use Rattle.cut.proofs.begins.follows_end.Reads as follows-end-reads
-use Rattle.cut.proofs.begins.released_at.Reads as released-at-reads
-use Rattle.cut.proofs.scan.cut_from.Reads as cut-from-reads
 
--- src/begins.rt:39:9
 returns : tie.Need-returns
-returns c = ?
+returns c = since-opening _ _ _ _ (c .if1 .taken)
 
--- src/begins.rt:42:9
 returns-2 : tie.Need-returns-2
-returns-2 c = ?
+returns-2 c = since-end _ _ _ _ _ (c .if2 .taken) (search needs)
 
--- src/begins.rt:44:8
 follows-end-requires : tie.Need-follows-end-requires
 follows-end-requires c κs = search needs
 
--- src/begins.rt:45:9
 returns-3 : tie.Need-returns-3
-returns-3 c = ?
+returns-3 c =
+    since-closed _ _ _ _ (search needs) (search needs) (sym (c .before .follows-end .ensures) ∙ c .if3 .taken)
 
--- src/begins.rt:47:34
 released-at-requires : tie.Need-released-at-requires
 released-at-requires c κs = search needs
 
--- src/begins.rt:47:9
 cut-from-requires : tie.Need-cut-from-requires
 cut-from-requires c κs = search needs
 
--- src/begins.rt:49:34
 enum-known-c : tie.Need-enum-known-c
 enum-known-c c = search needs
 
--- src/begins.rt:50:25
 enum-told : tie.Need-enum-told
 enum-told c = search needs
 
--- src/begins.rt:35:1
 returns-4 : tie.Need-returns-4
-returns-4 c = ?
+returns-4 c =
+    since-cut _ _ _ _ _ _ _ _ (search needs) (search needs)
+    (sym (c .before .before .before .before .before .before .follows-end .ensures) ∙ c .before .before .before .before .before .if3 .left)
+    (c .before .before .before .before .released-at .ensures)
+    (sym (c .before .before .before .cut-from .ensures) ∙ c .before .c .given .1)
 
--- src/begins.rt:35:1
 returns-5 : tie.Need-returns-5
-returns-5 c = ?
+returns-5 c =
+    since-nothing _ _ _ _ _ (search needs) (search needs)
+    (sym (c .before .before .before .before .before .follows-end .ensures) ∙ c .before .before .before .before .if3 .left)
+    (c .before .before .before .released-at .ensures)
+    (sym (c .before .before .cut-from .ensures) ∙ c .enum-told .given .1)
 
 pub first-from-spec : {M : Type 1} → statement M
 first-from-spec =

@@ -1,53 +1,44 @@
+-- `cut::tags::tag_of` meets its contract.
+use mathlib.Core.Path.{sym, _∙_}
+use Rattle.cut.proofs.Tagging.{part-short, part-not-U, part-not-N, part-UN}
 use borrow.Author.Needs.{needs}
 use Rattle.cut.proofs.tags.tag_of.Statement.{statement}
 use Rattle.cut.proofs.tags.tag_of.Tie as tie
-use Rattle.cut.proofs.tags.tag_of.Reads as reads
-use Rattle.cut.proofs.tags.tag_of.Lts as lts
-use Rattle.cut.proofs.tags.third_of.Reads as third-of-reads
 
--- src/tags.rt:51:8
 sub-if1 : tie.Need-sub-if1
 sub-if1 c = search needs
 
--- src/tags.rt:52:9
 returns : tie.Need-returns
-returns c = ?
+returns c = sym (part-short _ _ _ (search needs) (search needs) (c .if1 .taken))
 
--- src/tags.rt:54:8
 shared-slice-read-if2 : tie.Need-shared-slice-read-if2
 shared-slice-read-if2 c = search needs
 
--- src/tags.rt:55:9
 returns-2 : tie.Need-returns-2
-returns-2 c = ?
+returns-2 c = sym (part-not-U _ _ _ (search needs) (c .before .before .if1 .left) (c .if2 .taken))
 
--- src/tags.rt:57:10
 add-if3 : tie.Need-add-if3
 add-if3 c = search needs
 
--- src/tags.rt:57:8
 shared-slice-read-if3 : tie.Need-shared-slice-read-if3
 shared-slice-read-if3 c = search needs
 
--- src/tags.rt:58:9
 returns-3 : tie.Need-returns-3
-returns-3 c = ?
+returns-3 c = sym (part-not-N _ _ _ (search needs) (c .before .before .before .before .if1 .left) (c .if3 .taken))
 
--- src/tags.rt:60:16
 add-third-of : tie.Need-add-third-of
 add-third-of c = search needs
 
--- src/tags.rt:60:14
 shared-slice-read-third-of : tie.Need-shared-slice-read-third-of
 shared-slice-read-third-of c = search needs
 
--- src/tags.rt:60:5
 third-of-requires : tie.Need-third-of-requires
 third-of-requires c κs = search needs
 
--- src/tags.rt:47:1
 returns-4 : tie.Need-returns-4
-returns-4 c = ?
+returns-4 c =
+    c .third-of .ensures
+    ∙ sym (part-UN _ _ _ (search needs) (c .before .before .before .before .before .before .if1 .left) (c .before .before .before .before .if2 .left) (c .before .before .if3 .left))
 
 pub tag-of-spec : {M : Type 1} → statement M
 tag-of-spec =

@@ -1,23 +1,25 @@
+-- `cut::tags::third_of` meets its contract.
+use borrow.Author.Tests.{ne-eqb}
+use Rattle.cut.specs.Bytes.{begins}
+use Rattle.cut.specs.Messages.{tagOf}
 use Rattle.cut.proofs.tags.third_of.Statement.{statement}
 use Rattle.cut.proofs.tags.third_of.Tie as tie
-use Rattle.cut.proofs.tags.third_of.Reads as reads
-use Rattle.cut.proofs.tags.third_of.Lts as lts
 
--- src/tags.rt:64:1
 returns : tie.Need-returns
-returns c = ?
+unfolding tagOf begins
+returns c = rw (c .match .keys1)
 
--- src/tags.rt:64:1
 returns-2 : tie.Need-returns-2
-returns-2 c = ?
+unfolding tagOf begins
+returns-2 c = rw (c .match .keys2)
 
--- src/tags.rt:64:1
 returns-3 : tie.Need-returns-3
-returns-3 c = ?
+unfolding tagOf begins
+returns-3 c = rw (c .match .keys3)
 
--- src/tags.rt:64:1
 returns-4 : tie.Need-returns-4
-returns-4 c = ?
+unfolding tagOf begins
+returns-4 c = rw (ne-eqb _ _ (c .match .rest .0 .0 .1), ne-eqb _ _ (c .match .rest .0 .1), ne-eqb _ _ (c .match .rest .1))
 
 pub third-of-spec : {M : Type 1} → statement M
 third-of-spec = tie.close (tie.spec returns returns-2 returns-3 returns-4)

@@ -1,48 +1,50 @@
+-- `cut::Cursor::step` meets its contract.
+use mathlib.Core.Path.{sym, _∙_}
+use Rattle.cut.proofs.Stepping.{step-refused, step-cut}
 use borrow.Author.Needs.{needs}
 use Rattle.cut.proofs.steps.Cursor.step.Statement.{statement}
 use Rattle.cut.proofs.steps.Cursor.step.Tie as tie
-use Rattle.cut.proofs.steps.Cursor.step.Reads as reads
-use Rattle.cut.proofs.steps.Cursor.step.Lts as lts
-use Rattle.cut.proofs.admit.admission.Reads as admission-reads
-use Rattle.cut.proofs.admit.opening.Reads as opening-reads
-use Rattle.cut.proofs.scan.segment_at.Reads as segment-at-reads
-use Rattle.cut.proofs.steps.later.Reads as later-reads
 
--- src/steps.rt:45:12
 admission-requires : tie.Need-admission-requires
 admission-requires c κs = search needs
 
--- src/steps.rt:46:13
 returns : tie.Need-returns
-returns c = ?
+returns c = sym (step-refused _ _ (λ e. c .if1 .taken (c .before .admission .ensures ∙ e)))
 
--- src/steps.rt:48:44
 opening-requires : tie.Need-opening-requires
 opening-requires c κs = search needs
 
--- src/steps.rt:48:34
 later-requires : tie.Need-later-requires
 later-requires c κs = search needs
 
--- src/steps.rt:48:13
 segment-at-requires : tie.Need-segment-at-requires
 segment-at-requires c κs = search needs
 
--- src/steps.rt:50:28
 enum-known-c : tie.Need-enum-known-c
 enum-known-c c = search needs
 
--- src/steps.rt:59:29
 enum-told : tie.Need-enum-told
 enum-told c = search needs
 
--- src/steps.rt:40:5
 returns-2 : tie.Need-returns-2
-returns-2 c = ?
+returns-2 c =
+    sym
+    (step-cut _ _ _ _ _ _
+    (sym (c .before .before .before .before .before .before .before .admission .ensures) ∙ c .before .before .before .before .before .before .if1 .left)
+    (c .before .before .before .before .before .opening .ensures)
+    (c .before .before .before .before .later .ensures)
+    (c .before .before .before .segment-at .ensures)
+    (c .before .c .given .1))
 
--- src/steps.rt:40:5
 returns-3 : tie.Need-returns-3
-returns-3 c = ?
+returns-3 c =
+    sym
+    (step-cut _ _ _ _ _ _
+    (sym (c .before .before .before .before .before .before .admission .ensures) ∙ c .before .before .before .before .before .if1 .left)
+    (c .before .before .before .before .opening .ensures)
+    (c .before .before .before .later .ensures)
+    (c .before .before .segment-at .ensures)
+    (c .enum-told .given .1))
 
 pub step-spec : {M : Type 1} → statement M
 step-spec =
