@@ -8,3 +8,4 @@ pub mod Boundaries
 pub mod Places
 pub mod Tagging
 pub mod Stepping
+pub mod Spots

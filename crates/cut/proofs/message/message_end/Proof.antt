@@ -1,56 +1,60 @@
+-- `cut::message::message_end` meets its contract: the end seen from the message's first segment is the end seen from here.
+use Prim.Native.Nat.{_-_}
+use mathlib.Core.Bool.{false}
+use mathlib.Core.Path.{_≡_, refl, sym, _∙_}
+use borrow.Author.Tests.{not-true, not-false}
+use native.Mathlib.Omega.{arith}
+use lib.ListN.{length, drop}
+use Rattle.cut.specs.Segments.{segmentsFrom}
+use Rattle.cut.specs.Messages.{body, lastEnd}
+use Rattle.cut.proofs.Spots.{spotted, end-none, end-on, end-stop}
+use borrow.Author.Needs.{needs}
 use Rattle.cut.proofs.message.message_end.Statement.{statement}
 use Rattle.cut.proofs.message.message_end.Tie as tie
-use Rattle.cut.proofs.message.message_end.Reads as reads
-use Rattle.cut.proofs.message.message_end.Lts as lts
-use Rattle.cut.proofs.message.goes_on.Reads as goes-on-reads
-use Rattle.cut.proofs.message.last_end.Reads as last-end-reads
-use Rattle.cut.proofs.tags.spot_at.Reads as spot-at-reads
 
 abbrev Inv-loop : tie.InvT-loop
-Inv-loop y d from at₀ at = ?
+Inv-loop y d from at₀ at =
+    lastEnd from (body (segmentsFrom y from false (drop from d))) ≡ lastEnd at (body (segmentsFrom y at false (drop at d)))
 
 abbrev μ-loop : tie.MeasureT-loop
-μ-loop y d from at₀ at = ?
+μ-loop y d from at₀ at = length d - at
 
--- src/message.rt:82:5
 loop-holds : tie.Need-loop-holds Inv-loop μ-loop
-loop-holds c = ?
+loop-holds c = refl
 
--- src/message.rt:83:13
 spot-at-requires : tie.Need-spot-at-requires Inv-loop μ-loop
-spot-at-requires c κs = ?
+spot-at-requires c κs = search needs
 
--- src/message.rt:84:34
 enum-known-s : tie.Need-enum-known-s Inv-loop μ-loop
-enum-known-s c = ?
+enum-known-s c = search needs
 
--- src/message.rt:85:13
 enum-told : tie.Need-enum-told Inv-loop μ-loop
-enum-told c = ?
+enum-told c = search needs
 
--- src/message.rt:85:13
 returns : tie.Need-returns Inv-loop μ-loop
-returns c = ?
+returns c = sym (c .before .before .before .loop .inv ∙ end-none _ _ _ (sym (c .before .before .spot-at .ensures) ∙ c .enum-told .given .1))
 
--- src/message.rt:87:13
 goes-on-requires : tie.Need-goes-on-requires Inv-loop μ-loop
-goes-on-requires c κs = ?
+goes-on-requires c κs = search needs
 
--- src/message.rt:88:13
 last-end-requires : tie.Need-last-end-requires Inv-loop μ-loop
-last-end-requires c κs = ?
+last-end-requires c κs = search needs
 
--- src/message.rt:88:13
 returns-2 : tie.Need-returns-2 Inv-loop μ-loop
-returns-2 c = ?
+returns-2 c =
+    let q = spotted _ _ _ _ _ _ (sym (c .before .before .before .before .before .before .spot-at .ensures) ∙ c .before .before .before .before .s .given .1) in
+    c .last-end .ensures
+    ∙ sym (c .before .before .before .before .before .before .before .loop .inv ∙ end-stop _ _ _ _ _ _ q (sym (c .before .before .goes-on .ensures) ∙ not-true _ (c .before .if1 .taken)))
 
--- src/message.rt:82:5
 loop-less : tie.Need-loop-less Inv-loop μ-loop
-loop-less c = ?
+loop-less c =
+    let q = spotted _ _ _ _ _ _ (sym (c .before .before .before .before .before .spot-at .ensures) ∙ c .before .before .before .s .given .1) in
+    omega arith
 
--- src/message.rt:82:5
 loop-again : tie.Need-loop-again Inv-loop μ-loop
-loop-again c = ?
+loop-again c =
+    let q = spotted _ _ _ _ _ _ (sym (c .before .before .before .before .before .spot-at .ensures) ∙ c .before .before .before .s .given .1) in
+    c .before .before .before .before .before .before .loop .inv ∙ end-on _ _ _ _ _ _ q (sym (c .before .goes-on .ensures) ∙ not-false _ (c .if1 .left))
 
 pub message-end-spec : {M : Type 1} → statement M
 message-end-spec =
