@@ -103,7 +103,7 @@ meet-open at (s ∷ ss) ts k h = go (s .piece) refl ts h (meet-open at ss ts (k 
         let o = ih h in
         record { front = s ∷ o .front; below = (k .0, o .below); same = rw (e, o .same) }
 
-rising-rest : (y : Syntax) (at : ℕ) (r : Bool) (xs : List ℕ) → Rising (suc at) (drop 1 (segmentsFrom y at r xs))
+pub rising-rest : (y : Syntax) (at : ℕ) (r : Bool) (xs : List ℕ) → Rising (suc at) (drop 1 (segmentsFrom y at r xs))
 unfolding Rising
 rising-rest y at r xs = go (segmentsFrom y at r xs) refl (segments-rising y at r xs)
   where

@@ -9,3 +9,5 @@ pub mod Places
 pub mod Tagging
 pub mod Stepping
 pub mod Spots
+pub mod Searching
+pub mod Finding

@@ -1,13 +1,13 @@
 -- What admission and the places say: the answers on a delivery that is not admitted, before its first segment and past its end.
 use Prim.Native.Nat.{ℕ, _+_, _-_, _≤_, _<_}
 use mathlib.Core.Path.{_≡_, refl, sym, _∙_, ap}
-use mathlib.Core.Bool.{Bool, true, false}
+use mathlib.Core.Bool.{Bool, true, false, true≢false}
 use mathlib.Core.List.{List, [], _∷_, _++_, append-nil}
 use native.Mathlib.Nat.{le-refl}
 use native.Mathlib.Omega.{arith}
 use lib.ListN.{length, drop, length-drop, drop-of-length-le}
-use lib.Dec.{leb}
-use borrow.Author.Tests.{eq-eqb, ne-eqb, leb-true, leb-false}
+use lib.Dec.{eqb, leb}
+use borrow.Author.Tests.{eq-eqb, ne-eqb, leb-true, leb-false, eqb-true, eqb-false}
 use Rattle.cut.specs.declared.service.Syntax.{Syntax}
 use Rattle.cut.specs.declared.scan.Cut.the-variants as cut
 use Rattle.cut.specs.Bytes.{part}
@@ -89,3 +89,19 @@ module _ (y : Syntax) (d : List ℕ) where
       → since from (segmentsFrom y p false (drop p d)) ≡ segmentsFrom y (length d) false (drop (length d) d)
     since-nothing r h k w f a =
         since-open y d p from h k w ∙ rw (← f, nothing y d from r a, segments-none y d (length d) false (le-refl (length d)))
+
+  -- where a segment begins, those from there on are what the bytes from there on hold
+  pub since-begins : (at : ℕ) → beginsSegment y d at ≡ true → since at (segments y d) ≡ segmentsFrom y at false (drop at d)
+  since-begins at b = go (eqb (admissionOf y d) 0) (leb (openingOf d) at) (leb (length d) at) refl refl refl
+    where
+      go
+        : (a o l : Bool) → eqb (admissionOf y d) 0 ≡ a → leb (openingOf d) at ≡ o → leb (length d) at ≡ l
+        → since at (segments y d) ≡ segmentsFrom y at false (drop at d)
+      go false o l e f g = absurd (true≢false (sym b ∙ begins-refused at (eqb-false _ _ e)))
+      go true o true e f g = absurd (true≢false (sym b ∙ begins-beyond at (eqb-true _ _ e) (leb-true _ _ g)))
+      go true false false e f g = absurd (true≢false (sym b ∙ begins-before at (openingOf d) (eqb-true _ _ e) refl (leb-false _ _ f)))
+      go true true false e f g =
+          let h = leb-true _ _ f in
+          let k = leb-false _ _ g in
+          rw (admitted (eqb-true _ _ e))
+          (since-closed y d (openingOf d) at h (omega arith) (sym (begins-at at (openingOf d) (eqb-true _ _ e) refl h k) ∙ b))

@@ -48,6 +48,7 @@ begin-here Other m ms u = absurd (false≢true u)
 -- from `at` on there is the segment `segment`, with this start, tag and end, and then what follows its end
 pub record Spotted (y : Syntax) (d : List ℕ) (at s : ℕ) (t : Tag) (e : ℕ) : Type 0 where
   pub segment : Segment
+  pub here : segment .start ≡ at
   pub starts : segment .start ≡ s
   pub tag : tagOf (segment .bytes) ≡ t
   pub closes : endOf segment ≡ e
@@ -64,6 +65,7 @@ spotted-first y d at s t e x xs l f a b c =
     let us : xs ≡ segmentsFrom y e false (drop e d) = rw (drop-drop (length (x .bytes)) at d, k) at (f .rest) in
     record
     { segment = x
+    ; here = f .starts
     ; starts = a
     ; tag = b
     ; closes = c

@@ -1,0 +1,72 @@
+-- The answers of the two calls that find messages, from what their workers answer.
+use Prim.Native.Nat.{ℕ, suc, _≤_}
+use mathlib.Core.Path.{_≡_, refl, sym, _∙_, ap, ap₂}
+use mathlib.Core.Bool.{Bool, true, false}
+use mathlib.Core.List.{List, [], _∷_}
+use native.Mathlib.Omega.{arith}
+use lib.ListN.{length, drop}
+use lib.Dec.{eqb}
+use borrow.Author.Tests.{eqb-true, eqb-false}
+use Rattle.cut.specs.declared.service.Syntax.{Syntax}
+use Rattle.cut.specs.declared.tags.Tag.{Tag}
+use Rattle.cut.specs.declared.tags.Spot.the-variants as spot
+use Rattle.cut.specs.declared.message.Found.the-variants as found
+use Rattle.cut.specs.Segments.{Segment, segmentsFrom}
+use Rattle.cut.specs.Admission.{admissionOf, openingOf, segments}
+use Rattle.cut.specs.Messages.{lastEnd, body, messagesIn, messages, beginsIn}
+use Rattle.cut.specs.Calls.{beginsSegment, foundAt, messageAt, foundFrom, nextMessage}
+use Rattle.cut.specs.Workers.{headSpot, headFound, isUnh, since}
+use Rattle.cut.proofs.Starts.{Rising, rising-weaken, segments-rising}
+use Rattle.cut.proofs.Boundaries.{rising-rest}
+use Rattle.cut.proofs.Places.{refused, admitted, since-begins}
+use Rattle.cut.proofs.Spots.{Spotted, unspotted}
+use Rattle.cut.proofs.Searching.{found-since, found-at-since, found-nowhere, found-first, found-other}
+
+module _ (y : Syntax) (d : List ℕ) where
+  pub all-rising : Rising 0 (segments y d)
+  unfolding Rising
+  all-rising = go (eqb (admissionOf y d) 0) refl
+    where
+      go : (a : Bool) → eqb (admissionOf y d) 0 ≡ a → Rising 0 (segments y d)
+      go true e =
+          rw (admitted y d (eqb-true _ _ e))
+          (rising-weaken 0 (openingOf d) (segmentsFrom y (openingOf d) false (drop (openingOf d) d)) (omega arith)
+          (segments-rising y (openingOf d) false (drop (openingOf d) d)))
+      go false e = rw (refused y d (eqb-false _ _ e)) tt
+
+  pub next-refused : (from : ℕ) → (admissionOf y d ≡ 0 → ⊥) → nextMessage y d from ≡ found.Nothing
+  unfolding nextMessage messages messagesIn foundFrom
+  next-refused from n = rw (refused y d n)
+
+  pub next-found
+    : (from p r : ℕ) → admissionOf y d ≡ 0 → p ≡ openingOf d → since from (segmentsFrom y p false (drop p d)) ≡ segmentsFrom y r false (drop r d)
+    → nextMessage y d from ≡ headFound (messagesIn (segmentsFrom y r false (drop r d)))
+  unfolding nextMessage messages
+  next-found from p r e o h = rw (admitted y d e, ← o, ← h) (found-since from p _ (segments-rising y p false (drop p d)))
+
+  module _ (at : ℕ) where
+    pub at-nowhere : beginsSegment y d at ≡ false → messageAt y d at ≡ found.Nothing
+    unfolding messageAt messages beginsSegment
+    at-nowhere b = found-nowhere at (segments y d) b
+
+    at-list : beginsSegment y d at ≡ true → messageAt y d at ≡ foundAt at (messagesIn (segmentsFrom y at false (drop at d)))
+    unfolding messageAt messages
+    at-list b = found-at-since at 0 (segments y d) all-rising ∙ rw (since-begins y d at b)
+
+    pub at-none : beginsSegment y d at ≡ true → headSpot (segmentsFrom y at false (drop at d)) ≡ spot.Nothing → messageAt y d at ≡ found.Nothing
+    unfolding messagesIn foundAt
+    at-none b h = at-list b ∙ rw (unspotted y d at h)
+
+    module _ (s : ℕ) (t : Tag) (e : ℕ) (b : beginsSegment y d at ≡ true) (q : Spotted y d at s t e) where
+      after-first : Rising (suc at) (segmentsFrom y e false (drop e d))
+      after-first = rw (q .list) at (rising-rest y at false (drop at d))
+
+      pub at-here : (m : ℕ) → isUnh t ≡ true → m ≡ lastEnd e (body (segmentsFrom y e false (drop e d))) → messageAt y d at ≡ found.Message s m
+      at-here m u l =
+          at-list b
+          ∙ ap (λ (ss : List Segment). foundAt at (messagesIn ss)) (q .list)
+          ∙ found-first at (q .segment) _ after-first (q .here) (ap isUnh (q .tag) ∙ u)
+          ∙ ap₂ found.Message (q .starts) (ap (λ (n : ℕ). lastEnd n (body (segmentsFrom y e false (drop e d)))) (q .closes) ∙ sym l)
+
+      pub at-other : isUnh t ≡ false → messageAt y d at ≡ found.Nothing
+      at-other u = at-list b ∙ rw (q .list) (found-other at (q .segment) _ after-first (q .here) (ap isUnh (q .tag) ∙ u))
