@@ -11,3 +11,5 @@ pub mod Stepping
 pub mod Spots
 pub mod Searching
 pub mod Finding
+pub mod Outside
+pub mod Counting
