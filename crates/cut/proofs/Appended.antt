@@ -11,8 +11,8 @@ use Rattle.cut.specs.Segments.{Segment, endOf, ends, frees, join, segmen
 use Rattle.cut.specs.Fronts.{moved, whole, after, glued, pickSegments, meet}
 
 join-meet-some
-  : (p x n : ℕ) (bs : List ℕ) (b : Bool) (ss ts : List Segment)
-  → join false p x (pickSegments b (glued (record { start = n; bytes = bs; piece = b }) ts) (record { start = n; bytes = bs; piece = b } ∷ meet ss ts))
+    : (p x n : ℕ) (bs : List ℕ) (b : Bool) (ss ts : List Segment)
+    → join false p x (pickSegments b (glued (record { start = n; bytes = bs; piece = b }) ts) (record { start = n; bytes = bs; piece = b } ∷ meet ss ts))
     ≡ pickSegments b (glued (record { start = p; bytes = x ∷ bs; piece = b }) ts) (record { start = p; bytes = x ∷ bs; piece = b } ∷ meet ss ts)
 unfolding join glued
 join-meet-some p x n bs true ss [] = refl
@@ -28,8 +28,8 @@ join-meet false p x (s ∷ ss) ts = join-meet-some p x (s .start) (s .bytes) (s 
 
 -- what stands in front of a tail changes at most its first segment
 pub segments-append
-  : (y : Syntax) (p : ℕ) (r : Bool) (front tail : List ℕ)
-  → segmentsFrom y p r (front ++ tail) ≡ meet (segmentsFrom y p r front) (segmentsFrom y (p + length front) (after y r front) tail)
+    : (y : Syntax) (p : ℕ) (r : Bool) (front tail : List ℕ)
+    → segmentsFrom y p r (front ++ tail) ≡ meet (segmentsFrom y p r front) (segmentsFrom y (p + length front) (after y r front) tail)
 unfolding segmentsFrom meet after
 segments-append y p r [] tail = rw add-zero
 segments-append y p r (x ∷ xs) tail = rw (segments-append y (suc p) (frees y r x) xs tail, join-meet, suc-add, add-suc)
@@ -41,8 +41,8 @@ meet-whole [] ts h = refl
 meet-whole (s ∷ ss) ts h = go (s .piece) refl h (meet-whole ss ts)
   where
     go
-      : (b : Bool) → s .piece ≡ b → (not b && whole ss) ≡ true → (whole ss ≡ true → meet ss ts ≡ ss ++ ts)
-      → pickSegments (s .piece) (glued s ts) (s ∷ meet ss ts) ≡ (s ∷ ss) ++ ts
+        : (b : Bool) → s .piece ≡ b → (not b && whole ss) ≡ true → (whole ss ≡ true → meet ss ts ≡ ss ++ ts)
+        → pickSegments (s .piece) (glued s ts) (s ∷ meet ss ts) ≡ (s ∷ ss) ++ ts
     go true e k rest = absurd (false≢true k)
     go false e k rest = rw (e, rest k)
 

@@ -123,7 +123,7 @@ begins-here y at r x xs = go (ends y r x) (segmentsFrom y (suc at) (frees y r x)
 module _ (y : Syntax) (d : List ℕ) (from at : ℕ) (h : from ≤ at) (k : at ≤ length d) where
   -- the segments from `from` on, parted at the place `at`
   parted
-    : segmentsFrom y from false (drop from d)
+      : segmentsFrom y from false (drop from d)
       ≡ meet (segmentsFrom y from false (part from at d)) (segmentsFrom y at (after y false (part from at d)) (drop at d))
   parted =
       let l : from + length (part from at d) ≡ at = omega (arith, length-part d from at k) in
@@ -135,7 +135,7 @@ module _ (y : Syntax) (d : List ℕ) (from at : ℕ) (h : from ≤ at) (k : at �
 
   -- a segment begins at a place exactly if what stands before it ends where a segment ends
   pub begins-told
-    : at < length d → beginsIn at (segmentsFrom y from false (drop from d)) ≡ whole (segmentsFrom y from false (part from at d))
+      : at < length d → beginsIn at (segmentsFrom y from false (drop from d)) ≡ whole (segmentsFrom y from false (part from at d))
   begins-told l = go (whole (segmentsFrom y from false (part from at d))) refl
     where
       go : (b : Bool) → whole (segmentsFrom y from false (part from at d)) ≡ b → beginsIn at (segmentsFrom y from false (drop from d)) ≡ b
@@ -147,14 +147,14 @@ module _ (y : Syntax) (d : List ℕ) (from at : ℕ) (h : from ≤ at) (k : at �
 
   -- those that begin at a place or later, where one begins at it
   pub since-closed
-    : whole (segmentsFrom y from false (part from at d)) ≡ true → since at (segmentsFrom y from false (drop from d)) ≡ segmentsFrom y at false (drop at d)
+      : whole (segmentsFrom y from false (part from at d)) ≡ true → since at (segmentsFrom y from false (drop from d)) ≡ segmentsFrom y at false (drop at d)
   since-closed w =
       rw (parted, meet-whole _ _ w, since-none at _ _ front-below, after-whole y from (part from at d) w) (since-all at _ (segments-rising y at false _))
 
   -- the same where none does: all but the one that is open there
   pub since-open
-    : whole (segmentsFrom y from false (part from at d)) ≡ false
-    → since at (segmentsFrom y from false (drop from d)) ≡ drop 1 (segmentsFrom y at (after y false (part from at d)) (drop at d))
+      : whole (segmentsFrom y from false (part from at d)) ≡ false
+      → since at (segmentsFrom y from false (drop from d)) ≡ drop 1 (segmentsFrom y at (after y false (part from at d)) (drop at d))
   since-open w =
       let o = meet-open at _ (segmentsFrom y at (after y false (part from at d)) (drop at d)) front-below w in
       rw (parted, o .same, since-none at (o .front) _ (o .below)) (since-all at _ (rising-weaken at (suc at) _ (omega arith) (rising-rest y at _ _)))
@@ -182,8 +182,8 @@ module _ (y : Syntax) (d : List ℕ) (from i : ℕ) (r : Bool) where
   after-last h k = rw (part-last d from i h k, after-append y false (part from (i - 1) d) (getD d (i - 1) 0 ∷ []))
 
   pub run-on
-    : from < i → i ≤ length d → frees y false (getD d (i - 1) 0) ≡ true
-    → turned r (after y false (part from i d)) ≡ turned (not r) (after y false (part from (i - 1) d))
+      : from < i → i ≤ length d → frees y false (getD d (i - 1) 0) ≡ true
+      → turned r (after y false (part from i d)) ≡ turned (not r) (after y false (part from (i - 1) d))
   run-on h k f = rw (after-last h k, frees-turns y (after y false (part from (i - 1) d)) _ f) (turned-not r _)
 
   pub run-over : from < i → i ≤ length d → frees y false (getD d (i - 1) 0) ≡ false → turned r (after y false (part from i d)) ≡ r
@@ -202,15 +202,15 @@ module _ (y : Syntax) (d : List ℕ) (from at : ℕ) where
       rw (part-none d from at h)
 
   closed-last
-    : from < at → at ≤ length d → whole (segmentsFrom y from false (part from at d)) ≡ ends y (after y false (part from (at - 1) d)) (getD d (at - 1) 0)
+      : from < at → at ≤ length d → whole (segmentsFrom y from false (part from at d)) ≡ ends y (after y false (part from (at - 1) d)) (getD d (at - 1) 0)
   closed-last h k = rw (part-last d from at h k) (whole-last y from false (part from (at - 1) d) (getD d (at - 1) 0))
 
   pub closed-not
-    : from ≤ at → (at ≡ from → ⊥) → at ≤ length d → (getD d (at - 1) 0 ≡ y .terminator → ⊥)
-    → whole (segmentsFrom y from false (part from at d)) ≡ false
+      : from ≤ at → (at ≡ from → ⊥) → at ≤ length d → (getD d (at - 1) 0 ≡ y .terminator → ⊥)
+      → whole (segmentsFrom y from false (part from at d)) ≡ false
   closed-not h e k n = closed-last (le-lt h e) k ∙ ends-other y (after y false (part from (at - 1) d)) (getD d (at - 1) 0) n
 
   pub closed-by
-    : from ≤ at → (at ≡ from → ⊥) → at ≤ length d → getD d (at - 1) 0 ≡ y .terminator
-    → whole (segmentsFrom y from false (part from at d)) ≡ not (after y false (part from (at - 1) d))
+      : from ≤ at → (at ≡ from → ⊥) → at ≤ length d → getD d (at - 1) 0 ≡ y .terminator
+      → whole (segmentsFrom y from false (part from at d)) ≡ not (after y false (part from (at - 1) d))
   closed-by h e k t = closed-last (le-lt h e) k ∙ ends-terminator y (after y false (part from (at - 1) d)) (getD d (at - 1) 0) t

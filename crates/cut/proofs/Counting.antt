@@ -47,11 +47,11 @@ module _ (y : Syntax) (d : List ℕ) where
   pub counted-first : (p : ℕ) → admissionOf y d ≡ 0 → p ≡ openingOf d → Counted y d p false 0 0
   unfolding messages outside
   counted-first p e o =
-      record
-      { messages-fit = omega arith
-      ; outside-fit = omega arith
-      ; all-messages = rw (admitted y d e, ← o) (zero-add _)
-      ; all-outside = rw (outside-walk 0 (segments y d) (all-rising y d), admitted y d e, ← o) (zero-add _)
+      record {
+        messages-fit = omega arith;
+        outside-fit = omega arith;
+        all-messages = rw (admitted y d e, ← o) (zero-add _);
+        all-outside = rw (outside-walk 0 (segments y d) (all-rising y d), admitted y d e, ← o) (zero-add _);
       }
 
   module _ (at : ℕ) (b : Bool) (m o : ℕ) (k : Counted y d at b m o) where
@@ -75,9 +75,9 @@ module _ (y : Syntax) (d : List ℕ) where
           let rest = segmentsFrom y e false (drop e d) in
           let ms = rw (q .list, length-messages t (q .segment) rest (q .tag), ← g) at (k .all-messages) in
           let os = rw (q .list, length-left t b (q .segment) rest (q .tag), ← h, ← f) at (k .all-outside) in
-          record
-          { messages-fit = messages-fits x g
-          ; outside-fit = outside-fits z h
-          ; all-messages = add-assoc m x _ ∙ ms
-          ; all-outside = add-assoc o z _ ∙ os
+          record {
+            messages-fit = messages-fits x g;
+            outside-fit = outside-fits z h;
+            all-messages = add-assoc m x _ ∙ ms;
+            all-outside = add-assoc o z _ ∙ os;
           }

@@ -39,8 +39,8 @@ module _ (y : Syntax) (d : List ℕ) where
   next-refused from n = rw (refused y d n)
 
   pub next-found
-    : (from p r : ℕ) → admissionOf y d ≡ 0 → p ≡ openingOf d → since from (segmentsFrom y p false (drop p d)) ≡ segmentsFrom y r false (drop r d)
-    → nextMessage y d from ≡ headFound (messagesIn (segmentsFrom y r false (drop r d)))
+      : (from p r : ℕ) → admissionOf y d ≡ 0 → p ≡ openingOf d → since from (segmentsFrom y p false (drop p d)) ≡ segmentsFrom y r false (drop r d)
+      → nextMessage y d from ≡ headFound (messagesIn (segmentsFrom y r false (drop r d)))
   unfolding nextMessage messages
   next-found from p r e o h = rw (admitted y d e, ← o, ← h) (found-since from p _ (segments-rising y p false (drop p d)))
 

@@ -41,28 +41,28 @@ pub record First (y : Syntax) (p : ℕ) (xs : List ℕ) (s : Segment) (ss : List
 
 module _ (y : Syntax) (p : ℕ) (r : Bool) (x : ℕ) where
   first-end
-    : (xs : List ℕ) → ends y r x ≡ true
-    → First y p (x ∷ xs) (record { start = p; bytes = x ∷ []; piece = false }) (segmentsFrom y (suc p) (frees y r x) xs)
+      : (xs : List ℕ) → ends y r x ≡ true
+      → First y p (x ∷ xs) (record { start = p; bytes = x ∷ []; piece = false }) (segmentsFrom y (suc p) (frees y r x) xs)
   first-end xs h =
       record { starts = refl; some = omega arith; fits = omega arith; bytes = refl; rest = rw (ends-frees y r x h, add-one) }
 
   first-piece
-    : (xs : List ℕ) → segmentsFrom y (suc p) (frees y r x) xs ≡ []
-    → First y p (x ∷ xs) (record { start = p; bytes = x ∷ []; piece = true }) []
+      : (xs : List ℕ) → segmentsFrom y (suc p) (frees y r x) xs ≡ []
+      → First y p (x ∷ xs) (record { start = p; bytes = x ∷ []; piece = true }) []
   unfolding segmentsFrom
   first-piece [] h = record { starts = refl; some = omega arith; fits = omega arith; bytes = refl; rest = refl }
   first-piece (z ∷ zs) h = absurd (some-segment y (suc p) (frees y r x) z zs h)
 
   first-more
-    : (xs : List ℕ) (t : Segment) (us : List Segment) → First y (suc p) xs t us
-    → First y p (x ∷ xs) (record { start = p; bytes = x ∷ t .bytes; piece = t .piece }) us
+      : (xs : List ℕ) (t : Segment) (us : List Segment) → First y (suc p) xs t us
+      → First y p (x ∷ xs) (record { start = p; bytes = x ∷ t .bytes; piece = t .piece }) us
   first-more xs t us f =
-      record
-      { starts = refl
-      ; some = omega arith
-      ; fits = omega (arith, f .fits)
-      ; bytes = ap (λ (bs : List ℕ). x ∷ bs) (f .bytes)
-      ; rest = f .rest ∙ rw (suc-add, add-suc)
+      record {
+        starts = refl;
+        some = omega arith;
+        fits = omega (arith, f .fits);
+        bytes = ap (λ (bs : List ℕ). x ∷ bs) (f .bytes);
+        rest = f .rest ∙ rw (suc-add, add-suc);
       }
 
 pub first : (y : Syntax) (p : ℕ) (r : Bool) (xs : List ℕ) (s : Segment) (ss : List Segment) → segmentsFrom y p r xs ≡ s ∷ ss → First y p xs s ss
@@ -71,9 +71,9 @@ first y p r [] s ss h = absurd (nil≢cons h)
 first y p r (x ∷ xs) s ss h = go (ends y r x) refl (segmentsFrom y (suc p) (frees y r x) xs) refl h (first y (suc p) (frees y r x) xs)
   where
     go
-      : (e : Bool) → ends y r x ≡ e → (ts : List Segment) → segmentsFrom y (suc p) (frees y r x) xs ≡ ts → join e p x ts ≡ s ∷ ss
-      → ((t : Segment) (us : List Segment) → segmentsFrom y (suc p) (frees y r x) xs ≡ t ∷ us → First y (suc p) xs t us)
-      → First y p (x ∷ xs) s ss
+        : (e : Bool) → ends y r x ≡ e → (ts : List Segment) → segmentsFrom y (suc p) (frees y r x) xs ≡ ts → join e p x ts ≡ s ∷ ss
+        → ((t : Segment) (us : List Segment) → segmentsFrom y (suc p) (frees y r x) xs ≡ t ∷ us → First y (suc p) xs t us)
+        → First y p (x ∷ xs) s ss
     go true e ts l k ih =
         subst₂ (First y p (x ∷ xs)) (head-eq-of-cons-eq k) (l ∙ tail-eq-of-cons-eq k) (first-end y p r x xs e)
     go false e [] l k ih = subst₂ (First y p (x ∷ xs)) (head-eq-of-cons-eq k) (tail-eq-of-cons-eq k) (first-piece y p r x xs l)
@@ -88,9 +88,9 @@ pub record Cutting (y : Syntax) (d : List ℕ) (at : ℕ) (r : Bool) (s e : ℕ)
   pub list : segmentsFrom y at r (drop at d) ≡ record { start = at; bytes = part at e d; piece = p } ∷ segmentsFrom y e false (drop e d)
 
 cutting-first
-  : (y : Syntax) (d : List ℕ) (at : ℕ) (r : Bool) (t : Segment) (ts : List Segment) (s e : ℕ) (p : Bool)
-  → segmentsFrom y at r (drop at d) ≡ t ∷ ts → First y at (drop at d) t ts → t .start ≡ s → endOf t ≡ e → t .piece ≡ p
-  → Cutting y d at r s e p
+    : (y : Syntax) (d : List ℕ) (at : ℕ) (r : Bool) (t : Segment) (ts : List Segment) (s e : ℕ) (p : Bool)
+    → segmentsFrom y at r (drop at d) ≡ t ∷ ts → First y at (drop at d) t ts → t .start ≡ s → endOf t ≡ e → t .piece ≡ p
+    → Cutting y d at r s e p
 unfolding part
 cutting-first y d at r t ts s e p l f a b q =
     let n = rw (length-drop at d) at (f .fits) in
@@ -98,15 +98,15 @@ cutting-first y d at r t ts s e p l f a b q =
     let k : at + length (t .bytes) ≡ e = omega (arith, f .starts) in
     let bs : t .bytes ≡ take (e - at) (drop at d) = f .bytes ∙ ap (λ (j : ℕ). take j (drop at d)) m in
     let us : ts ≡ segmentsFrom y e false (drop e d) = rw (drop-drop (length (t .bytes)) at d, k) at (f .rest) in
-    record
-    { starts = sym a ∙ f .starts
-    ; some = omega (arith, f .starts, f .some)
-    ; fits = omega (arith, f .some)
-    ; list = l ∙ ap₂ _∷_ (λ i. record { start = f .starts i; bytes = bs i; piece = q i }) us
+    record {
+      starts = sym a ∙ f .starts;
+      some = omega (arith, f .starts, f .some);
+      fits = omega (arith, f .some);
+      list = l ∙ ap₂ _∷_ (λ i. record { start = f .starts i; bytes = bs i; piece = q i }) us;
     }
 
 pub cutting
-  : (y : Syntax) (d : List ℕ) (at : ℕ) (r : Bool) (s e : ℕ) (p : Bool) → cutFrom y d at r ≡ cut.Segment s e p → Cutting y d at r s e p
+    : (y : Syntax) (d : List ℕ) (at : ℕ) (r : Bool) (s e : ℕ) (p : Bool) → cutFrom y d at r ≡ cut.Segment s e p → Cutting y d at r s e p
 unfolding cutFrom headCut
 cutting y d at r s e p h = go (segmentsFrom y at r (drop at d)) refl h
   where

@@ -90,10 +90,10 @@ opened true ss = body ss
 opened false ss = []
 
 outside-step
-  : (t : Tag) (b : Bool) (s : Segment) (ss : List Segment) → From (suc (s .start)) ss
-  → ((b : Bool) → others (opened b ss ++ inside (messagesIn ss)) ss ≡ leftOver b ss)
-  → tagOf (s .bytes) ≡ t
-  → others (opened b (s ∷ ss) ++ inside (messagesIn (s ∷ ss))) (s ∷ ss) ≡ leftOver b (s ∷ ss)
+    : (t : Tag) (b : Bool) (s : Segment) (ss : List Segment) → From (suc (s .start)) ss
+    → ((b : Bool) → others (opened b ss ++ inside (messagesIn ss)) ss ≡ leftOver b ss)
+    → tagOf (s .bytes) ≡ t
+    → others (opened b (s ∷ ss) ++ inside (messagesIn (s ∷ ss))) (s ∷ ss) ≡ leftOver b (s ∷ ss)
 unfolding body messagesIn inside leftOver
 outside-step Unh true s ss k ih e = rw e (others-in s _ ss k ∙ ih true)
 outside-step Unh false s ss k ih e = rw e (others-in s _ ss k ∙ ih true)
@@ -105,7 +105,7 @@ outside-step Other true s ss k ih e = rw e (others-in s _ ss k ∙ ih true)
 outside-step Other false s ss k ih e = rw e (others-out s _ ss (from-inside _ ss k) ∙ ap (λ (ts : List Segment). s ∷ ts) (ih false))
 
 outside-open
-  : (q : ℕ) (b : Bool) (ss : List Segment) → Rising q ss → others (opened b ss ++ inside (messagesIn ss)) ss ≡ leftOver b ss
+    : (q : ℕ) (b : Bool) (ss : List Segment) → Rising q ss → others (opened b ss ++ inside (messagesIn ss)) ss ≡ leftOver b ss
 unfolding Rising others leftOver
 outside-open q b [] k = refl
 outside-open q b (s ∷ ss) k =
@@ -129,12 +129,12 @@ length-keep false s ss = omega arith
 
 -- what a segment adds to either count
 pub length-messages
-  : (t : Tag) (s : Segment) (ss : List Segment) → tagOf (s .bytes) ≡ t → length (messagesIn (s ∷ ss)) ≡ begunBy t + length (messagesIn ss)
+    : (t : Tag) (s : Segment) (ss : List Segment) → tagOf (s .bytes) ≡ t → length (messagesIn (s ∷ ss)) ≡ begunBy t + length (messagesIn ss)
 unfolding messagesIn
 length-messages t s ss e = rw e (length-begin t _ (messagesIn ss))
 
 pub length-left
-  : (t : Tag) (b : Bool) (s : Segment) (ss : List Segment) → tagOf (s .bytes) ≡ t
-  → length (leftOver b (s ∷ ss)) ≡ oneIf (outBy t b) + length (leftOver (openBy t b) ss)
+    : (t : Tag) (b : Bool) (s : Segment) (ss : List Segment) → tagOf (s .bytes) ≡ t
+    → length (leftOver b (s ∷ ss)) ≡ oneIf (outBy t b) + length (leftOver (openBy t b) ss)
 unfolding leftOver
 length-left t b s ss e = rw e (length-keep (outBy t b) s (leftOver (openBy t b) ss))

@@ -61,8 +61,8 @@ module _ (y : Syntax) (d : List ℕ) where
     begins-before p e o h = rw (admitted e, ← o) (begins-past at p _ (segments-rising y p false _) h)
 
     pub begins-at
-      : (p : ℕ) → admissionOf y d ≡ 0 → p ≡ openingOf d → p ≤ at → at < length d
-      → beginsSegment y d at ≡ whole (segmentsFrom y p false (part p at d))
+        : (p : ℕ) → admissionOf y d ≡ 0 → p ≡ openingOf d → p ≤ at → at < length d
+        → beginsSegment y d at ≡ whole (segmentsFrom y p false (part p at d))
     unfolding beginsSegment
     begins-at p e o h k = rw (admitted e, ← o) (begins-told y d p at h (omega arith) k)
 
@@ -78,15 +78,15 @@ module _ (y : Syntax) (d : List ℕ) where
 
     -- where a segment is open at a place, the first that begins later begins where it ends
     pub since-cut
-      : (r : Bool) (s e : ℕ) (q : Bool) → p ≤ from → from ≤ length d → whole (segmentsFrom y p false (part p from d)) ≡ false
-      → r ≡ after y false (part p from d) → cutFrom y d from r ≡ cut.Segment s e q
-      → since from (segmentsFrom y p false (drop p d)) ≡ segmentsFrom y e false (drop e d)
+        : (r : Bool) (s e : ℕ) (q : Bool) → p ≤ from → from ≤ length d → whole (segmentsFrom y p false (part p from d)) ≡ false
+        → r ≡ after y false (part p from d) → cutFrom y d from r ≡ cut.Segment s e q
+        → since from (segmentsFrom y p false (drop p d)) ≡ segmentsFrom y e false (drop e d)
     since-cut r s e q h k w f a = since-open y d p from h k w ∙ rw (← f, cutting y d from r s e q a .list)
 
     pub since-nothing
-      : (r : Bool) → p ≤ from → from ≤ length d → whole (segmentsFrom y p false (part p from d)) ≡ false
-      → r ≡ after y false (part p from d) → cutFrom y d from r ≡ cut.Nothing
-      → since from (segmentsFrom y p false (drop p d)) ≡ segmentsFrom y (length d) false (drop (length d) d)
+        : (r : Bool) → p ≤ from → from ≤ length d → whole (segmentsFrom y p false (part p from d)) ≡ false
+        → r ≡ after y false (part p from d) → cutFrom y d from r ≡ cut.Nothing
+        → since from (segmentsFrom y p false (drop p d)) ≡ segmentsFrom y (length d) false (drop (length d) d)
     since-nothing r h k w f a =
         since-open y d p from h k w ∙ rw (← f, nothing y d from r a, segments-none y d (length d) false (le-refl (length d)))
 
@@ -95,8 +95,8 @@ module _ (y : Syntax) (d : List ℕ) where
   since-begins at b = go (eqb (admissionOf y d) 0) (leb (openingOf d) at) (leb (length d) at) refl refl refl
     where
       go
-        : (a o l : Bool) → eqb (admissionOf y d) 0 ≡ a → leb (openingOf d) at ≡ o → leb (length d) at ≡ l
-        → since at (segments y d) ≡ segmentsFrom y at false (drop at d)
+          : (a o l : Bool) → eqb (admissionOf y d) 0 ≡ a → leb (openingOf d) at ≡ o → leb (length d) at ≡ l
+          → since at (segments y d) ≡ segmentsFrom y at false (drop at d)
       go false o l e f g = absurd (true≢false (sym b ∙ begins-refused at (eqb-false _ _ e)))
       go true o true e f g = absurd (true≢false (sym b ∙ begins-beyond at (eqb-true _ _ e) (leb-true _ _ g)))
       go true false false e f g = absurd (true≢false (sym b ∙ begins-before at (openingOf d) (eqb-true _ _ e) refl (leb-false _ _ f)))

@@ -36,8 +36,8 @@ open-head false at x (s ∷ ss) = refl
 
 module _ (y : Syntax) (d : List ℕ) where
   pub segments-at
-    : (i : ℕ) (r : Bool) → i < length d
-    → segmentsFrom y i r (drop i d)
+      : (i : ℕ) (r : Bool) → i < length d
+      → segmentsFrom y i r (drop i d)
       ≡ join (ends y r (getD d i 0)) i (getD d i 0) (segmentsFrom y (i + 1) (frees y r (getD d i 0)) (drop (i + 1) d))
   unfolding segmentsFrom
   segments-at i r h = rw (add-one, drop-cons d i 0)
@@ -56,20 +56,20 @@ module _ (y : Syntax) (d : List ℕ) where
 
   -- a released byte ends nothing and releases nothing
   pub open-released
-    : (at i : ℕ) (r r′ : Bool) → i < length d → r ≡ true → r′ ≡ false
-    → openCut at i (segmentsFrom y i r (drop i d)) ≡ openCut at (i + 1) (segmentsFrom y (i + 1) r′ (drop (i + 1) d))
+      : (at i : ℕ) (r r′ : Bool) → i < length d → r ≡ true → r′ ≡ false
+      → openCut at i (segmentsFrom y i r (drop i d)) ≡ openCut at (i + 1) (segmentsFrom y (i + 1) r′ (drop (i + 1) d))
   unfolding ends frees
   open-released at i r r′ h e f = rw (e, f, segments-at i true h) (open-more at i _ _)
 
   pub open-on
-    : (at i : ℕ) (r r′ : Bool) → i < length d → r ≡ false → (getD d i 0 ≡ y .terminator → ⊥) → r′ ≡ eqb (getD d i 0) (y .release)
-    → openCut at i (segmentsFrom y i r (drop i d)) ≡ openCut at (i + 1) (segmentsFrom y (i + 1) r′ (drop (i + 1) d))
+      : (at i : ℕ) (r r′ : Bool) → i < length d → r ≡ false → (getD d i 0 ≡ y .terminator → ⊥) → r′ ≡ eqb (getD d i 0) (y .release)
+      → openCut at i (segmentsFrom y i r (drop i d)) ≡ openCut at (i + 1) (segmentsFrom y (i + 1) r′ (drop (i + 1) d))
   unfolding ends frees
   open-on at i r r′ h e n f = rw (e, f, segments-at i false h, ne-eqb _ _ n) (open-more at i _ _)
 
   pub open-end
-    : (at i : ℕ) (r : Bool) → i < length d → r ≡ false → getD d i 0 ≡ y .terminator
-    → openCut at i (segmentsFrom y i r (drop i d)) ≡ cut.Segment at (i + 1) false
+      : (at i : ℕ) (r : Bool) → i < length d → r ≡ false → getD d i 0 ≡ y .terminator
+      → openCut at i (segmentsFrom y i r (drop i d)) ≡ cut.Segment at (i + 1) false
   unfolding ends openCut join
   open-end at i r h e t = rw (e, segments-at i false h, eq-eqb _ _ t)
 

@@ -28,8 +28,8 @@ found-all from q (s ∷ ss) h k = go (tagOf (s .bytes)) (found-all from (suc (s 
     fits = omega (arith, k .0)
 
     go
-      : (t : Tag) → foundFrom from (messagesIn ss) ≡ headFound (messagesIn ss)
-      → foundFrom from (begin t (record { first = s; rest = body ss }) (messagesIn ss))
+        : (t : Tag) → foundFrom from (messagesIn ss) ≡ headFound (messagesIn ss)
+        → foundFrom from (begin t (record { first = s; rest = body ss }) (messagesIn ss))
         ≡ headFound (begin t (record { first = s; rest = body ss }) (messagesIn ss))
     go Unh ih = rw (le-leb _ _ fits)
     go Unt ih = ih
@@ -37,7 +37,7 @@ found-all from q (s ∷ ss) h k = go (tagOf (s .bytes)) (found-all from (suc (s 
     go Other ih = ih
 
 begin-early
-  : (from : ℕ) (t : Tag) (m : Message) (ms : List Message) → leb from (startOf m) ≡ false → foundFrom from (begin t m ms) ≡ foundFrom from ms
+    : (from : ℕ) (t : Tag) (m : Message) (ms : List Message) → leb from (startOf m) ≡ false → foundFrom from (begin t m ms) ≡ foundFrom from ms
 unfolding foundFrom
 begin-early from Unh m ms e = rw e
 begin-early from Unt m ms e = refl
@@ -54,13 +54,13 @@ found-since from q [] k = refl
 found-since from q (s ∷ ss) k = go (leb from (s .start)) refl (found-since from (suc (s .start)) ss (k .1))
   where
     go
-      : (b : Bool) → leb from (s .start) ≡ b → foundFrom from (messagesIn ss) ≡ headFound (messagesIn (since from ss))
-      → foundFrom from (messagesIn (s ∷ ss)) ≡ headFound (messagesIn (keepIf b s (since from ss)))
+        : (b : Bool) → leb from (s .start) ≡ b → foundFrom from (messagesIn ss) ≡ headFound (messagesIn (since from ss))
+        → foundFrom from (messagesIn (s ∷ ss)) ≡ headFound (messagesIn (keepIf b s (since from ss)))
     go true e ih = rw (kept from s ss (k .1) e) (found-all from (s .start) (s ∷ ss) (leb-true from (s .start) e) (le-refl (s .start), k .1))
     go false e ih = begin-early from (tagOf (s .bytes)) (record { first = s; rest = body ss }) (messagesIn ss) e ∙ ih
 
 begin-elsewhere
-  : (at : ℕ) (t : Tag) (m : Message) (ms : List Message) → (at ≡ startOf m → ⊥) → foundAt at (begin t m ms) ≡ foundAt at ms
+    : (at : ℕ) (t : Tag) (m : Message) (ms : List Message) → (at ≡ startOf m → ⊥) → foundAt at (begin t m ms) ≡ foundAt at ms
 unfolding foundAt
 begin-elsewhere at Unh m ms n = rw (ne-eqb _ _ n)
 begin-elsewhere at Unt m ms n = refl
@@ -74,8 +74,8 @@ found-at-since at q [] k = refl
 found-at-since at q (s ∷ ss) k = go (leb at (s .start)) refl (found-at-since at (suc (s .start)) ss (k .1))
   where
     go
-      : (b : Bool) → leb at (s .start) ≡ b → foundAt at (messagesIn ss) ≡ foundAt at (messagesIn (since at ss))
-      → foundAt at (messagesIn (s ∷ ss)) ≡ foundAt at (messagesIn (keepIf b s (since at ss)))
+        : (b : Bool) → leb at (s .start) ≡ b → foundAt at (messagesIn ss) ≡ foundAt at (messagesIn (since at ss))
+        → foundAt at (messagesIn (s ∷ ss)) ≡ foundAt at (messagesIn (keepIf b s (since at ss)))
     go true e ih = rw (kept at s ss (k .1) e)
     go false e ih =
         begin-elsewhere at (tagOf (s .bytes)) (record { first = s; rest = body ss }) (messagesIn ss) (λ i. omega (arith, leb-false at (s .start) e)) ∙ ih

@@ -18,7 +18,7 @@ use Rattle.cut.specs.Workers.{headSpot, headFound, isUnh, goesOn, lastBy
 use Rattle.cut.proofs.First.{First, first}
 
 follow-on
-  : (t : Tag) (x : Segment) (ss : List Segment) (at e : ℕ) → endOf x ≡ e → goesOn t ≡ true → lastEnd at (follow t x ss) ≡ lastEnd e ss
+    : (t : Tag) (x : Segment) (ss : List Segment) (at e : ℕ) → endOf x ≡ e → goesOn t ≡ true → lastEnd at (follow t x ss) ≡ lastEnd e ss
 unfolding lastEnd
 follow-on Unh x ss at e c g = absurd (false≢true g)
 follow-on Unt x ss at e c g = absurd (false≢true g)
@@ -26,7 +26,7 @@ follow-on Unz x ss at e c g = absurd (false≢true g)
 follow-on Other x ss at e c g = ap (λ (n : ℕ). lastEnd n ss) c
 
 follow-stop
-  : (t : Tag) (x : Segment) (ss : List Segment) (at e : ℕ) → endOf x ≡ e → goesOn t ≡ false → lastEnd at (follow t x ss) ≡ lastBy t at e
+    : (t : Tag) (x : Segment) (ss : List Segment) (at e : ℕ) → endOf x ≡ e → goesOn t ≡ false → lastEnd at (follow t x ss) ≡ lastBy t at e
 unfolding lastEnd
 follow-stop Unh x ss at e c g = refl
 follow-stop Unt x ss at e c g = c
@@ -57,21 +57,21 @@ pub record Spotted (y : Syntax) (d : List ℕ) (at s : ℕ) (t : Tag) (e : ℕ) 
   pub list : segmentsFrom y at false (drop at d) ≡ segment ∷ segmentsFrom y e false (drop e d)
 
 spotted-first
-  : (y : Syntax) (d : List ℕ) (at s : ℕ) (t : Tag) (e : ℕ) (x : Segment) (xs : List Segment) → segmentsFrom y at false (drop at d) ≡ x ∷ xs
-  → First y at (drop at d) x xs → x .start ≡ s → tagOf (x .bytes) ≡ t → endOf x ≡ e → Spotted y d at s t e
+    : (y : Syntax) (d : List ℕ) (at s : ℕ) (t : Tag) (e : ℕ) (x : Segment) (xs : List Segment) → segmentsFrom y at false (drop at d) ≡ x ∷ xs
+    → First y at (drop at d) x xs → x .start ≡ s → tagOf (x .bytes) ≡ t → endOf x ≡ e → Spotted y d at s t e
 spotted-first y d at s t e x xs l f a b c =
     let n = rw (length-drop at d) at (f .fits) in
     let k : at + length (x .bytes) ≡ e = omega (arith, f .starts) in
     let us : xs ≡ segmentsFrom y e false (drop e d) = rw (drop-drop (length (x .bytes)) at d, k) at (f .rest) in
-    record
-    { segment = x
-    ; here = f .starts
-    ; starts = a
-    ; tag = b
-    ; closes = c
-    ; some = omega (arith, f .some)
-    ; fits = omega (arith, f .some)
-    ; list = l ∙ ap (λ (ys : List Segment). x ∷ ys) us
+    record {
+      segment = x;
+      here = f .starts;
+      starts = a;
+      tag = b;
+      closes = c;
+      some = omega (arith, f .some);
+      fits = omega (arith, f .some);
+      list = l ∙ ap (λ (ys : List Segment). x ∷ ys) us;
     }
 
 module _ (y : Syntax) (d : List ℕ) (at : ℕ) where
@@ -103,7 +103,7 @@ module _ (y : Syntax) (d : List ℕ) (at : ℕ) where
 
   module _ (s : ℕ) (t : Tag) (e : ℕ) (q : Spotted y d at s t e) where
     pub end-on
-      : goesOn t ≡ true → lastEnd at (body (segmentsFrom y at false (drop at d))) ≡ lastEnd e (body (segmentsFrom y e false (drop e d)))
+        : goesOn t ≡ true → lastEnd at (body (segmentsFrom y at false (drop at d))) ≡ lastEnd e (body (segmentsFrom y e false (drop e d)))
     unfolding body
     end-on g = rw (q .list, q .tag) (follow-on t (q .segment) _ at e (q .closes) g)
 
@@ -112,12 +112,12 @@ module _ (y : Syntax) (d : List ℕ) (at : ℕ) where
     end-stop g = rw (q .list, q .tag) (follow-stop t (q .segment) _ at e (q .closes) g)
 
     pub found-on
-      : isUnh t ≡ false → headFound (messagesIn (segmentsFrom y at false (drop at d))) ≡ headFound (messagesIn (segmentsFrom y e false (drop e d)))
+        : isUnh t ≡ false → headFound (messagesIn (segmentsFrom y at false (drop at d))) ≡ headFound (messagesIn (segmentsFrom y e false (drop e d)))
     unfolding messagesIn
     found-on u = rw (q .list, q .tag, begin-on t _ _ u)
 
     pub found-here
-      : (m : ℕ) → isUnh t ≡ true → m ≡ lastEnd e (body (segmentsFrom y e false (drop e d)))
-      → headFound (messagesIn (segmentsFrom y at false (drop at d))) ≡ found.Message s m
+        : (m : ℕ) → isUnh t ≡ true → m ≡ lastEnd e (body (segmentsFrom y e false (drop e d)))
+        → headFound (messagesIn (segmentsFrom y at false (drop at d))) ≡ found.Message s m
     unfolding messagesIn headFound
     found-here m u l = rw (q .list, q .tag, begin-here t _ _ u, l, q .closes, q .starts)

@@ -15,7 +15,7 @@ module _ (c : Cursor) (d : List ℕ) where
   step-refused n = rw (ne-eqb _ _ n)
 
   pub step-cut
-    : (p q : ℕ) (k a : Cut) → admissionOf (c .syntax) d ≡ 0 → p ≡ openingOf d → q ≡ max (c .at) p → k ≡ segmentAt (c .syntax) d q → k ≡ a
-    → stepOf c d ≡ stepped (c .syntax) a
+      : (p q : ℕ) (k a : Cut) → admissionOf (c .syntax) d ≡ 0 → p ≡ openingOf d → q ≡ max (c .at) p → k ≡ segmentAt (c .syntax) d q → k ≡ a
+      → stepOf c d ≡ stepped (c .syntax) a
   unfolding stepOf
   step-cut p q k a e o m l f = rw (eq-eqb _ _ e, ← o, ← m, ← l, f)

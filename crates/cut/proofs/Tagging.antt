@@ -56,13 +56,13 @@ module _ (d : List ℕ) (s e : ℕ) where
   part-not-N k l n = part-three k l ∙ tag-not-N _ _ _ n
 
   pub part-UN
-    : e ≤ length d → 3 ≤ e - s → getD d s 0 ≡ 85 → getD d (s + 1) 0 ≡ 78 → tagOf (part s e d) ≡ tagOf (85 ∷ 78 ∷ getD d (s + 2) 0 ∷ [])
+      : e ≤ length d → 3 ≤ e - s → getD d s 0 ≡ 85 → getD d (s + 1) 0 ≡ 78 → tagOf (part s e d) ≡ tagOf (85 ∷ 78 ∷ getD d (s + 2) 0 ∷ [])
   part-UN k l u n = part-three k l ∙ rw (u, n)
 
 -- a segment's answer, as a spot
 pub spot-of
-  : (y : Syntax) (d : List ℕ) (at s e : ℕ) (p : Bool) (t : Tag) → segmentAt y d at ≡ cut.Segment s e p → t ≡ tagOf (part s e d)
-  → headSpot (segmentsFrom y at false (drop at d)) ≡ spot.At s t e
+    : (y : Syntax) (d : List ℕ) (at s e : ℕ) (p : Bool) (t : Tag) → segmentAt y d at ≡ cut.Segment s e p → t ≡ tagOf (part s e d)
+    → headSpot (segmentsFrom y at false (drop at d)) ≡ spot.At s t e
 unfolding headSpot
 spot-of y d at s e p t h k =
     let q = cutting y d at false s e p h in

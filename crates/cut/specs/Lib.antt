@@ -5,3 +5,4 @@ pub mod Messages
 pub mod Calls
 pub mod Fronts
 pub mod Workers
+pub mod Base

@@ -17,7 +17,17 @@ pub fn admission(y: Syntax, d: &[u8]) -> u32
     if !begins_with(d, b"UNA") {
         return 0;
     }
-    let una = [85, 78, 65, y.component, y.element, y.decimal, y.release, 32, y.terminator];
+    let una = [
+        85,
+        78,
+        65,
+        y.component,
+        y.element,
+        y.decimal,
+        y.release,
+        32,
+        y.terminator,
+    ];
     if begins_with(d, &una) { 0 } else { 2 }
 }
 

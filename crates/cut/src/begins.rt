@@ -46,7 +46,11 @@ pub(crate) fn first_from(y: Syntax, d: &[u8], first: usize, from: usize) -> usiz
     }
     let c = cut_from(y, d, from, released_at(y, d, first, from));
     match c {
-        Cut::Segment { start: _, end, piece: _ } => end,
+        Cut::Segment {
+            start: _,
+            end,
+            piece: _,
+        } => end,
         Cut::Nothing => d.len(),
     }
 }

@@ -1,8 +1,7 @@
 // Cuts a delivery of EDIFACT bytes into segments and finds its messages, for any service characters. No call asks anything of its
 // caller, and each says its whole answer by a definition of specs/. The calls of `base` run at the service characters `:+.?'`.
-pub mod base;
-
 mod admit;
+pub mod base;
 mod begins;
 mod message;
 mod scan;

@@ -17,10 +17,7 @@ ghost use Rattle.cut.specs.Workers.{headFound, isUnh, goesOn, lastBy};
 
 // A message's first byte and the byte after its last; or nothing.
 pub enum Found {
-    Message {
-        start: usize,
-        end: usize,
-    },
+    Message { start: usize, end: usize },
     Nothing,
 }
 

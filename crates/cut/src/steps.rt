@@ -30,10 +30,7 @@ impl Cursor {
     pub fn opened(y: Syntax) -> Cursor
         ensures { λ r. ⌜ r ≡ openedAt y ⌝ }
     {
-        Cursor {
-            syntax: y,
-            at: 0,
-        }
+        Cursor { syntax: y, at: 0 }
     }
 
     // A place within UNA counts as before the first segment.
@@ -51,10 +48,7 @@ impl Cursor {
                 start,
                 end,
                 piece,
-                next: Cursor {
-                    syntax: y,
-                    at: end,
-                },
+                next: Cursor { syntax: y, at: end },
             },
             Cut::Nothing => Step::Nothing,
         }

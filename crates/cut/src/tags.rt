@@ -21,11 +21,7 @@ pub enum Tag {
 
 // A segment's first byte, its tag and the byte after its last; or nothing.
 pub enum Spot {
-    At {
-        start: usize,
-        tag: Tag,
-        end: usize,
-    },
+    At { start: usize, tag: Tag, end: usize },
     Nothing,
 }
 
@@ -35,7 +31,11 @@ pub(crate) fn spot_at(y: Syntax, d: &[u8], at: usize) -> Spot
 {
     let c = segment_at(y, d, at);
     match c {
-        Cut::Segment { start, end, piece: _ } => Spot::At {
+        Cut::Segment {
+            start,
+            end,
+            piece: _,
+        } => Spot::At {
             start,
             tag: tag_of(d, start, end),
             end,

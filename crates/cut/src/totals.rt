@@ -21,20 +21,14 @@ pub fn count(y: Syntax, d: &[u8]) -> Counts
     let mut messages = 0;
     let mut outside = 0;
     if admission(y, d) != 0 {
-        return Counts {
-            messages,
-            outside,
-        };
+        return Counts { messages, outside };
     }
     let mut at = opening(d);
     let mut inside = false;
     loop {
         let s = spot_at(y, d, at);
         let Spot::At { start: _, tag, end } = s else {
-            return Counts {
-                messages,
-                outside,
-            };
+            return Counts { messages, outside };
         };
         messages += begun(tag);
         outside += left_out(tag, inside);

@@ -29,18 +29,20 @@ begins-with-requires-2 c κs = search needs
 returns-3 : tie.Need-returns-3
 unfolding admissionOf
 returns-3 c =
-    rw
-    (le-ltb _ _ (c .before .before .before .before .before .before .if1 .left)
-    , sym (c .before .before .before .before .begins-with .ensures) ∙ not-false _ (c .before .before .before .if2 .left)
-    , sym (c .before .begins-with2 .ensures) ∙ c .if3 .taken)
+    rw (
+      le-ltb _ _ (c .before .before .before .before .before .before .if1 .left),
+      sym (c .before .before .before .before .begins-with .ensures) ∙ not-false _ (c .before .before .before .if2 .left),
+      sym (c .before .begins-with2 .ensures) ∙ c .if3 .taken,
+    )
 
 returns-4 : tie.Need-returns-4
 unfolding admissionOf
 returns-4 c =
-    rw
-    (le-ltb _ _ (c .before .before .before .before .before .before .if1 .left)
-    , sym (c .before .before .before .before .begins-with .ensures) ∙ not-false _ (c .before .before .before .if2 .left)
-    , sym (c .before .begins-with2 .ensures) ∙ c .if3 .left)
+    rw (
+      le-ltb _ _ (c .before .before .before .before .before .before .if1 .left),
+      sym (c .before .before .before .before .begins-with .ensures) ∙ not-false _ (c .before .before .before .if2 .left),
+      sym (c .before .begins-with2 .ensures) ∙ c .if3 .left,
+    )
 
 pub admission-spec : {M : Type 1} → statement M
 admission-spec =

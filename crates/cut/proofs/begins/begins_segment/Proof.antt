@@ -31,9 +31,9 @@ returns-4 : tie.Need-returns-4
 returns-4 c =
     c .follows-end .ensures
     ∙ sym
-      (begins-at _ _ _ _
-      (sym (c .before .before .before .before .before .admission .ensures) ∙ c .before .before .before .before .if1 .left)
-      (c .before .before .opening .ensures) (c .before .if3 .left) (c .before .before .before .if2 .left))
+    (begins-at _ _ _ _
+    (sym (c .before .before .before .before .before .admission .ensures) ∙ c .before .before .before .before .if1 .left)
+    (c .before .before .opening .ensures) (c .before .if3 .left) (c .before .before .before .if2 .left))
 
 pub begins-segment-spec : {M : Type 1} → statement M
 begins-segment-spec =

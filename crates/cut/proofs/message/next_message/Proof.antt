@@ -24,9 +24,9 @@ returns-2 : tie.Need-returns-2
 returns-2 c =
     c .next-from .ensures
     ∙ sym
-      (next-found _ _ _ _ _
-      (sym (c .before .before .before .before .admission .ensures) ∙ c .before .before .before .if1 .left)
-      (c .before .before .opening .ensures) (c .before .first-from .ensures))
+    (next-found _ _ _ _ _
+    (sym (c .before .before .before .before .admission .ensures) ∙ c .before .before .before .if1 .left)
+    (c .before .before .opening .ensures) (c .before .first-from .ensures))
 
 pub next-message-spec : {M : Type 1} → statement M
 next-message-spec =

@@ -32,10 +32,11 @@ loop-less : tie.Need-loop-less Inv-loop μ-loop
 loop-less c = search needs
 
 loop-again : tie.Need-loop-again Inv-loop μ-loop
-loop-again c =
-    (search needs
-    , c .before .before .before .loop .inv .1
-      ∙ open-released _ _ _ _ _ _ (c .before .before .loop-test .taken) (c .if2 .taken) refl)
+loop-again c = (
+  search needs,
+  c .before .before .before .loop .inv .1
+      ∙ open-released _ _ _ _ _ _ (c .before .before .loop-test .taken) (c .if2 .taken) refl,
+)
 
 returns-2 : tie.Need-returns-2 Inv-loop μ-loop
 returns-2 c =
@@ -47,10 +48,11 @@ loop-less-2 : tie.Need-loop-less-2 Inv-loop μ-loop
 loop-less-2 c = search needs
 
 loop-again-2 : tie.Need-loop-again-2 Inv-loop μ-loop
-loop-again-2 c =
-    (search needs
-    , c .before .before .before .before .before .before .loop .inv .1
-      ∙ open-on _ _ _ _ _ _ (c .before .before .before .before .before .loop-test .taken) (c .before .before .before .if2 .left) (c .before .if3 .left) refl)
+loop-again-2 c = (
+  search needs,
+  c .before .before .before .before .before .before .loop .inv .1
+      ∙ open-on _ _ _ _ _ _ (c .before .before .before .before .before .loop-test .taken) (c .before .before .before .if2 .left) (c .before .if3 .left) refl,
+)
 
 returns-3 : tie.Need-returns-3 Inv-loop μ-loop
 returns-3 c = sym (c .before .loop .inv .1 ∙ open-out _ _ _ _ _ (c .loop-test .left))
