@@ -38,7 +38,7 @@ unfolding frees
 frees-not y true x h = refl
 frees-not y false x h = h
 
-ends-other : (y : Syntax) (r : Bool) (x : ℕ) → (x ≡ y .terminator → ⊥) → ends y r x ≡ false
+pub ends-other : (y : Syntax) (r : Bool) (x : ℕ) → (x ≡ y .terminator → ⊥) → ends y r x ≡ false
 unfolding ends
 ends-other y true x n = refl
 ends-other y false x n = ne-eqb _ _ n

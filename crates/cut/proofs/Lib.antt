@@ -13,3 +13,5 @@ pub mod Searching
 pub mod Finding
 pub mod Outside
 pub mod Counting
+pub mod Fronting
+pub mod Demand3

@@ -88,7 +88,7 @@ found-past at q (s ∷ ss) k h =
     begin-elsewhere at (tagOf (s .bytes)) (record { first = s; rest = body ss }) (messagesIn ss) (λ i. omega (arith, k .0))
     ∙ found-past at (suc (s .start)) ss (k .1) (omega (arith, k .0))
 
-neither : (a b : Bool) → (a || b) ≡ false → (a ≡ false) × (b ≡ false)
+pub neither : (a b : Bool) → (a || b) ≡ false → (a ≡ false) × (b ≡ false)
 neither true b h = absurd (true≢false h)
 neither false b h = (refl, h)
 

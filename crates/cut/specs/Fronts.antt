@@ -1,10 +1,14 @@
 -- What demand 3 speaks of: a front before a tail, and places moved by the front's length.
 use Prim.Native.Nat.{ℕ, _+_}
-use mathlib.Core.Bool.{Bool, true, false, not, _&&_}
+use mathlib.Core.Path.{_≡_}
+use mathlib.Core.Bool.{Bool, true, false, not, _&&_, _||_}
 use mathlib.Core.List.{List, [], _∷_, _++_, map}
+use lib.Dec.{eqb}
 use Rattle.cut.specs.declared.service.Syntax.{Syntax}
 use Rattle.cut.specs.Segments.{Segment, frees}
-use Rattle.cut.specs.Messages.{Message}
+use Rattle.cut.specs.Bytes.{begins}
+use Rattle.cut.specs.Admission.{admissionOf}
+use Rattle.cut.specs.Messages.{Message, tagOf, body, begin}
 
 -- the same segment k places later
 abbrev pub moved : ℕ → Segment → Segment
@@ -36,3 +40,27 @@ pickSegments false ss ts = ts
 unfoldable pub meet : List Segment → List Segment → List Segment
 meet [] ts = ts
 meet (s ∷ ss) ts = pickSegments (s .piece) (glued s ts) (s ∷ meet ss ts)
+
+-- the messages that begin in ss, where ts follow
+unfoldable pub begunIn : List Segment → List Segment → List Message
+begunIn [] ts = []
+begunIn (s ∷ ss) ts = begin (tagOf (s .bytes)) (record { first = s; rest = body (ss ++ ts) }) (begunIn ss ts)
+
+-- the five service characters
+abbrev pub service : Syntax → List ℕ
+service y = y .component ∷ y .element ∷ y .decimal ∷ y .release ∷ y .terminator ∷ []
+
+-- whether x is one of xs
+unfoldable pub has : ℕ → List ℕ → Bool
+has x [] = false
+has x (z ∷ zs) = eqb x z || has x zs
+
+abbrev pub UNH : List ℕ
+UNH = 85 ∷ 78 ∷ 72 ∷ []
+
+-- "two admitted deliveries, one the tail of the other, the tail starting with the bytes UNH"; U and N are no service characters
+pub record Tail (y : Syntax) (front tail : List ℕ) : Type 0 where
+  pub no-U : has 85 (service y) ≡ false
+  pub no-N : has 78 (service y) ≡ false
+  pub admitted : admissionOf y (front ++ tail) ≡ 0
+  pub begins-UNH : begins UNH tail ≡ true
