@@ -14,4 +14,5 @@ pub mod Finding
 pub mod Outside
 pub mod Counting
 pub mod Fronting
+pub mod Grouping
 pub mod Demand3
