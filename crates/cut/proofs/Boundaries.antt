@@ -71,7 +71,7 @@ whole-last y p r (z ∷ zs) x = whole-join (ends y r z) p z _ (some (suc p) (fre
     some q r [] = some-segment y q r x []
     some q r (w ∷ ws) = some-segment y q r w (ws ++ (x ∷ []))
 
-after-whole-some : (y : Syntax) (p : ℕ) (r : Bool) (x : ℕ) (xs : List ℕ) → whole (segmentsFrom y p r (x ∷ xs)) ≡ true → after y r (x ∷ xs) ≡ false
+pub after-whole-some : (y : Syntax) (p : ℕ) (r : Bool) (x : ℕ) (xs : List ℕ) → whole (segmentsFrom y p r (x ∷ xs)) ≡ true → after y r (x ∷ xs) ≡ false
 unfolding after segmentsFrom
 after-whole-some y p r x [] h = ends-frees y r x (sym (whole-last y p r [] x) ∙ h)
 after-whole-some y p r x (z ∷ zs) h =

@@ -15,7 +15,7 @@ use Rattle.cut.specs.declared.tags.Tag.{Tag}
 use Rattle.cut.specs.declared.tags.Tag.the-variants.{Unh, Unt, Unz, Other}
 use Rattle.cut.specs.Bytes.{begins}
 use Rattle.cut.specs.Segments.{Segment, ends, frees, join, segmentsFrom}
-use Rattle.cut.specs.Admission.{admissionOf, openingOf, segments, nine}
+use Rattle.cut.specs.Admission.{admissionOf, openingOf, onlyIf, segments, nine}
 use Rattle.cut.specs.Messages.{Message, tagOf, follow, body, begin, messagesIn, messages}
 use Rattle.cut.specs.Fronts.{moved, movedMessage, whole, after, glued, pickSegments, meet, begunIn, has, service, UNH, Tail}
 use Rattle.cut.proofs.Appended.{segments-append, segments-moved, meet-whole}
@@ -63,6 +63,23 @@ tail-headed y (a ∷ b ∷ c ∷ xs) u n h =
 drop-map : {A B : Type 0} (f : A → B) (xs : List A) → drop 1 (map f xs) ≡ map f (drop 1 xs)
 drop-map f [] = refl
 drop-map f (x ∷ xs) = refl
+
+-- the empty front, and the front that is just UNA's nine bytes, end where a segment ends
+pub whole-empty : (y : Syntax) → whole (segments y []) ≡ true
+unfolding segments segmentsFrom openingOf begins whole
+whole-empty y = go (eqb (admissionOf y []) 0)
+  where
+    go : (b : Bool) → whole (onlyIf b []) ≡ true
+    go true = refl
+    go false = refl
+
+pub whole-nine : (y : Syntax) → whole (segments y (nine y)) ≡ true
+unfolding segments segmentsFrom openingOf begins whole
+whole-nine y = go (eqb (admissionOf y (nine y)) 0)
+  where
+    go : (b : Bool) → whole (onlyIf b []) ≡ true
+    go true = refl
+    go false = refl
 
 module _ (y : Syntax) (front tail : List ℕ) (t : Tail y front tail) where
   tail-segments : segments y tail ≡ segmentsFrom y 0 false tail

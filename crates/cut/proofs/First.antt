@@ -31,54 +31,70 @@ some-segment y p r x xs h = go (ends y r x) (segmentsFrom y (suc p) (frees y r x
     go false [] h = nil≢cons (sym h)
     go false (s ∷ ss) h = nil≢cons (sym h)
 
--- s is the first segment of the bytes xs from place p on, and ss are those after it
-pub record First (y : Syntax) (p : ℕ) (xs : List ℕ) (s : Segment) (ss : List Segment) : Type 0 where
+-- s is the first segment of the bytes xs from place p on, and ss are those after it; r: the first byte is released
+pub record First (y : Syntax) (p : ℕ) (r : Bool) (xs : List ℕ) (s : Segment) (ss : List Segment) : Type 0 where
   pub starts : s .start ≡ p
   pub some : 0 < length (s .bytes)
   pub fits : length (s .bytes) ≤ length xs
   pub bytes : s .bytes ≡ take (length (s .bytes)) xs
   pub rest : ss ≡ segmentsFrom y (p + length (s .bytes)) false (drop (length (s .bytes)) xs)
+  pub alone : segmentsFrom y p r (s .bytes) ≡ s ∷ []
+  pub last : s .piece ≡ true → ss ≡ []
 
 module _ (y : Syntax) (p : ℕ) (r : Bool) (x : ℕ) where
   first-end
-      : (xs : List ℕ) → ends y r x ≡ true
-      → First y p (x ∷ xs) (record { start = p; bytes = x ∷ []; piece = false }) (segmentsFrom y (suc p) (frees y r x) xs)
+    : (xs : List ℕ) → ends y r x ≡ true
+    → First y p r (x ∷ xs) (record { start = p; bytes = x ∷ []; piece = false }) (segmentsFrom y (suc p) (frees y r x) xs)
+  unfolding segmentsFrom join
   first-end xs h =
-      record { starts = refl; some = omega arith; fits = omega arith; bytes = refl; rest = rw (ends-frees y r x h, add-one) }
-
-  first-piece
-      : (xs : List ℕ) → segmentsFrom y (suc p) (frees y r x) xs ≡ []
-      → First y p (x ∷ xs) (record { start = p; bytes = x ∷ []; piece = true }) []
-  unfolding segmentsFrom
-  first-piece [] h = record { starts = refl; some = omega arith; fits = omega arith; bytes = refl; rest = refl }
-  first-piece (z ∷ zs) h = absurd (some-segment y (suc p) (frees y r x) z zs h)
-
-  first-more
-      : (xs : List ℕ) (t : Segment) (us : List Segment) → First y (suc p) xs t us
-      → First y p (x ∷ xs) (record { start = p; bytes = x ∷ t .bytes; piece = t .piece }) us
-  first-more xs t us f =
-      record {
-        starts = refl;
-        some = omega arith;
-        fits = omega (arith, f .fits);
-        bytes = ap (λ (bs : List ℕ). x ∷ bs) (f .bytes);
-        rest = f .rest ∙ rw (suc-add, add-suc);
+      record
+      { starts = refl
+      ; some = omega arith
+      ; fits = omega arith
+      ; bytes = refl
+      ; rest = rw (ends-frees y r x h, add-one)
+      ; alone = rw h
+      ; last = λ e. absurd (false≢true e)
       }
 
-pub first : (y : Syntax) (p : ℕ) (r : Bool) (xs : List ℕ) (s : Segment) (ss : List Segment) → segmentsFrom y p r xs ≡ s ∷ ss → First y p xs s ss
+  first-piece
+    : (xs : List ℕ) → ends y r x ≡ false → segmentsFrom y (suc p) (frees y r x) xs ≡ []
+    → First y p r (x ∷ xs) (record { start = p; bytes = x ∷ []; piece = true }) []
+  unfolding segmentsFrom join
+  first-piece [] e h =
+      record
+      { starts = refl; some = omega arith; fits = omega arith; bytes = refl; rest = refl; alone = rw e; last = λ i. refl }
+  first-piece (z ∷ zs) e h = absurd (some-segment y (suc p) (frees y r x) z zs h)
+
+  first-more
+    : (xs : List ℕ) (t : Segment) (us : List Segment) → ends y r x ≡ false → First y (suc p) (frees y r x) xs t us
+    → First y p r (x ∷ xs) (record { start = p; bytes = x ∷ t .bytes; piece = t .piece }) us
+  unfolding segmentsFrom join
+  first-more xs t us e f =
+      record
+      { starts = refl
+      ; some = omega arith
+      ; fits = omega (arith, f .fits)
+      ; bytes = ap (λ (bs : List ℕ). x ∷ bs) (f .bytes)
+      ; rest = f .rest ∙ rw (suc-add, add-suc)
+      ; alone = rw (e, f .alone)
+      ; last = f .last
+      }
+
+pub first : (y : Syntax) (p : ℕ) (r : Bool) (xs : List ℕ) (s : Segment) (ss : List Segment) → segmentsFrom y p r xs ≡ s ∷ ss → First y p r xs s ss
 unfolding segmentsFrom join
 first y p r [] s ss h = absurd (nil≢cons h)
 first y p r (x ∷ xs) s ss h = go (ends y r x) refl (segmentsFrom y (suc p) (frees y r x) xs) refl h (first y (suc p) (frees y r x) xs)
   where
     go
-        : (e : Bool) → ends y r x ≡ e → (ts : List Segment) → segmentsFrom y (suc p) (frees y r x) xs ≡ ts → join e p x ts ≡ s ∷ ss
-        → ((t : Segment) (us : List Segment) → segmentsFrom y (suc p) (frees y r x) xs ≡ t ∷ us → First y (suc p) xs t us)
-        → First y p (x ∷ xs) s ss
+      : (e : Bool) → ends y r x ≡ e → (ts : List Segment) → segmentsFrom y (suc p) (frees y r x) xs ≡ ts → join e p x ts ≡ s ∷ ss
+      → ((t : Segment) (us : List Segment) → segmentsFrom y (suc p) (frees y r x) xs ≡ t ∷ us → First y (suc p) (frees y r x) xs t us)
+      → First y p r (x ∷ xs) s ss
     go true e ts l k ih =
-        subst₂ (First y p (x ∷ xs)) (head-eq-of-cons-eq k) (l ∙ tail-eq-of-cons-eq k) (first-end y p r x xs e)
-    go false e [] l k ih = subst₂ (First y p (x ∷ xs)) (head-eq-of-cons-eq k) (tail-eq-of-cons-eq k) (first-piece y p r x xs l)
+        subst₂ (First y p r (x ∷ xs)) (head-eq-of-cons-eq k) (l ∙ tail-eq-of-cons-eq k) (first-end y p r x xs e)
+    go false e [] l k ih = subst₂ (First y p r (x ∷ xs)) (head-eq-of-cons-eq k) (tail-eq-of-cons-eq k) (first-piece y p r x xs e l)
     go false e (t ∷ us) l k ih =
-        subst₂ (First y p (x ∷ xs)) (head-eq-of-cons-eq k) (tail-eq-of-cons-eq k) (first-more y p r x xs t us (ih t us l))
+        subst₂ (First y p r (x ∷ xs)) (head-eq-of-cons-eq k) (tail-eq-of-cons-eq k) (first-more y p r x xs t us e (ih t us l))
 
 -- the answer for a place is s, e and p: what the list from that place on is
 pub record Cutting (y : Syntax) (d : List ℕ) (at : ℕ) (r : Bool) (s e : ℕ) (p : Bool) : Type 0 where
@@ -89,7 +105,7 @@ pub record Cutting (y : Syntax) (d : List ℕ) (at : ℕ) (r : Bool) (s e : ℕ)
 
 cutting-first
     : (y : Syntax) (d : List ℕ) (at : ℕ) (r : Bool) (t : Segment) (ts : List Segment) (s e : ℕ) (p : Bool)
-    → segmentsFrom y at r (drop at d) ≡ t ∷ ts → First y at (drop at d) t ts → t .start ≡ s → endOf t ≡ e → t .piece ≡ p
+    → segmentsFrom y at r (drop at d) ≡ t ∷ ts → First y at r (drop at d) t ts → t .start ≡ s → endOf t ≡ e → t .piece ≡ p
     → Cutting y d at r s e p
 unfolding part
 cutting-first y d at r t ts s e p l f a b q =

@@ -16,3 +16,4 @@ pub mod Counting
 pub mod Fronting
 pub mod Grouping
 pub mod Demand3
+pub mod Alone

@@ -58,7 +58,7 @@ pub record Spotted (y : Syntax) (d : List ℕ) (at s : ℕ) (t : Tag) (e : ℕ) 
 
 spotted-first
     : (y : Syntax) (d : List ℕ) (at s : ℕ) (t : Tag) (e : ℕ) (x : Segment) (xs : List Segment) → segmentsFrom y at false (drop at d) ≡ x ∷ xs
-    → First y at (drop at d) x xs → x .start ≡ s → tagOf (x .bytes) ≡ t → endOf x ≡ e → Spotted y d at s t e
+    → First y at false (drop at d) x xs → x .start ≡ s → tagOf (x .bytes) ≡ t → endOf x ≡ e → Spotted y d at s t e
 spotted-first y d at s t e x xs l f a b c =
     let n = rw (length-drop at d) at (f .fits) in
     let k : at + length (x .bytes) ≡ e = omega (arith, f .starts) in
