@@ -5,8 +5,6 @@ use mathlib.Core.Bool.{Bool, true, false}
 use mathlib.Core.List.{List, [], _∷_}
 use native.Mathlib.Omega.{arith}
 use lib.ListN.{length, drop}
-use lib.Dec.{eqb}
-use borrow.Author.Tests.{eqb-true, eqb-false}
 use Rattle.cut.specs.declared.service.Syntax.{Syntax}
 use Rattle.cut.specs.declared.tags.Tag.{Tag}
 use Rattle.cut.specs.declared.tags.Spot.the-variants as spot
@@ -16,23 +14,15 @@ use Rattle.cut.specs.Admission.{admissionOf, openingOf, segments}
 use Rattle.cut.specs.Messages.{lastEnd, body, messagesIn, messages, beginsIn}
 use Rattle.cut.specs.Calls.{beginsSegment, foundAt, messageAt, foundFrom, nextMessage}
 use Rattle.cut.specs.Workers.{headSpot, headFound, isUnh, since}
-use Rattle.cut.proofs.Starts.{Rising, rising-weaken, segments-rising}
+use Rattle.cut.proofs.Starts.{Rising, rising-none, rising-weaken, segments-rising}
 use Rattle.cut.proofs.Boundaries.{rising-rest}
-use Rattle.cut.proofs.Places.{refused, admitted, since-begins}
+use Rattle.cut.proofs.Places.{refused, admitted, of-segments, since-begins}
 use Rattle.cut.proofs.Spots.{Spotted, unspotted}
 use Rattle.cut.proofs.Searching.{found-since, found-at-since, found-nowhere, found-first, found-other}
 
 module _ (y : Syntax) (d : List ℕ) where
   pub all-rising : Rising 0 (segments y d)
-  unfolding Rising
-  all-rising = go (eqb (admissionOf y d) 0) refl
-    where
-      go : (a : Bool) → eqb (admissionOf y d) 0 ≡ a → Rising 0 (segments y d)
-      go true e =
-          rw (admitted y d (eqb-true _ _ e))
-          (rising-weaken 0 (openingOf d) (segmentsFrom y (openingOf d) false (drop (openingOf d) d)) (omega arith)
-          (segments-rising y (openingOf d) false (drop (openingOf d) d)))
-      go false e = rw (refused y d (eqb-false _ _ e)) tt
+  all-rising = of-segments y d (Rising 0) (rising-none 0) (rising-weaken 0 (openingOf d) _ (omega arith) (segments-rising y (openingOf d) false _))
 
   pub next-refused : (from : ℕ) → (admissionOf y d ≡ 0 → ⊥) → nextMessage y d from ≡ found.Nothing
   unfolding nextMessage messages messagesIn foundFrom

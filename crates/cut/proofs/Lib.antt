@@ -17,3 +17,6 @@ pub mod Fronting
 pub mod Grouping
 pub mod Demand3
 pub mod Alone
+pub mod Ordering
+pub mod Members
+pub mod Face

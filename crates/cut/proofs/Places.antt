@@ -31,6 +31,14 @@ module _ (y : Syntax) (d : List ℕ) where
   unfolding segments
   admitted e = rw (eq-eqb _ _ e)
 
+  -- what holds of no segments, and of those from the opening on, holds of the delivery's
+  pub of-segments : (P : List Segment → Type 0) → P [] → P (segmentsFrom y (openingOf d) false (drop (openingOf d) d)) → P (segments y d)
+  of-segments P none some = go (eqb (admissionOf y d) 0) refl
+    where
+      go : (a : Bool) → eqb (admissionOf y d) 0 ≡ a → P (segments y d)
+      go true e = rw (admitted (eqb-true _ _ e)) some
+      go false e = rw (refused (eqb-false _ _ e)) none
+
   -- every segment begins within the delivery
   pub within : (p : ℕ) (r : Bool) → Below (length d) (segmentsFrom y p r (drop p d))
   unfolding Below

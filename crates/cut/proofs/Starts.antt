@@ -22,6 +22,10 @@ unfoldable pub Below : ℕ → List Segment → Type 0
 Below b [] = Unit {0}
 Below b (s ∷ ss) = (s .start < b) × Below b ss
 
+pub rising-none : (q : ℕ) → Rising q []
+unfolding Rising
+rising-none q = tt
+
 pub rising-weaken : (q q′ : ℕ) (ss : List Segment) → q ≤ q′ → Rising q′ ss → Rising q ss
 unfolding Rising
 rising-weaken q q′ [] h k = tt
