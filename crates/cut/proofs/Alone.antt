@@ -26,7 +26,7 @@ after-closed y p r (x ∷ xs) h w = after-whole-some y p r x xs w
 module _ (y : Syntax) (p : ℕ) (r : Bool) (xs : List ℕ) (s : Segment) (ss : List Segment) (f : First y p r xs s ss) where
   -- the first segment's bytes before other bytes: the segment, and then those of the others
   first-before
-    : (zs : List ℕ) → s .piece ≡ false → segmentsFrom y p r (s .bytes ++ zs) ≡ s ∷ segmentsFrom y (p + length (s .bytes)) false zs
+      : (zs : List ℕ) → s .piece ≡ false → segmentsFrom y p r (s .bytes ++ zs) ≡ s ∷ segmentsFrom y (p + length (s .bytes)) false zs
   unfolding meet whole
   first-before zs e =
       let w : whole (segmentsFrom y p r (s .bytes)) ≡ true = rw (f .alone, e) in
@@ -38,8 +38,8 @@ module _ (y : Syntax) (p : ℕ) (r : Bool) (xs : List ℕ) (s : Segment) (ss ts 
   prefix-bytes = rw (length-append, take-add (length (s .bytes)) (length (joined ss)) xs) (ap (λ (bs : List ℕ). bs ++ take (length (joined ss)) (drop (length (s .bytes)) xs)) (sym (f .bytes)))
 
   prefix-step
-    : (b : Bool) → s .piece ≡ b → segmentsFrom y (p + length (s .bytes)) false (take (length (joined ss)) (drop (length (s .bytes)) xs)) ≡ ss
-    → segmentsFrom y p r (take (length (joined (s ∷ ss))) xs) ≡ s ∷ ss
+      : (b : Bool) → s .piece ≡ b → segmentsFrom y (p + length (s .bytes)) false (take (length (joined ss)) (drop (length (s .bytes)) xs)) ≡ ss
+      → segmentsFrom y p r (take (length (joined (s ∷ ss))) xs) ≡ s ∷ ss
   unfolding joined
   prefix-step true e ih =
       let n : ss ≡ [] = no-more ss ts (f .last e) in
@@ -49,8 +49,8 @@ module _ (y : Syntax) (p : ℕ) (r : Bool) (xs : List ℕ) (s : Segment) (ss ts 
 
 -- the bytes of some first segments hold just these segments
 pub segments-alone
-  : (y : Syntax) (p : ℕ) (r : Bool) (xs : List ℕ) (ss ts : List Segment) → segmentsFrom y p r xs ≡ ss ++ ts
-  → segmentsFrom y p r (take (length (joined ss)) xs) ≡ ss
+    : (y : Syntax) (p : ℕ) (r : Bool) (xs : List ℕ) (ss ts : List Segment) → segmentsFrom y p r xs ≡ ss ++ ts
+    → segmentsFrom y p r (take (length (joined ss)) xs) ≡ ss
 unfolding segmentsFrom joined
 segments-alone y p r xs [] ts h = refl
 segments-alone y p r xs (s ∷ ss) ts h =

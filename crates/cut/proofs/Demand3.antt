@@ -34,12 +34,12 @@ plain-frees y r x n = frees-not y r x (rw (ne-eqb _ _ (has-not x (service y) 3 n
 
 -- what stands before a byte that is no service character does not matter
 plain-first
-  : (y : Syntax) (p : ℕ) (r : Bool) (x : ℕ) (xs : List ℕ) → has x (service y) ≡ false → segmentsFrom y p r (x ∷ xs) ≡ segmentsFrom y p false (x ∷ xs)
+    : (y : Syntax) (p : ℕ) (r : Bool) (x : ℕ) (xs : List ℕ) → has x (service y) ≡ false → segmentsFrom y p r (x ∷ xs) ≡ segmentsFrom y p false (x ∷ xs)
 unfolding segmentsFrom
 plain-first y p r x xs n = rw (plain-ends y r x n, plain-frees y r x n, plain-ends y false x n, plain-frees y false x n)
 
 tail-first
-  : (y : Syntax) (p : ℕ) (r : Bool) (tail : List ℕ) → has 85 (service y) ≡ false → begins UNH tail ≡ true → segmentsFrom y p r tail ≡ segmentsFrom y p false tail
+    : (y : Syntax) (p : ℕ) (r : Bool) (tail : List ℕ) → has 85 (service y) ≡ false → begins UNH tail ≡ true → segmentsFrom y p r tail ≡ segmentsFrom y p false tail
 unfolding segmentsFrom
 tail-first y p r [] n h = refl
 tail-first y p r (x ∷ xs) n h =
@@ -47,7 +47,7 @@ tail-first y p r (x ∷ xs) n h =
     plain-first y p r x xs (rw e n)
 
 tail-headed
-  : (y : Syntax) (tail : List ℕ) → has 85 (service y) ≡ false → has 78 (service y) ≡ false → begins UNH tail ≡ true → Headed (segmentsFrom y 0 false tail)
+    : (y : Syntax) (tail : List ℕ) → has 85 (service y) ≡ false → has 78 (service y) ≡ false → begins UNH tail ≡ true → Headed (segmentsFrom y 0 false tail)
 unfolding begins
 tail-headed y [] u n h = absurd (false≢true h)
 tail-headed y (a ∷ []) u n h = absurd (false≢true (sym (and-false (eqb a 85)) ∙ h))
@@ -92,14 +92,22 @@ module _ (y : Syntax) (front tail : List ℕ) (t : Tail y front tail) where
       let o = openingOf front in
       let f = opening-fits y front tail t in
       let n : o + length (drop o front) ≡ length front = omega (arith, length-drop o front) in
-      rw (admitted y (front ++ tail) (t .admitted), opening-same y front tail t, drop-append-le o front tail f
-         , segments-append y o false (drop o front) tail, n
-         , tail-first y (length front) (after y false (drop o front)) tail (t .no-U) (t .begins-UNH)
-         , admitted y front (front-admitted y front tail t), tail-segments, ← segments-moved y (length front) 0 false tail, add-zero)
+      rw (
+        admitted y (front ++ tail) (t .admitted),
+        opening-same y front tail t,
+        drop-append-le o front tail f,
+        segments-append y o false (drop o front) tail,
+        n,
+        tail-first y (length front) (after y false (drop o front)) tail (t .no-U) (t .begins-UNH),
+        admitted y front (front-admitted y front tail t),
+        tail-segments,
+        ← segments-moved y (length front) 0 false tail,
+        add-zero,
+      )
 
   -- The front ends where a segment ends: its segments, and then the tail's from the first on.
   pub segments-whole-front
-    : whole (segments y front) ≡ true → segments y (front ++ tail) ≡ segments y front ++ map (moved (length front)) (segments y tail)
+      : whole (segments y front) ≡ true → segments y (front ++ tail) ≡ segments y front ++ map (moved (length front)) (segments y tail)
   segments-whole-front w = segments-any-front ∙ meet-whole (segments y front) _ w
 
   first-headed : Headed (segments y tail)
@@ -110,20 +118,29 @@ module _ (y : Syntax) (front tail : List ℕ) (t : Tail y front tail) where
 
   -- The front ends where a segment ends: the longer delivery holds the front's messages, and then the tail's from the first on, places moved.
   pub messages-whole-front
-    : whole (segments y front) ≡ true → messages y (front ++ tail) ≡ messages y front ++ map (movedMessage (length front)) (messages y tail)
+      : whole (segments y front) ≡ true → messages y (front ++ tail) ≡ messages y front ++ map (movedMessage (length front)) (messages y tail)
   unfolding messages
   messages-whole-front w =
-      rw (segments-whole-front w, messages-append (segments y front) (map (moved (length front)) (segments y tail))
-         , begun-closed (segments y front) _ moved-body, messages-moved (length front) (segments y tail))
+      rw (
+        segments-whole-front w,
+        messages-append (segments y front) (map (moved (length front)) (segments y tail)),
+        begun-closed (segments y front) _ moved-body,
+        messages-moved (length front) (segments y tail),
+      )
 
   -- Any front: from the tail's second message on the longer delivery holds the same messages, places moved. What stands before them began
   -- in the front or at the tail's first segment.
   pub messages-any-front
-    : messages y (front ++ tail)
+      : messages y (front ++ tail)
       ≡ begunIn (meet (segments y front) (take 1 (map (moved (length front)) (segments y tail)))) (drop 1 (map (moved (length front)) (segments y tail)))
-        ++ map (movedMessage (length front)) (drop 1 (messages y tail))
+      ++ map (movedMessage (length front)) (drop 1 (messages y tail))
   unfolding messages
   messages-any-front =
-      rw (segments-any-front, meet-first (segments y front) (map (moved (length front)) (segments y tail)), messages-append
-         , drop-map (moved (length front)) (segments y tail), messages-moved (length front) (drop 1 (segments y tail))
-         , headed-rest (segments y tail) first-headed)
+      rw (
+        segments-any-front,
+        meet-first (segments y front) (map (moved (length front)) (segments y tail)),
+        messages-append,
+        drop-map (moved (length front)) (segments y tail),
+        messages-moved (length front) (drop 1 (segments y tail)),
+        headed-rest (segments y tail) first-headed,
+      )

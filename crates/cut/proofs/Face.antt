@@ -51,22 +51,22 @@ record Picked (P : Message → Type 0) (ms : List Message) (from s e : ℕ) : Ty
   here : foundAt s ms ≡ found.Message s e
 
 picked-first
-  : (P : Message → Type 0) (m : Message) (ms : List Message) (from q s e : ℕ) → InOrder q (m ∷ ms) → P m → from ≤ startOf m → startOf m ≡ s → closeOf m ≡ e
-  → Picked P (m ∷ ms) from s e
+    : (P : Message → Type 0) (m : Message) (ms : List Message) (from q s e : ℕ) → InOrder q (m ∷ ms) → P m → from ≤ startOf m → startOf m ≡ s → closeOf m ≡ e
+    → Picked P (m ∷ ms) from s e
 unfolding messagesFrom foundAt InOrder
 picked-first P m ms from q s e k p h a b =
     let n : startOf m < e = omega (arith, k .1) in
     let all = from-all from (closeOf m) ms (omega (arith, k .1)) (k .2) in
     let rest = from-all e (closeOf m) ms (omega arith) (k .2) in
-    record
-    { message = m
-    ; holds = p
-    ; starts = a
-    ; closes = b
-    ; later = omega arith
-    ; some = omega (arith, k .1)
-    ; next = rw (le-leb _ _ h, all, lt-leb _ _ n, rest)
-    ; here = rw (eq-eqb _ _ (sym a)) (ap₂ found.Message a b)
+    record {
+      message = m;
+      holds = p;
+      starts = a;
+      closes = b;
+      later = omega arith;
+      some = omega (arith, k .1);
+      next = rw (le-leb _ _ h, all, lt-leb _ _ n, rest);
+      here = rw (eq-eqb _ _ (sym a)) (ap₂ found.Message a b);
     }
 
 picked-later : (P : Message → Type 0) (m : Message) (ms : List Message) (from s e : ℕ) → startOf m < from → Picked P ms from s e → Picked P (m ∷ ms) from s e
@@ -74,15 +74,15 @@ unfolding messagesFrom foundAt
 picked-later P m ms from s e h k =
     let n : startOf m < e = omega (arith, k .later, k .some) in
     let d : s ≡ startOf m → ⊥ = λ i. omega (arith, k .later) in
-    record
-    { message = k .message
-    ; holds = k .holds
-    ; starts = k .starts
-    ; closes = k .closes
-    ; later = k .later
-    ; some = k .some
-    ; next = rw (lt-leb _ _ h, lt-leb _ _ n) (k .next)
-    ; here = rw (ne-eqb _ _ d) (k .here)
+    record {
+      message = k .message;
+      holds = k .holds;
+      starts = k .starts;
+      closes = k .closes;
+      later = k .later;
+      some = k .some;
+      next = rw (lt-leb _ _ h, lt-leb _ _ n) (k .next);
+      here = rw (ne-eqb _ _ d) (k .here);
     }
 
 picked : (P : Message → Type 0) (q : ℕ) (ms : List Message) (from s e : ℕ) → InOrder q ms → Each P ms → foundFrom from ms ≡ found.Message s e → Picked P ms from s e
@@ -91,22 +91,22 @@ picked P q [] from s e k p h = absurd (let z : _≡_ {A = ℕ} 0 1 = cc in omega
 picked P q (m ∷ ms) from s e k p h = go (leb from (startOf m)) refl h (picked P (closeOf m) ms from s e (k .2) (p .1))
   where
     go
-      : (b : Bool) → leb from (startOf m) ≡ b → pickFound b (asFound m) (foundFrom from ms) ≡ found.Message s e
-      → (foundFrom from ms ≡ found.Message s e → Picked P ms from s e) → Picked P (m ∷ ms) from s e
+        : (b : Bool) → leb from (startOf m) ≡ b → pickFound b (asFound m) (foundFrom from ms) ≡ found.Message s e
+        → (foundFrom from ms ≡ found.Message s e → Picked P ms from s e) → Picked P (m ∷ ms) from s e
     go true l f ih = picked-first P m ms from q s e k (p .0) (leb-true _ _ l) (cc) (cc)
     go false l f ih = picked-later P m ms from s e (leb-false _ _ l) (ih f)
 
 at-found
-  : (q : ℕ) (ms : List Message) (at s e : ℕ) → InOrder q ms → foundAt at ms ≡ found.Message s e
-  → (q ≤ at) × (s ≡ at) × (foundFrom at ms ≡ found.Message s e)
+    : (q : ℕ) (ms : List Message) (at s e : ℕ) → InOrder q ms → foundAt at ms ≡ found.Message s e
+    → (q ≤ at) × (s ≡ at) × (foundFrom at ms ≡ found.Message s e)
 unfolding foundAt foundFrom InOrder
 at-found q [] at s e k h = absurd (let z : _≡_ {A = ℕ} 0 1 = cc in omega arith)
 at-found q (m ∷ ms) at s e k h = go (eqb at (startOf m)) refl h (at-found (closeOf m) ms at s e (k .2))
   where
     go
-      : (b : Bool) → eqb at (startOf m) ≡ b → pickFound b (asFound m) (foundAt at ms) ≡ found.Message s e
-      → (foundAt at ms ≡ found.Message s e → (closeOf m ≤ at) × (s ≡ at) × (foundFrom at ms ≡ found.Message s e))
-      → (q ≤ at) × (s ≡ at) × (foundFrom at (m ∷ ms) ≡ found.Message s e)
+        : (b : Bool) → eqb at (startOf m) ≡ b → pickFound b (asFound m) (foundAt at ms) ≡ found.Message s e
+        → (foundAt at ms ≡ found.Message s e → (closeOf m ≤ at) × (s ≡ at) × (foundFrom at ms ≡ found.Message s e))
+        → (q ≤ at) × (s ≡ at) × (foundFrom at (m ∷ ms) ≡ found.Message s e)
     go true l f ih =
         let a = eqb-true at (startOf m) l in
         let b : startOf m ≡ s = cc in
@@ -150,18 +150,18 @@ module _ (y : Syntax) (d : List ℕ) where
   next-message from s e h =
       let k = picked (Lies y d) 0 (messages y d) from s e (messages-in-order y d) (messages-lie y d) h in
       let l = k .holds in
-      record
-      { message = k .message
-      ; starts = k .starts
-      ; closes = k .closes
-      ; later = k .later
-      ; some = k .some
-      ; fits = omega (arith, l .fits, k .closes)
-      ; begins = begins-here s e (k .here)
-      ; begins-UNH = l .begins-UNH
-      ; here = k .here
-      ; alone = subst₂ (λ (a b : ℕ). segmentsFrom y a false (part a b d) ≡ k .message .first ∷ k .message .rest) (k .starts) (k .closes) (l .alone)
-      ; next = k .next
+      record {
+        message = k .message;
+        starts = k .starts;
+        closes = k .closes;
+        later = k .later;
+        some = k .some;
+        fits = omega (arith, l .fits, k .closes);
+        begins = begins-here s e (k .here);
+        begins-UNH = l .begins-UNH;
+        here = k .here;
+        alone = subst₂ (λ (a b : ℕ). segmentsFrom y a false (part a b d) ≡ k .message .first ∷ k .message .rest) (k .starts) (k .closes) (l .alone);
+        next = k .next;
       }
 
   none-from : (from : ℕ) (ms : List Message) → foundFrom from ms ≡ found.Nothing → messagesFrom from ms ≡ []
@@ -170,8 +170,8 @@ module _ (y : Syntax) (d : List ℕ) where
   none-from from (m ∷ ms) h = go (leb from (startOf m)) h (none-from from ms)
     where
       go
-        : (b : Bool) → pickFound b (asFound m) (foundFrom from ms) ≡ found.Nothing → (foundFrom from ms ≡ found.Nothing → messagesFrom from ms ≡ [])
-        → keepMessage b m (messagesFrom from ms) ≡ []
+          : (b : Bool) → pickFound b (asFound m) (foundFrom from ms) ≡ found.Nothing → (foundFrom from ms ≡ found.Nothing → messagesFrom from ms ≡ [])
+          → keepMessage b m (messagesFrom from ms) ≡ []
       go true f ih = absurd (let z : _≡_ {A = ℕ} 0 1 = cc in omega arith)
       go false f ih = ih f
 

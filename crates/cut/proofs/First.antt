@@ -43,23 +43,23 @@ pub record First (y : Syntax) (p : ℕ) (r : Bool) (xs : List ℕ) (s : Segment)
 
 module _ (y : Syntax) (p : ℕ) (r : Bool) (x : ℕ) where
   first-end
-    : (xs : List ℕ) → ends y r x ≡ true
-    → First y p r (x ∷ xs) (record { start = p; bytes = x ∷ []; piece = false }) (segmentsFrom y (suc p) (frees y r x) xs)
+      : (xs : List ℕ) → ends y r x ≡ true
+      → First y p r (x ∷ xs) (record { start = p; bytes = x ∷ []; piece = false }) (segmentsFrom y (suc p) (frees y r x) xs)
   unfolding segmentsFrom join
   first-end xs h =
-      record
-      { starts = refl
-      ; some = omega arith
-      ; fits = omega arith
-      ; bytes = refl
-      ; rest = rw (ends-frees y r x h, add-one)
-      ; alone = rw h
-      ; last = λ e. absurd (false≢true e)
+      record {
+        starts = refl;
+        some = omega arith;
+        fits = omega arith;
+        bytes = refl;
+        rest = rw (ends-frees y r x h, add-one);
+        alone = rw h;
+        last = λ e. absurd (false≢true e);
       }
 
   first-piece
-    : (xs : List ℕ) → ends y r x ≡ false → segmentsFrom y (suc p) (frees y r x) xs ≡ []
-    → First y p r (x ∷ xs) (record { start = p; bytes = x ∷ []; piece = true }) []
+      : (xs : List ℕ) → ends y r x ≡ false → segmentsFrom y (suc p) (frees y r x) xs ≡ []
+      → First y p r (x ∷ xs) (record { start = p; bytes = x ∷ []; piece = true }) []
   unfolding segmentsFrom join
   first-piece [] e h =
       record
@@ -67,18 +67,18 @@ module _ (y : Syntax) (p : ℕ) (r : Bool) (x : ℕ) where
   first-piece (z ∷ zs) e h = absurd (some-segment y (suc p) (frees y r x) z zs h)
 
   first-more
-    : (xs : List ℕ) (t : Segment) (us : List Segment) → ends y r x ≡ false → First y (suc p) (frees y r x) xs t us
-    → First y p r (x ∷ xs) (record { start = p; bytes = x ∷ t .bytes; piece = t .piece }) us
+      : (xs : List ℕ) (t : Segment) (us : List Segment) → ends y r x ≡ false → First y (suc p) (frees y r x) xs t us
+      → First y p r (x ∷ xs) (record { start = p; bytes = x ∷ t .bytes; piece = t .piece }) us
   unfolding segmentsFrom join
   first-more xs t us e f =
-      record
-      { starts = refl
-      ; some = omega arith
-      ; fits = omega (arith, f .fits)
-      ; bytes = ap (λ (bs : List ℕ). x ∷ bs) (f .bytes)
-      ; rest = f .rest ∙ rw (suc-add, add-suc)
-      ; alone = rw (e, f .alone)
-      ; last = f .last
+      record {
+        starts = refl;
+        some = omega arith;
+        fits = omega (arith, f .fits);
+        bytes = ap (λ (bs : List ℕ). x ∷ bs) (f .bytes);
+        rest = f .rest ∙ rw (suc-add, add-suc);
+        alone = rw (e, f .alone);
+        last = f .last;
       }
 
 pub first : (y : Syntax) (p : ℕ) (r : Bool) (xs : List ℕ) (s : Segment) (ss : List Segment) → segmentsFrom y p r xs ≡ s ∷ ss → First y p r xs s ss
@@ -87,9 +87,9 @@ first y p r [] s ss h = absurd (nil≢cons h)
 first y p r (x ∷ xs) s ss h = go (ends y r x) refl (segmentsFrom y (suc p) (frees y r x) xs) refl h (first y (suc p) (frees y r x) xs)
   where
     go
-      : (e : Bool) → ends y r x ≡ e → (ts : List Segment) → segmentsFrom y (suc p) (frees y r x) xs ≡ ts → join e p x ts ≡ s ∷ ss
-      → ((t : Segment) (us : List Segment) → segmentsFrom y (suc p) (frees y r x) xs ≡ t ∷ us → First y (suc p) (frees y r x) xs t us)
-      → First y p r (x ∷ xs) s ss
+        : (e : Bool) → ends y r x ≡ e → (ts : List Segment) → segmentsFrom y (suc p) (frees y r x) xs ≡ ts → join e p x ts ≡ s ∷ ss
+        → ((t : Segment) (us : List Segment) → segmentsFrom y (suc p) (frees y r x) xs ≡ t ∷ us → First y (suc p) (frees y r x) xs t us)
+        → First y p r (x ∷ xs) s ss
     go true e ts l k ih =
         subst₂ (First y p r (x ∷ xs)) (head-eq-of-cons-eq k) (l ∙ tail-eq-of-cons-eq k) (first-end y p r x xs e)
     go false e [] l k ih = subst₂ (First y p r (x ∷ xs)) (head-eq-of-cons-eq k) (tail-eq-of-cons-eq k) (first-piece y p r x xs e l)

@@ -85,8 +85,8 @@ module _ (y : Syntax) (d : List ℕ) where
   admitted-una e u = go (ltb limit (length d)) (begins (nine y) d) refl (rw u at e)
     where
       go
-        : (b n : Bool) → begins (nine y) d ≡ n → pickℕ b 1 (pickℕ (not n) 2 0) ≡ 0
-        → begins (nine y) d ≡ true
+          : (b n : Bool) → begins (nine y) d ≡ n → pickℕ b 1 (pickℕ (not n) 2 0) ≡ 0
+          → begins (nine y) d ≡ true
       go true n l k = absurd (omega arith)
       go false true l k = l
       go false false l k = absurd (omega arith)

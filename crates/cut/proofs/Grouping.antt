@@ -68,8 +68,8 @@ meet-first [] (t ∷ ts) = refl
 meet-first (s ∷ ss) ts = go (s .piece) ts (meet-first ss ts)
   where
     go
-      : (b : Bool) (ts : List Segment) → meet ss ts ≡ meet ss (take 1 ts) ++ drop 1 ts
-      → pickSegments b (glued s ts) (s ∷ meet ss ts) ≡ pickSegments b (glued s (take 1 ts)) (s ∷ meet ss (take 1 ts)) ++ drop 1 ts
+        : (b : Bool) (ts : List Segment) → meet ss ts ≡ meet ss (take 1 ts) ++ drop 1 ts
+        → pickSegments b (glued s ts) (s ∷ meet ss ts) ≡ pickSegments b (glued s (take 1 ts)) (s ∷ meet ss (take 1 ts)) ++ drop 1 ts
     go true [] ih = refl
     go true (t ∷ ts) ih = refl
     go false ts ih = ap (λ (us : List Segment). s ∷ us) ih

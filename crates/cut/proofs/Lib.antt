@@ -20,3 +20,4 @@ pub mod Alone
 pub mod Ordering
 pub mod Members
 pub mod Face
+pub mod Kept

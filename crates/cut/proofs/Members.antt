@@ -51,8 +51,8 @@ joined-fits y p r xs ss h =
 module _ (y : Syntax) (d : List ℕ) where
   -- a segment that begins UNH, with what follows it in its message
   lies-first
-    : (p : ℕ) (s : Segment) (ss : List Segment) → segmentsFrom y p false (drop p d) ≡ s ∷ ss → First y p false (drop p d) s ss → tagOf (s .bytes) ≡ Unh
-    → Lies y d (record { first = s; rest = body ss })
+      : (p : ℕ) (s : Segment) (ss : List Segment) → segmentsFrom y p false (drop p d) ≡ s ∷ ss → First y p false (drop p d) s ss → tagOf (s .bytes) ≡ Unh
+      → Lies y d (record { first = s; rest = body ss })
   unfolding part joined lastEnd
   lies-first p s ss l f u =
       let l′ : segmentsFrom y p false (drop p d) ≡ (s ∷ body ss) ++ drop (length (body ss)) ss = l ∙ ap (λ (us : List Segment). s ∷ us) (body-front ss) in
@@ -60,15 +60,15 @@ module _ (y : Syntax) (d : List ℕ) where
       let e : lastEnd p (s ∷ body ss) ≡ p + length (joined (s ∷ body ss)) = last-end y p false (drop p d) (s ∷ body ss) (drop (length (body ss)) ss) l′ in
       let n = rw (length-drop p d) at (joined-fits y p false (drop p d) (s ∷ body ss) a) in
       let k : lastEnd (endOf s) (body ss) - s .start ≡ length (joined (s ∷ body ss)) = omega (arith, f .starts) in
-      record
-      { some = omega (arith, f .starts, f .some, length-append (s .bytes) (joined (body ss)))
-      ; fits = omega (arith, f .some, length-append (s .bytes) (joined (body ss)))
-      ; begins-UNH = u
-      ; alone = rw k (ap (λ (q : ℕ). segmentsFrom y q false (take (length (joined (s ∷ body ss))) (drop q d))) (f .starts) ∙ a)
+      record {
+        some = omega (arith, f .starts, f .some, length-append (s .bytes) (joined (body ss)));
+        fits = omega (arith, f .some, length-append (s .bytes) (joined (body ss)));
+        begins-UNH = u;
+        alone = rw k (ap (λ (q : ℕ). segmentsFrom y q false (take (length (joined (s ∷ body ss))) (drop q d))) (f .starts) ∙ a);
       }
 
   each-step
-    : (t : Tag) (m : Message) (ms : List Message) → (t ≡ Unh → Lies y d m) → Each (Lies y d) ms → Each (Lies y d) (begin t m ms)
+      : (t : Tag) (m : Message) (ms : List Message) → (t ≡ Unh → Lies y d m) → Each (Lies y d) ms → Each (Lies y d) (begin t m ms)
   unfolding Each
   each-step Unh m ms h k = (h refl, k)
   each-step Unt m ms h k = k

@@ -49,7 +49,7 @@ segments-apart y p r [] = tt
 segments-apart y p r (x ∷ xs) = join-apart (ends y r x) p x _ (segments-apart y (suc p) (frees y r x) xs)
 
 follow-later
-  : (q : ℕ) (t : Tag) (s : Segment) (ss : List Segment) → q ≤ s .start → endOf s ≤ lastEnd (endOf s) ss → q ≤ lastEnd q (follow t s ss)
+    : (q : ℕ) (t : Tag) (s : Segment) (ss : List Segment) → q ≤ s .start → endOf s ≤ lastEnd (endOf s) ss → q ≤ lastEnd q (follow t s ss)
 unfolding lastEnd
 follow-later q Unh s ss h k = le-refl q
 follow-later q Unt s ss h k = omega arith
@@ -67,8 +67,8 @@ abbrev Ordered : ℕ → List Segment → List Message → Type 0
 Ordered q ss ms = InOrder q ms × InOrder (lastEnd q ss) ms
 
 ordered-step
-  : (q : ℕ) (t : Tag) (s : Segment) (ss : List Segment) (ms : List Message) → q ≤ s .start → s .start < endOf s → endOf s ≤ lastEnd (endOf s) ss
-  → Ordered (endOf s) ss ms → Ordered q (follow t s ss) (begin t (record { first = s; rest = ss }) ms)
+    : (q : ℕ) (t : Tag) (s : Segment) (ss : List Segment) (ms : List Message) → q ≤ s .start → s .start < endOf s → endOf s ≤ lastEnd (endOf s) ss
+    → Ordered (endOf s) ss ms → Ordered q (follow t s ss) (begin t (record { first = s; rest = ss }) ms)
 unfolding InOrder lastEnd
 ordered-step q Unh s ss ms h k l i = ((h, omega arith, i .1), (h, omega arith, i .1))
 ordered-step q Unt s ss ms h k l i = (order-weaken q (endOf s) ms (omega arith) (i .0), i .0)

@@ -1,13 +1,23 @@
--- The cursor: its step is the first of the segments from its place on.
-use Prim.Native.Nat.{ℕ, max}
-use mathlib.Core.Path.{_≡_, refl, sym, _∙_}
-use mathlib.Core.List.{List}
-use borrow.Author.Tests.{eq-eqb, ne-eqb}
+-- The cursor: a walk by its steps goes through the delivery's segments, one by one and all of them.
+use Prim.Native.Nat.{ℕ, _+_, _≤_, _<_, max}
+use mathlib.Core.Path.{_≡_, refl, sym, _∙_, ap, subst}
+use mathlib.Core.Bool.{Bool, true, false}
+use mathlib.Core.List.{List, [], _∷_}
+use native.Mathlib.Omega.{arith}
+use lib.ListN.{length, drop}
+use lib.Dec.{eqb}
+use borrow.Author.Tests.{eq-eqb, ne-eqb, eqb-true}
+use Rattle.cut.specs.declared.service.Syntax.{Syntax}
 use Rattle.cut.specs.declared.scan.Cut.{Cut}
+use Rattle.cut.specs.declared.scan.Cut.the-variants as cut
 use Rattle.cut.specs.declared.steps.Cursor.{Cursor}
+use Rattle.cut.specs.declared.steps.Step.{Step}
 use Rattle.cut.specs.declared.steps.Step.the-variants as step
-use Rattle.cut.specs.Admission.{admissionOf, openingOf}
-use Rattle.cut.specs.Calls.{segmentAt, stepped, stepOf}
+use Rattle.cut.specs.Bytes.{part}
+use Rattle.cut.specs.Segments.{Segment, segmentsFrom}
+use Rattle.cut.specs.Admission.{admissionOf, openingOf, onlyIf, segments}
+use Rattle.cut.specs.Calls.{segmentAt, pickStep, stepped, openedAt, stepOf}
+use Rattle.cut.proofs.First.{Cutting, cutting, nothing}
 
 module _ (c : Cursor) (d : List ℕ) where
   pub step-refused : (admissionOf (c .syntax) d ≡ 0 → ⊥) → stepOf c d ≡ step.Nothing
@@ -19,3 +29,72 @@ module _ (c : Cursor) (d : List ℕ) where
       → stepOf c d ≡ stepped (c .syntax) a
   unfolding stepOf
   step-cut p q k a e o m l f = rw (eq-eqb _ _ e, ← o, ← m, ← l, f)
+
+-- the segments that a cursor still has before it
+unfoldable pub ahead : Cursor → List ℕ → List Segment
+ahead c d =
+    onlyIf (eqb (admissionOf (c .syntax) d) 0)
+    (segmentsFrom (c .syntax) (max (c .at) (openingOf d)) false (drop (max (c .at) (openingOf d)) d))
+
+-- at first: all of the delivery's
+pub ahead-opened : (y : Syntax) (d : List ℕ) → ahead (openedAt y) d ≡ segments y d
+unfolding ahead segments
+ahead-opened y d =
+    let m : max 0 (openingOf d) ≡ openingOf d = omega arith in
+    rw m
+
+-- what a step that gives a segment says
+pub record Stepped (c : Cursor) (d : List ℕ) (s e : ℕ) (p : Bool) (n : Cursor) : Type 0 where
+  pub segment : Segment
+  pub starts : segment .start ≡ s
+  pub bytes : segment .bytes ≡ part s e d
+  pub piece : segment .piece ≡ p
+  pub some : s < e
+  pub fits : e ≤ length d
+  pub rest : ahead c d ≡ segment ∷ ahead n d
+
+module _ (c : Cursor) (d : List ℕ) where
+  ahead-cut
+      : (s e : ℕ) (p : Bool) (a : Bool) → eqb (admissionOf (c .syntax) d) 0 ≡ a → Cutting (c .syntax) d (max (c .at) (openingOf d)) false s e p
+      → a ≡ true → Stepped c d s e p (record { syntax = c .syntax; at = e })
+  unfolding ahead
+  ahead-cut s e p a f k g =
+      let m : max e (openingOf d) ≡ e = omega (arith, k .some) in
+      record {
+        segment = record { start = max (c .at) (openingOf d); bytes = part (max (c .at) (openingOf d)) e d; piece = p };
+        starts = sym (k .starts);
+        bytes = ap (λ (i : ℕ). part i e d) (sym (k .starts));
+        piece = refl;
+        some = omega (arith, k .some, k .starts);
+        fits = k .fits;
+        rest = rw (f, g, m) (k .list);
+      }
+
+  abbrev Says : Step → Type 0
+  Says (step.Segment s e p n) = Stepped c d s e p n
+  Says step.Nothing = Unit {0}
+
+  -- the step's segment is the first ahead, and the rest is ahead of the next cursor
+  pub step-some : (s e : ℕ) (p : Bool) (n : Cursor) → stepOf c d ≡ step.Segment s e p n → Stepped c d s e p n
+  unfolding stepOf
+  step-some s e p n h = go (eqb (admissionOf (c .syntax) d) 0) (segmentAt (c .syntax) d (max (c .at) (openingOf d))) refl refl h
+    where
+      go
+          : (a : Bool) (k : Cut) → eqb (admissionOf (c .syntax) d) 0 ≡ a → segmentAt (c .syntax) d (max (c .at) (openingOf d)) ≡ k
+          → pickStep a (stepped (c .syntax) k) step.Nothing ≡ step.Segment s e p n → Stepped c d s e p n
+      go true (cut.Segment s′ e′ p′) f g h =
+          subst Says h (ahead-cut s′ e′ p′ true f (cutting (c .syntax) d (max (c .at) (openingOf d)) false s′ e′ p′ g) refl)
+      go true cut.Nothing f g h = absurd (let z : _≡_ {A = ℕ} 0 1 = cc in omega arith)
+      go false k f g h = absurd (let z : _≡_ {A = ℕ} 0 1 = cc in omega arith)
+
+  -- a step that gives none has none ahead
+  pub step-none : stepOf c d ≡ step.Nothing → ahead c d ≡ []
+  unfolding stepOf ahead
+  step-none h = go (eqb (admissionOf (c .syntax) d) 0) (segmentAt (c .syntax) d (max (c .at) (openingOf d))) refl h
+    where
+      go
+          : (a : Bool) (k : Cut) → segmentAt (c .syntax) d (max (c .at) (openingOf d)) ≡ k → pickStep a (stepped (c .syntax) k) step.Nothing ≡ step.Nothing
+          → onlyIf a (segmentsFrom (c .syntax) (max (c .at) (openingOf d)) false (drop (max (c .at) (openingOf d)) d)) ≡ []
+      go true (cut.Segment s e p) g h = absurd (let z : _≡_ {A = ℕ} 0 1 = cc in omega arith)
+      go true cut.Nothing g h = nothing (c .syntax) d (max (c .at) (openingOf d)) false g
+      go false k g h = refl
