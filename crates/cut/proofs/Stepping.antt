@@ -49,6 +49,8 @@ pub record Stepped (c : Cursor) (d : List ℕ) (s e : ℕ) (p : Bool) (n : Curso
   pub starts : segment .start ≡ s
   pub bytes : segment .bytes ≡ part s e d
   pub piece : segment .piece ≡ p
+  pub later : c .at ≤ s
+  pub next : n .at ≡ e
   pub some : s < e
   pub fits : e ≤ length d
   pub rest : ahead c d ≡ segment ∷ ahead n d
@@ -65,6 +67,8 @@ module _ (c : Cursor) (d : List ℕ) where
         starts = sym (k .starts);
         bytes = ap (λ (i : ℕ). part i e d) (sym (k .starts));
         piece = refl;
+        later = omega (arith, k .starts);
+        next = refl;
         some = omega (arith, k .some, k .starts);
         fits = k .fits;
         rest = rw (f, g, m) (k .list);

@@ -26,25 +26,46 @@ fn put_segment(name: &[u8], start: usize, end: usize, piece: bool) {
     put(b"\n");
 }
 
+fn step_line(start: usize, end: usize, piece: bool) {
+    put_segment(b"S", start, end, piece);
+}
+
 fn segment_lines(y: Syntax, d: &[u8]) {
     let mut c = Cursor::opened(y);
     loop {
         let s = c.step(d);
-        let Step::Segment { start, end, piece, next } = s else {
+        let Step::Segment {
+            start,
+            end,
+            piece,
+            next,
+        } = s
+        else {
             return;
         };
-        put_segment(b"S", start, end, piece);
+        step_line(start, end, piece);
         c = next;
     }
 }
 
-fn begins_line(y: Syntax, d: &[u8]) {
-    put(b"B");
+fn begins_places(y: Syntax, d: &[u8]) {
     for at in 0..d.len() {
         if cut::begins_segment(y, d, at) {
             put_number(at);
         }
     }
+}
+
+fn begins_line(y: Syntax, d: &[u8]) {
+    put(b"B");
+    begins_places(y, d);
+    put(b"\n");
+}
+
+fn message_line(start: usize, end: usize) {
+    put(b"M");
+    put_number(start);
+    put_number(end);
     put(b"\n");
 }
 
@@ -55,10 +76,7 @@ fn message_lines(y: Syntax, d: &[u8]) {
         let Found::Message { start, end } = m else {
             return;
         };
-        put(b"M");
-        put_number(start);
-        put_number(end);
-        put(b"\n");
+        message_line(start, end);
         from = end;
     }
 }
@@ -152,7 +170,10 @@ fn message_deliveries() {
     show_base(21, b"UNH'UNT'BGM'UNT'UNH'");
     show_base(22, b"UNH'UNT+7");
     show_base(23, b"UNH'UNZ");
-    show_base(24, b"UNH+1+PRICAT:D:20B:UN:2.0d'BGM+Z32+A1'UNT+3+1'UNH+2+PRICAT:D:20B:UN:2.0d'");
+    show_base(
+        24,
+        b"UNH+1+PRICAT:D:20B:UN:2.0d'BGM+Z32+A1'UNT+3+1'UNH+2+PRICAT:D:20B:UN:2.0d'",
+    );
 }
 
 fn other_characters() {
