@@ -1,6 +1,7 @@
 pub mod Parts
 pub mod Scanning
 pub mod Words
+pub mod Admitting
 pub mod Appended
 pub mod First
 pub mod Starts
