@@ -1,5 +1,5 @@
 -- Some first segments of a row of bytes are the segments of their own bytes alone.
-use Prim.Native.Nat.{ℕ, suc, _+_, _<_}
+use Prim.Native.Nat.{ℕ, _+_, _<_}
 use mathlib.Core.Path.{_≡_, refl, sym, _∙_, ap}
 use mathlib.Core.Bool.{Bool, true, false}
 use mathlib.Core.List.{List, [], _∷_, _++_, append-nil}
@@ -10,7 +10,7 @@ use lib.Seq.{take-add}
 use Rattle.cut.specs.declared.service.Syntax.{Syntax}
 use Rattle.cut.specs.Segments.{Segment, segmentsFrom, joined}
 use Rattle.cut.specs.Messages.{lastEnd}
-use Rattle.cut.specs.Fronts.{whole, after, glued, pickSegments, meet}
+use Rattle.cut.specs.Fronts.{whole, after, meet}
 use Rattle.cut.proofs.First.{First, first}
 use Rattle.cut.proofs.Appended.{segments-append}
 use Rattle.cut.proofs.Boundaries.{after-whole-some}

@@ -1,13 +1,12 @@
 -- The segments of a front followed by a tail, without any condition; and what moving, joining and ordering them gives.
-use Prim.Native.Nat.{ℕ, suc, _+_, _≤_, _<_}
-use mathlib.Core.Path.{_≡_, refl, sym, _∙_, ap}
+use Prim.Native.Nat.{ℕ, suc, _+_}
+use mathlib.Core.Path.{_≡_, refl}
 use mathlib.Core.Bool.{Bool, true, false, not, _&&_, false≢true}
-use mathlib.Core.List.{List, [], _∷_, _++_, map, append-assoc, append-nil}
+use mathlib.Core.List.{List, [], _∷_, _++_, map}
 use native.Mathlib.Nat.{add-zero, add-suc, suc-add}
-use native.Mathlib.Omega.{arith}
 use lib.ListN.{length}
 use Rattle.cut.specs.declared.service.Syntax.{Syntax}
-use Rattle.cut.specs.Segments.{Segment, endOf, ends, frees, join, segmentsFrom, joined}
+use Rattle.cut.specs.Segments.{Segment, ends, frees, join, segmentsFrom, joined}
 use Rattle.cut.specs.Fronts.{moved, whole, after, glued, pickSegments, meet}
 
 join-meet-some

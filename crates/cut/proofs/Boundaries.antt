@@ -1,21 +1,19 @@
 -- Whether a segment begins at a place, and where the first one does from a place on, told from the bytes before it.
 use Prim.Native.Nat.{ℕ, suc, _+_, _-_, _≤_, _<_}
-use mathlib.Core.Path.{_≡_, refl, sym, _∙_, ap}
+use mathlib.Core.Path.{_≡_, refl, sym, _∙_}
 use mathlib.Core.Bool.{Bool, true, false, not, _&&_, false≢true}
-use mathlib.Core.List.{List, [], _∷_, _++_, append-nil}
+use mathlib.Core.List.{List, [], _∷_, _++_}
 use native.Mathlib.Nat.{le-refl}
-use native.Mathlib.Numerals.{add-one}
 use native.Mathlib.Omega.{arith}
-use lib.ListN.{length, getD, take, drop, take-append-drop, length-append}
+use lib.ListN.{length, getD, drop}
 use lib.Seq.{drop-cons}
-use lib.Dec.{eqb}
 use borrow.Author.Tests.{eq-eqb, ne-eqb}
 use Rattle.cut.specs.declared.service.Syntax.{Syntax}
 use Rattle.cut.specs.Bytes.{part}
 use Rattle.cut.specs.Segments.{Segment, ends, frees, join, segmentsFrom}
 use Rattle.cut.specs.Messages.{beginsIn}
 use Rattle.cut.specs.Workers.{since}
-use Rattle.cut.specs.Fronts.{whole, after, glued, pickSegments, meet}
+use Rattle.cut.specs.Fronts.{whole, after, glued, meet}
 use Rattle.cut.proofs.Parts.{length-part, part-none, part-drop, part-last}
 use Rattle.cut.proofs.First.{ends-frees, some-segment, first}
 use Rattle.cut.proofs.Appended.{segments-append, meet-whole}

@@ -1,8 +1,8 @@
 -- Counting messages and segments outside along one walk.
-use Prim.Native.Nat.{ℕ, _+_, _≤_, _<_}
-use mathlib.Core.Path.{_≡_, refl, sym, _∙_, ap, ap₂}
+use Prim.Native.Nat.{ℕ, _+_, _≤_}
+use mathlib.Core.Path.{_≡_, sym, _∙_}
 use mathlib.Core.Bool.{Bool, true, false}
-use mathlib.Core.List.{List, [], _∷_}
+use mathlib.Core.List.{List}
 use native.Mathlib.Nat.{add-zero, zero-add, add-assoc}
 use native.Mathlib.Omega.{arith}
 use lib.Dec.{lit≤}
@@ -11,8 +11,7 @@ use Rattle.cut.specs.declared.service.Syntax.{Syntax}
 use Rattle.cut.specs.declared.tags.Tag.{Tag}
 use Rattle.cut.specs.declared.tags.Tag.the-variants.{Unh, Unt, Unz, Other}
 use Rattle.cut.specs.declared.tags.Spot.the-variants as spot
-use Rattle.cut.specs.declared.totals.Counts.{Counts}
-use Rattle.cut.specs.Segments.{Segment, segmentsFrom}
+use Rattle.cut.specs.Segments.{segmentsFrom}
 use Rattle.cut.specs.Admission.{admissionOf, openingOf, segments}
 use Rattle.cut.specs.Messages.{messagesIn, messages, others, outsideIn, outside}
 use Rattle.cut.specs.Calls.{countsOf}

@@ -1,9 +1,9 @@
 -- Demand 3 for segments and messages: a tail that begins UNH, in a longer delivery. UNA and the limit are taken in: `Tail` asks only that
 -- the longer delivery is admitted, and a front that is just UNA's nine bytes holds no segment, so it is whole.
-use Prim.Native.Nat.{ℕ, suc, _+_, _-_, _≤_, _<_}
-use mathlib.Core.Path.{_≡_, refl, sym, _∙_, ap}
-use mathlib.Core.Bool.{Bool, true, false, not, _&&_, and-false, false≢true}
-use mathlib.Core.List.{List, [], _∷_, _++_, map, append-nil, append-assoc}
+use Prim.Native.Nat.{ℕ, _+_}
+use mathlib.Core.Path.{_≡_, refl, sym, _∙_}
+use mathlib.Core.Bool.{Bool, true, false, and-false, false≢true}
+use mathlib.Core.List.{List, [], _∷_, _++_, map}
 use native.Mathlib.Nat.{add-zero}
 use native.Mathlib.Omega.{arith}
 use lib.ListN.{length, take, drop, length-drop}
@@ -11,13 +11,11 @@ use lib.Seq.{drop-append-le}
 use lib.Dec.{eqb, lit<}
 use borrow.Author.Tests.{ne-eqb}
 use Rattle.cut.specs.declared.service.Syntax.{Syntax}
-use Rattle.cut.specs.declared.tags.Tag.{Tag}
-use Rattle.cut.specs.declared.tags.Tag.the-variants.{Unh, Unt, Unz, Other}
 use Rattle.cut.specs.Bytes.{begins}
-use Rattle.cut.specs.Segments.{Segment, ends, frees, join, segmentsFrom}
+use Rattle.cut.specs.Segments.{ends, frees, segmentsFrom}
 use Rattle.cut.specs.Admission.{admissionOf, openingOf, onlyIf, segments, nine}
-use Rattle.cut.specs.Messages.{Message, tagOf, follow, body, begin, messagesIn, messages}
-use Rattle.cut.specs.Fronts.{moved, movedMessage, whole, after, glued, pickSegments, meet, begunIn, has, service, UNH, Tail}
+use Rattle.cut.specs.Messages.{body, messages}
+use Rattle.cut.specs.Fronts.{moved, movedMessage, whole, after, meet, begunIn, has, service, UNH, Tail}
 use Rattle.cut.proofs.Appended.{segments-append, segments-moved, meet-whole}
 use Rattle.cut.proofs.Boundaries.{ends-other, frees-not}
 use Rattle.cut.proofs.Places.{admitted}

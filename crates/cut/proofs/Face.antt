@@ -1,21 +1,20 @@
 -- The face of the cutting layer: what the crates above cite of it, beside specs/, `Cutting` of First, the laws of Parts, and Demand3.
 use Prim.Native.Nat.{ℕ, _≤_, _<_}
-use mathlib.Core.Path.{_≡_, refl, sym, _∙_, ap, ap₂, subst₂}
-use mathlib.Core.Bool.{Bool, true, false, true≢false}
+use mathlib.Core.Path.{_≡_, refl, sym, ap₂, subst₂}
+use mathlib.Core.Bool.{Bool, true, false}
 use mathlib.Core.List.{List, [], _∷_}
 use native.Mathlib.Omega.{arith}
 use lib.ListN.{length}
 use lib.Dec.{eqb, leb}
 use borrow.Author.Tests.{eq-eqb, ne-eqb, le-leb, lt-leb, leb-true, leb-false, eqb-true}
 use Rattle.cut.specs.declared.service.Syntax.{Syntax}
-use Rattle.cut.specs.declared.message.Found.{Found}
 use Rattle.cut.specs.declared.message.Found.the-variants as found
 use Rattle.cut.specs.declared.tags.Tag.the-variants.{Unh}
 use Rattle.cut.specs.Bytes.{part}
 use Rattle.cut.specs.Segments.{segmentsFrom}
 use Rattle.cut.specs.Messages.{Message, startOf, closeOf, tagOf, messages}
 use Rattle.cut.specs.Calls.{beginsSegment, pickFound, asFound, foundAt, messageAt, foundFrom, nextMessage}
-use Rattle.cut.proofs.Ordering.{InOrder, order-weaken}
+use Rattle.cut.proofs.Ordering.{InOrder}
 use Rattle.cut.proofs.Members.{Each, Lies, messages-lie, messages-in-order}
 use Rattle.cut.proofs.Finding.{at-nowhere}
 

@@ -1,17 +1,17 @@
 -- The answers of the two calls that find messages, from what their workers answer.
-use Prim.Native.Nat.{ℕ, suc, _≤_}
-use mathlib.Core.Path.{_≡_, refl, sym, _∙_, ap, ap₂}
-use mathlib.Core.Bool.{Bool, true, false}
-use mathlib.Core.List.{List, [], _∷_}
+use Prim.Native.Nat.{ℕ, suc}
+use mathlib.Core.Path.{_≡_, sym, _∙_, ap, ap₂}
+use mathlib.Core.Bool.{true, false}
+use mathlib.Core.List.{List}
 use native.Mathlib.Omega.{arith}
-use lib.ListN.{length, drop}
+use lib.ListN.{drop}
 use Rattle.cut.specs.declared.service.Syntax.{Syntax}
 use Rattle.cut.specs.declared.tags.Tag.{Tag}
 use Rattle.cut.specs.declared.tags.Spot.the-variants as spot
 use Rattle.cut.specs.declared.message.Found.the-variants as found
 use Rattle.cut.specs.Segments.{Segment, segmentsFrom}
 use Rattle.cut.specs.Admission.{admissionOf, openingOf, segments}
-use Rattle.cut.specs.Messages.{lastEnd, body, messagesIn, messages, beginsIn}
+use Rattle.cut.specs.Messages.{lastEnd, body, messagesIn, messages}
 use Rattle.cut.specs.Calls.{beginsSegment, foundAt, messageAt, foundFrom, nextMessage}
 use Rattle.cut.specs.Workers.{headSpot, headFound, isUnh, since}
 use Rattle.cut.proofs.Starts.{Rising, rising-none, rising-weaken, segments-rising}

@@ -1,20 +1,19 @@
 -- What an admitted delivery with a tail that begins UNH says of its front: UNA and the limit taken in.
-use Prim.Native.Nat.{ℕ, zero, suc, _+_, _-_, _≤_, _<_}
+use Prim.Native.Nat.{ℕ, zero, suc, _+_, _≤_, _<_}
 use mathlib.Core.Path.{_≡_, refl, sym, _∙_, ap}
-use mathlib.Core.Bool.{Bool, true, false, not, _&&_, and-true, true≢false, false≢true}
+use mathlib.Core.Bool.{Bool, true, false, not, _&&_, true≢false, false≢true}
 use mathlib.Core.List.{List, [], _∷_, _++_}
 use native.Mathlib.Nat.{add-zero, le-trans}
 use native.Mathlib.Omega.{arith}
-use lib.ListN.{length, getD, drop, length-append, length-drop}
-use lib.Seq.{drop-append-le, getD-append-add}
+use lib.ListN.{length, getD, length-append}
+use lib.Seq.{getD-append-add}
 use lib.Dec.{eqb, leb, ltb, lit<, lit≤}
-use borrow.Author.Tests.{eqb-true, eqb-false, eq-eqb, ne-eqb, ltb-false, le-ltb, leb-true, leb-false, not-true}
+use borrow.Author.Tests.{eqb-true, eqb-false, ltb-false, le-ltb, leb-true, leb-false}
 use Rattle.cut.specs.declared.service.Syntax.{Syntax}
 use Rattle.cut.specs.Bytes.{begins}
-use Rattle.cut.specs.Segments.{Segment, ends, frees, join, segmentsFrom}
-use Rattle.cut.specs.Admission.{limit, UNA, nine, pickℕ, admissionOf, openingOf, segments}
+use Rattle.cut.specs.Admission.{limit, UNA, nine, pickℕ, admissionOf, openingOf}
 use Rattle.cut.proofs.Searching.{neither}
-use Rattle.cut.specs.Fronts.{moved, whole, after, meet, has, service, UNH, Tail}
+use Rattle.cut.specs.Fronts.{has, service, UNH, Tail}
 
 both : (a b : Bool) → (a && b) ≡ true → (a ≡ true) × (b ≡ true)
 both true b h = (refl, h)

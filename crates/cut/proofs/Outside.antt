@@ -1,19 +1,18 @@
 -- What stands outside, in one walk: the state is whether a message is open.
 use Prim.Native.Nat.{ℕ, suc, _+_, _≤_, _<_}
-use mathlib.Core.Path.{_≡_, refl, sym, _∙_, ap}
-use mathlib.Core.Bool.{Bool, true, false, not, _||_, or-true}
+use mathlib.Core.Path.{_≡_, refl, _∙_, ap}
+use mathlib.Core.Bool.{Bool, true, false}
 use mathlib.Core.List.{List, [], _∷_, _++_}
 use native.Mathlib.Nat.{le-refl}
 use native.Mathlib.Omega.{arith}
 use lib.ListN.{length}
-use lib.Dec.{eqb}
 use borrow.Author.Tests.{eq-eqb, ne-eqb}
 use Rattle.cut.specs.declared.tags.Tag.{Tag}
 use Rattle.cut.specs.declared.tags.Tag.the-variants.{Unh, Unt, Unz, Other}
 use Rattle.cut.specs.Segments.{Segment}
 use Rattle.cut.specs.Messages.{Message, tagOf, follow, body, begin, messagesIn, inside, beginsIn, keepIf, others, outsideIn}
 use Rattle.cut.specs.Workers.{begunBy, outBy, openBy, oneIf}
-use Rattle.cut.proofs.Starts.{Rising, rising-weaken}
+use Rattle.cut.proofs.Starts.{Rising}
 
 -- those outside, where b says whether a message is open before them
 unfoldable pub leftOver : Bool → List Segment → List Segment

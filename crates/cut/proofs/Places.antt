@@ -1,11 +1,11 @@
 -- What admission and the places say: the answers on a delivery that is not admitted, before its first segment and past its end.
-use Prim.Native.Nat.{ℕ, _+_, _-_, _≤_, _<_}
-use mathlib.Core.Path.{_≡_, refl, sym, _∙_, ap}
+use Prim.Native.Nat.{ℕ, _≤_, _<_}
+use mathlib.Core.Path.{_≡_, refl, sym, _∙_}
 use mathlib.Core.Bool.{Bool, true, false, true≢false}
-use mathlib.Core.List.{List, [], _∷_, _++_, append-nil}
+use mathlib.Core.List.{List, [], append-nil}
 use native.Mathlib.Nat.{le-refl}
 use native.Mathlib.Omega.{arith}
-use lib.ListN.{length, drop, length-drop, drop-of-length-le}
+use lib.ListN.{length, drop, length-drop}
 use lib.Dec.{eqb, leb}
 use borrow.Author.Tests.{eq-eqb, ne-eqb, leb-true, leb-false, eqb-true, eqb-false}
 use Rattle.cut.specs.declared.service.Syntax.{Syntax}
@@ -19,7 +19,7 @@ use Rattle.cut.specs.Fronts.{whole, after}
 use Rattle.cut.specs.Workers.{since}
 use Rattle.cut.proofs.Scanning.{segments-none}
 use Rattle.cut.proofs.First.{cutting, nothing}
-use Rattle.cut.proofs.Starts.{Rising, Below, rising-weaken, segments-rising, segments-below, begins-past, begins-append, below-more, since-all, since-none}
+use Rattle.cut.proofs.Starts.{Below, rising-weaken, segments-rising, segments-below, begins-past, begins-append, below-more, since-all, since-none}
 use Rattle.cut.proofs.Boundaries.{begins-told, since-closed, since-open}
 
 module _ (y : Syntax) (d : List ℕ) where

@@ -1,20 +1,18 @@
 -- The messages that begin at a place, or from a place on, are those of the segments from that place on.
 use Prim.Native.Nat.{ℕ, suc, _≤_, _<_}
-use mathlib.Core.Path.{_≡_, refl, sym, _∙_, ap}
+use mathlib.Core.Path.{_≡_, refl, sym, _∙_}
 use mathlib.Core.Bool.{Bool, true, false, _||_, true≢false}
 use mathlib.Core.List.{List, [], _∷_}
 use native.Mathlib.Nat.{le-refl}
 use native.Mathlib.Omega.{arith}
-use lib.ListN.{length, drop}
 use lib.Dec.{eqb, leb}
 use borrow.Author.Tests.{eq-eqb, ne-eqb, le-leb, leb-true, leb-false, eqb-false}
 use Rattle.cut.specs.declared.tags.Tag.{Tag}
 use Rattle.cut.specs.declared.tags.Tag.the-variants.{Unh, Unt, Unz, Other}
-use Rattle.cut.specs.declared.message.Found.{Found}
 use Rattle.cut.specs.declared.message.Found.the-variants as found
 use Rattle.cut.specs.Segments.{Segment, endOf}
 use Rattle.cut.specs.Messages.{Message, startOf, tagOf, lastEnd, body, begin, messagesIn, beginsIn, keepIf}
-use Rattle.cut.specs.Calls.{pickFound, asFound, foundAt, foundFrom}
+use Rattle.cut.specs.Calls.{foundAt, foundFrom}
 use Rattle.cut.specs.Workers.{headFound, isUnh, since}
 use Rattle.cut.proofs.Spots.{begin-on, begin-here}
 use Rattle.cut.proofs.Starts.{Rising, rising-weaken, since-all}

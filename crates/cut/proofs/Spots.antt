@@ -1,7 +1,7 @@
 -- One step of a walk over segments: what a spot says of the list, and what each kind of segment does to a message's end and to the search.
 use Prim.Native.Nat.{ℕ, _+_, _≤_, _<_}
-use mathlib.Core.Path.{_≡_, refl, sym, _∙_, ap}
-use mathlib.Core.Bool.{Bool, true, false, true≢false, false≢true}
+use mathlib.Core.Path.{_≡_, refl, _∙_, ap}
+use mathlib.Core.Bool.{true, false, true≢false, false≢true}
 use mathlib.Core.List.{List, [], _∷_}
 use native.Mathlib.Omega.{arith}
 use lib.ListN.{length, drop, length-drop}
@@ -9,7 +9,6 @@ use lib.Seq.{drop-drop}
 use Rattle.cut.specs.declared.service.Syntax.{Syntax}
 use Rattle.cut.specs.declared.tags.Tag.{Tag}
 use Rattle.cut.specs.declared.tags.Tag.the-variants.{Unh, Unt, Unz, Other}
-use Rattle.cut.specs.declared.tags.Spot.{Spot}
 use Rattle.cut.specs.declared.tags.Spot.the-variants as spot
 use Rattle.cut.specs.declared.message.Found.the-variants as found
 use Rattle.cut.specs.Segments.{Segment, endOf, segmentsFrom}

@@ -1,6 +1,6 @@
 -- `cut::totals::count` meets its contract: the counts so far and what is left make the whole.
 use Prim.Native.Nat.{_-_}
-use mathlib.Core.Path.{_≡_, sym, _∙_}
+use mathlib.Core.Path.{sym, _∙_}
 use native.Mathlib.Omega.{arith}
 use lib.ListN.{length}
 use Rattle.cut.proofs.Spots.{spotted}
