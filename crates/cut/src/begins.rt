@@ -79,7 +79,7 @@ fn released_at(y: Syntax, d: &[u8], first: usize, at: usize) -> bool
     let mut released = false;
     while first < i {
         i -= 1;
-        if !is_release(y, d[i]) {
+        if !releases(y, d[i]) {
             return released;
         }
         released = !released;
@@ -87,8 +87,8 @@ fn released_at(y: Syntax, d: &[u8], first: usize, at: usize) -> bool
     released
 }
 
-// A byte that releases the next one unless it is released itself.
-fn is_release(y: Syntax, x: u8) -> bool
+// Whether the byte x, unless it is released itself, releases the next one.
+pub fn releases(y: Syntax, x: u8) -> bool
     ensures { λ r. ⌜ r ≡ frees y false x ⌝ }
 {
     if x == y.terminator {

@@ -12,6 +12,7 @@ mod totals;
 
 pub use admit::admission;
 pub use begins::begins_segment;
+pub use begins::releases;
 pub use message::Found;
 pub use message::message_at;
 pub use message::next_message;

@@ -25,16 +25,16 @@ loop-holds c = (search needs, refl)
 sub-i : tie.Need-sub-i Inv-loop μ-loop
 sub-i c = search needs
 
-shared-slice-read-is-release : tie.Need-shared-slice-read-is-release Inv-loop μ-loop
-shared-slice-read-is-release c = search needs
+shared-slice-read-releases : tie.Need-shared-slice-read-releases Inv-loop μ-loop
+shared-slice-read-releases c = search needs
 
-is-release-requires : tie.Need-is-release-requires Inv-loop μ-loop
-is-release-requires c κs = search needs
+releases-requires : tie.Need-releases-requires Inv-loop μ-loop
+releases-requires c κs = search needs
 
 returns : tie.Need-returns Inv-loop μ-loop
 returns c =
     let l = c .before .before .before .before .loop in
-    let f = sym (c .before .is-release .ensures) ∙ not-true _ (c .if1 .taken) in
+    let f = sym (c .before .releases .ensures) ∙ not-true _ (c .if1 .taken) in
     sym (l .inv .1 ∙ run-over _ _ _ _ _ (c .before .before .before .loop-test .taken) (l .inv .0) f)
 
 loop-less : tie.Need-loop-less Inv-loop μ-loop
@@ -43,7 +43,7 @@ loop-less c = search needs
 loop-again : tie.Need-loop-again Inv-loop μ-loop
 loop-again c =
     let l = c .before .before .before .before .loop in
-    let f = sym (c .before .is-release .ensures) ∙ not-false _ (c .if1 .left) in
+    let f = sym (c .before .releases .ensures) ∙ not-false _ (c .if1 .left) in
     (search needs, l .inv .1 ∙ run-on _ _ _ _ _ (c .before .before .before .loop-test .taken) (l .inv .0) f)
 
 returns-2 : tie.Need-returns-2 Inv-loop μ-loop
@@ -57,8 +57,8 @@ released-at-spec =
     μ-loop
     loop-holds
     sub-i
-    shared-slice-read-is-release
-    is-release-requires
+    shared-slice-read-releases
+    releases-requires
     returns
     loop-less
     loop-again

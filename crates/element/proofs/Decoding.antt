@@ -1,0 +1,87 @@
+-- Laws of the decoded bytes of a part, one byte at a time.
+use Prim.Native.Nat.{ℕ, _+_, _≤_, _<_, min}
+use mathlib.Core.Bool.{Bool, true, false}
+use mathlib.Core.Path.{_≡_, ap, _∙_}
+use mathlib.Core.List.{List, [], _∷_}
+use native.Mathlib.Omega.{arith}
+use lib.ListN.{length, getD}
+use Rattle.cut.specs.declared.service.Syntax.{Syntax}
+use Rattle.cut.specs.Bytes.{part}
+use Rattle.cut.specs.Segments.{frees}
+use Rattle.cut.proofs.Parts.{part-none, part-next}
+use Rattle.element.specs.Plain.{unlessMark, plain, decoded}
+use Rattle.element.specs.Inner.{Literal}
+use Rattle.element.proofs.Limits.{limited}
+
+-- a byte that is no release mark stands for itself, a mark makes the next one literal, and one at the end stands for nothing
+module _ (y : Syntax) (x : ℕ) where
+  pub plain-byte : (xs : List ℕ) → frees y false x ≡ false → plain y false (x ∷ xs) ≡ x ∷ plain y false xs
+  unfolding plain unlessMark
+  plain-byte xs h = rw h
+
+  pub plain-released : (z : ℕ) (zs : List ℕ) → frees y false x ≡ true → plain y false (x ∷ z ∷ zs) ≡ z ∷ plain y false zs
+  unfolding plain unlessMark frees
+  plain-released z zs h = rw h
+
+  pub plain-last : frees y false x ≡ true → plain y false (x ∷ []) ≡ []
+  unfolding plain unlessMark
+  plain-last h = rw h
+
+module _ (y : Syntax) (d : List ℕ) where
+  -- a part that is empty
+  pub decoded-none : (i e : ℕ) → e ≤ i → decoded y i e d ≡ []
+  unfolding decoded plain
+  decoded-none i e h = rw (part-none d i e h)
+
+  pub decoded-next
+      : (i e : ℕ) (b : Bool) → i < e → e ≤ length d → frees y false (getD d i 0) ≡ b
+      → decoded y i e d ≡ unlessMark b (getD d i 0) (plain y b (part (i + 1) e d))
+  unfolding decoded plain
+  decoded-next i e b h k f = rw (part-next d i e h k, f)
+
+  -- a released byte is literal, and nothing is released behind it
+  pub released-next
+      : (i e : ℕ) → i < e → e ≤ length d → plain y true (part i e d) ≡ getD d i 0 ∷ decoded y (i + 1) e d
+  unfolding decoded plain frees unlessMark
+  released-next i e h k = rw (part-next d i e h k)
+
+  released-none : (i e : ℕ) → e ≤ i → plain y true (part i e d) ≡ []
+  unfolding plain
+  released-none i e h = rw (part-none d i e h)
+
+  pub literal-none : (i e : ℕ) → e ≤ i → Literal y d i e i
+  literal-none i e h =
+      record { inside = λ n. n; onward = omega arith; found = λ n. absurd (omega arith); none = λ _. decoded-none i e h }
+
+  pub literal-byte
+      : (i e : ℕ) → i < e → e ≤ length d → frees y false (getD d i 0) ≡ false → Literal y d i e i
+  unfolding unlessMark decoded
+  literal-byte i e h k f =
+      record {
+        inside = omega arith;
+        onward = omega arith;
+        found = λ _. decoded-next i e false h k f;
+        none = λ n. absurd (omega arith);
+      }
+
+  pub literal-mark
+      : (i e : ℕ) → i < e → e ≤ length d → frees y false (getD d i 0) ≡ true → Literal y d i e (i + 1)
+  unfolding unlessMark
+  literal-mark i e h k f =
+      record {
+        inside = omega arith;
+        onward = omega arith;
+        found = λ n. decoded-next i e true h k f ∙ released-next (i + 1) e n k;
+        none = λ n. decoded-next i e true h k f ∙ released-none (i + 1) e n;
+      }
+
+  -- an end past the delivery counts as the delivery's end
+  pub decoded-limited : (a e r : ℕ) → r ≡ min e (length d) → decoded y a r d ≡ decoded y a e d
+  unfolding decoded
+  decoded-limited a e r h = rw (limited d a e r h)
+
+-- one byte more is counted
+pub count-more : {s t : List ℕ} {x : ℕ} (n m : ℕ) → n + length s ≡ m → s ≡ x ∷ t → n + 1 + length t ≡ m
+count-more n m h p =
+    let l = ap length p in
+    omega arith

@@ -1,0 +1,10 @@
+pub mod Each
+pub mod Lookups
+pub mod Numbers
+pub mod Places
+pub mod Spans
+pub mod Counts
+pub mod Searching
+pub mod Joined
+pub mod Released
+pub mod Whole

@@ -1,0 +1,11 @@
+pub mod Digits
+pub mod Format
+pub mod Inner
+pub mod Number
+pub mod Numeral
+pub mod Plain
+pub mod Text
+pub mod Clean
+pub mod Elements
+pub mod Components
+pub mod Cursors

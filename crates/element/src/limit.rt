@@ -1,0 +1,13 @@
+// Every call of this crate takes a part of a delivery as two places; an end past the delivery counts as the delivery's end.
+ghost use mathlib.Core.Path.{_≡_};
+ghost use Prim.Native.Nat.{min};
+ghost use lib.ListN.{length};
+
+pub(crate) fn limit_of(d: &[u8], e: usize) -> usize
+    ensures { λ r. ⌜ r ≡ min e (length (now (d .entry))) ⌝ }
+{
+    if d.len() < e {
+        return d.len();
+    }
+    e
+}

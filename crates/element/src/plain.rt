@@ -1,0 +1,94 @@
+// The bytes of a part without release marks: how many, which, and whether two parts agree.
+use crate::limit::limit_of;
+use crate::literal::literal;
+use cut::Syntax;
+ghost use mathlib.Core.Path.{_≡_};
+ghost use lib.ListN.{length};
+ghost use Rattle.element.specs.Plain.{decoded, same, fitting, copied};
+
+// How many bytes the part has, release marks not counted.
+pub fn plain_length(y: Syntax, d: &[u8], a: usize, e: usize) -> usize
+    ensures { λ r. ⌜ r ≡ length (decoded y a e (now (d .entry))) ⌝ }
+{
+    let end = limit_of(d, e);
+    let mut i = a;
+    let mut n = 0;
+    loop {
+        let found = literal(y, d, i, end);
+        if end <= found {
+            return n;
+        }
+        n += 1;
+        i = found + 1;
+    }
+}
+
+// Whether the part, decoded, is just the bytes of word: a code, a tag, an edition.
+pub fn is_code(y: Syntax, d: &[u8], a: usize, e: usize, word: &[u8]) -> bool
+    ensures { λ r. ⌜ r ≡ same (decoded y a e (now (d .entry))) (now (word .entry)) ⌝ }
+{
+    let end = limit_of(d, e);
+    let mut i = a;
+    let mut k = 0;
+    loop {
+        let at = literal(y, d, i, end);
+        if end <= at {
+            return k == word.len();
+        }
+        if word.len() <= k {
+            return false;
+        }
+        if d[at] != word[k] {
+            return false;
+        }
+        i = at + 1;
+        k += 1;
+    }
+}
+
+// Whether the parts from a up to e and from b up to f, both decoded, are the same: all bytes are compared, none is copied.
+pub fn same_plain(y: Syntax, d: &[u8], a: usize, e: usize, b: usize, f: usize) -> bool
+    ensures { λ r. ⌜ r ≡ same (decoded y a e (now (d .entry))) (decoded y b f (now (d .entry))) ⌝ }
+{
+    let first = limit_of(d, e);
+    let second = limit_of(d, f);
+    let mut i = a;
+    let mut j = b;
+    loop {
+        let at = literal(y, d, i, first);
+        let other = literal(y, d, j, second);
+        if first <= at {
+            return second <= other;
+        }
+        if second <= other {
+            return false;
+        }
+        if d[at] != d[other] {
+            return false;
+        }
+        i = at + 1;
+        j = other + 1;
+    }
+}
+
+// Writes the part, decoded, to the front of a lent row, as many bytes as fit, and answers how many; the rest stays.
+pub fn copy_plain(y: Syntax, d: &[u8], a: usize, e: usize, out: &mut [u8]) -> usize
+    ensures { λ r. ⌜ r ≡ fitting (decoded y a e (now (d .entry))) (now (out .entry)) ⌝ }
+    ensures { λ _. ⌜ now (out .exit) ≡ copied (decoded y a e (now (d .entry))) (now (out .entry)) ⌝ }
+{
+    let end = limit_of(d, e);
+    let mut i = a;
+    let mut n = 0;
+    loop {
+        let at = literal(y, d, i, end);
+        if end <= at {
+            return n;
+        }
+        if out.len() <= n {
+            return n;
+        }
+        out[n] = d[at];
+        n += 1;
+        i = at + 1;
+    }
+}
