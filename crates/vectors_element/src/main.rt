@@ -1,26 +1,22 @@
 // Prints what the crate `element` answers at the base's service characters, for the papers' examples and both sides of each rule.
 // The file stdout was worked out by hand from the papers.
+mod components;
+
 use cut::Syntax;
 use element::Count;
 use element::Format;
 use element::Number;
 use libc::STDOUT_FILENO;
 
-fn base() -> Syntax {
-    Syntax {
-        component: b':',
-        element: b'+',
-        decimal: b'.',
-        release: b'?',
-        terminator: b'\'',
-    }
+pub(crate) fn base() -> Syntax {
+    cut::base::syntax()
 }
 
-fn put(text: &[u8]) {
+pub(crate) fn put(text: &[u8]) {
     io::write_all(STDOUT_FILENO, text);
 }
 
-fn put_count(n: u64) {
+pub(crate) fn put_count(n: u64) {
     io::print_decimal(STDOUT_FILENO, n);
 }
 
@@ -31,7 +27,7 @@ fn put_amount(n: i64) {
     io::write_all(STDOUT_FILENO, &text[start..]);
 }
 
-fn put_answer(yes: bool) {
+pub(crate) fn put_answer(yes: bool) {
     if yes {
         put(b" yes");
     } else {
@@ -209,4 +205,5 @@ fn main() {
     codes();
     copies();
     texts();
+    components::lines();
 }
