@@ -1,11 +1,11 @@
 -- Admission of a delivery, UNA and the segments that it holds. Document 01, 'Cutting' and refusals 1 and 2.
 use Prim.Native.Nat.{ℕ}
 use mathlib.Core.Bool.{Bool, true, false, not, _&&_}
-use mathlib.Core.List.{List, [], _∷_}
+use mathlib.Core.List.{List, [], _∷_, _++_}
 use lib.ListN.{length, drop}
 use lib.Dec.{eqb, ltb}
 use Rattle.cut.specs.declared.service.Syntax.{Syntax}
-use Rattle.cut.specs.Bytes.{begins}
+use Rattle.cut.specs.Bytes.{bytesOf, begins}
 use Rattle.cut.specs.Segments.{Segment, segmentsFrom}
 
 -- "at most 1,048,576 bytes"
@@ -13,11 +13,11 @@ abbrev pub limit : ℕ
 limit = 1048576
 
 abbrev pub UNA : List ℕ
-UNA = 85 ∷ 78 ∷ 65 ∷ []
+UNA = bytesOf "UNA"
 
 -- the nine bytes as ISO 9735 orders them; the reserved one is a blank
 abbrev pub nine : Syntax → List ℕ
-nine y = 85 ∷ 78 ∷ 65 ∷ y .component ∷ y .element ∷ y .decimal ∷ y .release ∷ 32 ∷ y .terminator ∷ []
+nine y = UNA ++ (y .component ∷ y .element ∷ y .decimal ∷ y .release ∷ bytesOf " " ++ (y .terminator ∷ []))
 
 abbrev pub pickℕ : Bool → ℕ → ℕ → ℕ
 pickℕ true a b = a
@@ -31,6 +31,7 @@ admissionOf y d = pickℕ (ltb limit (length d)) 1 (pickℕ (begins UNA d && not
 unfoldable pub openingOf : List ℕ → ℕ
 openingOf d = pickℕ (begins UNA d) 9 0
 
+-- the segments if the test holds, else none
 abbrev pub onlyIf : Bool → List Segment → List Segment
 onlyIf true ss = ss
 onlyIf false ss = []

@@ -56,9 +56,11 @@ abbrev pub pickFound : Bool → Found → Found → Found
 pickFound true a b = a
 pickFound false a b = b
 
+-- a message as an answer: its start and end
 abbrev pub asFound : Message → Found
 asFound m = found.Message (startOf m) (closeOf m)
 
+-- the one of some messages that begins at a place
 unfoldable pub foundAt : ℕ → List Message → Found
 foundAt at [] = found.Nothing
 foundAt at (m ∷ ms) = pickFound (eqb at (startOf m)) (asFound m) (foundAt at ms)
@@ -67,6 +69,7 @@ foundAt at (m ∷ ms) = pickFound (eqb at (startOf m)) (asFound m) (foundAt at m
 unfoldable pub messageAt : Syntax → List ℕ → ℕ → Found
 messageAt y d at = foundAt at (messages y d)
 
+-- the first of some messages that begins at a place or later
 unfoldable pub foundFrom : ℕ → List Message → Found
 foundFrom from [] = found.Nothing
 foundFrom from (m ∷ ms) = pickFound (leb from (startOf m)) (asFound m) (foundFrom from ms)

@@ -6,7 +6,7 @@ use mathlib.Core.List.{List, [], _∷_, _++_, map}
 use lib.Dec.{eqb}
 use Rattle.cut.specs.declared.service.Syntax.{Syntax}
 use Rattle.cut.specs.Segments.{Segment, frees}
-use Rattle.cut.specs.Bytes.{begins}
+use Rattle.cut.specs.Bytes.{bytesOf, begins}
 use Rattle.cut.specs.Admission.{admissionOf}
 use Rattle.cut.specs.Messages.{Message, tagOf, body, begin}
 
@@ -28,6 +28,7 @@ unfoldable pub after : Syntax → Bool → List ℕ → Bool
 after y r [] = r
 after y r (x ∷ xs) = after y (frees y r x) xs
 
+-- a piece and the first of what follows as one segment
 unfoldable pub glued : Segment → List Segment → List Segment
 glued s [] = s ∷ []
 glued s (t ∷ ts) = record { start = s .start; bytes = s .bytes ++ t .bytes; piece = t .piece } ∷ ts
@@ -56,9 +57,9 @@ has x [] = false
 has x (z ∷ zs) = eqb x z || has x zs
 
 abbrev pub UNH : List ℕ
-UNH = 85 ∷ 78 ∷ 72 ∷ []
+UNH = bytesOf "UNH"
 
--- "two admitted deliveries, one the tail of the other, the tail starting with the bytes UNH"; U and N are no service characters
+-- "two admitted deliveries, one the tail of the other, the tail starting with the bytes UNH"; U (85) and N (78) are no service characters
 pub record Tail (y : Syntax) (front tail : List ℕ) : Type 0 where
   pub no-U : has 85 (service y) ≡ false
   pub no-N : has 78 (service y) ≡ false

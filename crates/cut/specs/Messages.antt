@@ -6,7 +6,7 @@ use lib.Dec.{eqb}
 use Rattle.cut.specs.declared.service.Syntax.{Syntax}
 use Rattle.cut.specs.declared.tags.Tag.{Tag}
 use Rattle.cut.specs.declared.tags.Tag.the-variants.{Unh, Unt, Unz, Other}
-use Rattle.cut.specs.Bytes.{begins}
+use Rattle.cut.specs.Bytes.{bytesOf, begins}
 use Rattle.cut.specs.Segments.{Segment, endOf}
 use Rattle.cut.specs.Admission.{segments}
 
@@ -17,9 +17,9 @@ pickTag false a b = b
 -- what a segment's first three bytes say
 unfoldable pub tagOf : List ℕ → Tag
 tagOf bs =
-    pickTag (begins (85 ∷ 78 ∷ 72 ∷ []) bs) Unh
-    (pickTag (begins (85 ∷ 78 ∷ 84 ∷ []) bs) Unt
-    (pickTag (begins (85 ∷ 78 ∷ 90 ∷ []) bs) Unz Other))
+    pickTag (begins (bytesOf "UNH") bs) Unh
+    (pickTag (begins (bytesOf "UNT") bs) Unt
+    (pickTag (begins (bytesOf "UNZ") bs) Unz Other))
 
 -- the segment that begins it, and those that follow in it
 pub record Message : Type 0 where
@@ -30,6 +30,7 @@ pub record Message : Type 0 where
 abbrev pub startOf : Message → ℕ
 startOf m = m .first .start
 
+-- where the last of some segments ends; e, if there is none
 unfoldable pub lastEnd : ℕ → List Segment → ℕ
 lastEnd e [] = e
 lastEnd e (s ∷ ss) = lastEnd (endOf s) ss
@@ -38,6 +39,7 @@ lastEnd e (s ∷ ss) = lastEnd (endOf s) ss
 abbrev pub closeOf : Message → ℕ
 closeOf m = lastEnd (endOf (m .first)) (m .rest)
 
+-- what of a segment and those after it belongs to the message that is open before it
 abbrev pub follow : Tag → Segment → List Segment → List Segment
 follow Unh s ss = []
 follow Unt s ss = s ∷ []
@@ -49,6 +51,7 @@ unfoldable pub body : List Segment → List Segment
 body [] = []
 body (s ∷ ss) = follow (tagOf (s .bytes)) s (body ss)
 
+-- the message that a segment begins, if it begins one, before those that begin later
 abbrev pub begin : Tag → Message → List Message → List Message
 begin Unh m ms = m ∷ ms
 begin Unt m ms = ms
@@ -60,6 +63,7 @@ unfoldable pub messagesIn : List Segment → List Message
 messagesIn [] = []
 messagesIn (s ∷ ss) = begin (tagOf (s .bytes)) (record { first = s; rest = body ss }) (messagesIn ss)
 
+-- the messages of a delivery
 unfoldable pub messages : Syntax → List ℕ → List Message
 messages y d = messagesIn (segments y d)
 
@@ -73,11 +77,12 @@ unfoldable pub beginsIn : ℕ → List Segment → Bool
 beginsIn at [] = false
 beginsIn at (s ∷ ss) = eqb at (s .start) || beginsIn at ss
 
+-- a segment before others, if it is to be kept
 abbrev pub keepIf : Bool → Segment → List Segment → List Segment
 keepIf true s ss = s ∷ ss
 keepIf false s ss = ss
 
--- those of ss that begin where none of `in` does
+-- those of ss that begin where none of `is` does
 unfoldable pub others : List Segment → List Segment → List Segment
 others is [] = []
 others is (s ∷ ss) = keepIf (not (beginsIn (s .start) is)) s (others is ss)
@@ -86,5 +91,6 @@ others is (s ∷ ss) = keepIf (not (beginsIn (s .start) is)) s (others is ss)
 unfoldable pub outsideIn : List Segment → List Segment
 outsideIn ss = others (inside (messagesIn ss)) ss
 
+-- what is outside in a delivery
 unfoldable pub outside : Syntax → List ℕ → List Segment
 outside y d = outsideIn (segments y d)
