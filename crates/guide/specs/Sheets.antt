@@ -1,0 +1,83 @@
+-- Document 01, 'Sheets on both sides of each rule': rows a to l, structure only.
+use Prim.Native.Nat.{ℕ}
+use Prim.Native.String.{String}
+use mathlib.Core.Bool.{Bool, true, false, _&&_}
+use mathlib.Core.List.{List, [], _∷_, _++_, map}
+use lib.Dec.{eqb}
+use Rattle.guide.specs.Nodes.{View, Guide, capacity}
+use Rattle.cut.specs.Bytes.{bytesOf}
+use Rattle.guide.specs.Tree.{Beginning}
+use Rattle.guide.specs.Placing.{Ran, fits, fault, run, start}
+use Rattle.guide.specs.Meaning.{Stops}
+
+abbrev pub pickBytes : Bool → List ℕ → List ℕ → List ℕ
+pickBytes true a b = a
+pickBytes false a b = b
+
+-- a segment with a tag alone, and one with a code in the first component after the tag
+abbrev pub bare : String → View
+bare t = record { tag = bytesOf t; key = λ e c. [] }
+
+abbrev pub with : String → String → View
+with t k = record { tag = bytesOf t; key = λ e c. pickBytes (eqb e 1 && eqb c 0) (bytesOf k) [] }
+
+-- what is said of a sheet: it fits, or the refusal's number, segment and node
+pub data Said : Type 0 where
+  fitting : Said
+  refusal : ℕ → ℕ → ℕ → Said
+
+abbrev pub said : Ran → Said
+said (fits st) = fitting
+said (fault k i n) = refusal k i n
+
+pub record Sheet : Type 0 where
+  pub segments : List View
+  pub expected : Said
+
+-- "Let H be UNH BGM DTM/137 RFF/Z13 NAD/MR NAD/MS"; its first four are H4
+abbrev pub H4 : List View
+H4 = bare "UNH" ∷ bare "BGM" ∷ with "DTM" "137" ∷ with "RFF" "Z13" ∷ []
+
+abbrev pub H : List View
+H = H4 ++ (with "NAD" "MR" ∷ with "NAD" "MS" ∷ [])
+
+abbrev pub sheet : List View → Said → Sheet
+sheet ss x = record { segments = ss; expected = x }
+
+abbrev pub a-to-l : List Sheet
+a-to-l =
+    -- a H UNT fits. b H with MS before MR, UNT, fits
+    sheet (H ++ (bare "UNT" ∷ [])) fitting
+    ∷ sheet (H4 ++ (with "NAD" "MS" ∷ with "NAD" "MR" ∷ bare "UNT" ∷ [])) fitting
+    -- c UNH UNT: 14 at 2, node 2. d UNH BGM RFF/Z13: 14 at 3, node 4
+    ∷ sheet (bare "UNH" ∷ bare "UNT" ∷ []) (refusal 14 2 2)
+    ∷ sheet (bare "UNH" ∷ bare "BGM" ∷ with "RFF" "Z13" ∷ []) (refusal 14 3 4)
+    -- e UNH BGM DTM/163: 13 at 3
+    ∷ sheet (bare "UNH" ∷ bare "BGM" ∷ with "DTM" "163" ∷ []) (refusal 13 3 0)
+    -- f UNH BGM DTM/137 RFF/Z13 NAD/MR NAD/MR: 15 at 6, node 9. g the same with CTA as sixth: 13 at 6
+    ∷ sheet (H4 ++ (with "NAD" "MR" ∷ with "NAD" "MR" ∷ [])) (refusal 15 6 9)
+    ∷ sheet (H4 ++ (with "NAD" "MR" ∷ bare "CTA" ∷ [])) (refusal 13 6 0)
+    -- h H CTA UNT: 14 at 8, node 13. i H CTA and six COM: 15 at 13, node 13
+    ∷ sheet (H ++ (bare "CTA" ∷ bare "UNT" ∷ [])) (refusal 14 8 13)
+    ∷ sheet (H ++ (bare "CTA" ∷ bare "COM" ∷ bare "COM" ∷ bare "COM" ∷ bare "COM" ∷ bare "COM" ∷ bare "COM" ∷ [])) (refusal 15 13 13)
+    -- j H PGI/Z01 LIN UNT: 14 at 9, node 24. k H PGI/Z01 LIN PRI PRI: 15 at 10, node 24. l H PGI/Z01 UNT: 14 at 8, node 23
+    ∷ sheet (H ++ (with "PGI" "Z01" ∷ bare "LIN" ∷ bare "UNT" ∷ [])) (refusal 14 9 24)
+    ∷ sheet (H ++ (with "PGI" "Z01" ∷ bare "LIN" ∷ bare "PRI" ∷ bare "PRI" ∷ [])) (refusal 15 10 24)
+    ∷ sheet (H ++ (with "PGI" "Z01" ∷ bare "UNT" ∷ [])) (refusal 14 8 23)
+    ∷ []
+
+-- what placing says of each sheet
+abbrev pub saidOf : Guide → List Sheet → List Said
+saidOf g sheets = map (λ (x : Sheet). said (run g 1 (x .segments) (start capacity))) sheets
+
+abbrev pub expectedOf : List Sheet → List Said
+expectedOf sheets = map (λ (x : Sheet). x .expected) sheets
+
+-- what the row says over trees: the segments are a beginning, or the refusal's row holds where it says
+abbrev pub Means : Guide → List View → Said → Type 0
+Means g ss fitting = Beginning g (λ v. v) ss
+Means g ss (refusal k i n) = Stops g (λ v. v) ss k i n
+
+abbrev pub AllMean : Guide → List Sheet → Type 0
+AllMean g [] = Unit {0}
+AllMean g (x ∷ xs) = Means g (x .segments) (x .expected) × AllMean g xs
