@@ -1,15 +1,52 @@
 -- The face of placing: a law for each way that code over the last node and a row of counts can answer.
-use Prim.Native.Nat.{ℕ, suc, _≤_, _<_}
+use Prim.Native.Nat.{ℕ, zero, suc, _≤_, _<_}
 use mathlib.Core.Path.{_≡_, refl}
-use mathlib.Core.Bool.{Bool, true, false}
+use mathlib.Core.Bool.{Bool, true, false, and-false}
 use mathlib.Core.List.{List}
 use native.Mathlib.Omega.{arith}
-use lib.Dec.{eqb}
-use borrow.Author.Tests.{eq-eqb, ne-eqb, lt-ltb, le-ltb}
-use Rattle.guide.specs.Nodes.{View, Guide, node, over}
+use lib.Dec.{eqb, ltb}
+use borrow.Author.Tests.{eq-eqb, ne-eqb, lt-ltb, le-ltb, le-leb, lt-leb}
+use Rattle.guide.specs.Nodes.{View, Guide, node, matches, required, over}
 use Rattle.guide.specs.Placing.{firstNode, Level, levels, fitsIn, seek, tally, lacking, missing, placed, refused, place}
 use Rattle.guide.specs.Choices.{pickℕ}
 use Rattle.guide.proofs.Basics.{orElse-some}
+
+-- the test at one node, when the node that takes the segment is looked for
+module _ (g : Guide) (v : View) (p c n : ℕ) where
+  pub fits-elsewhere : (node g n .parent ≡ p → ⊥) → fitsIn g v p c n ≡ false
+  unfolding fitsIn
+  fits-elsewhere d = rw (ne-eqb (node g n .parent) p d)
+
+  pub fits-passed : node g n .counter < c → fitsIn g v p c n ≡ false
+  unfolding fitsIn
+  fits-passed h = rw (lt-leb c (node g n .counter) h, and-false)
+
+  pub fits-matching : node g n .parent ≡ p → c ≤ node g n .counter → fitsIn g v p c n ≡ matches (node g n) v
+  unfolding fitsIn
+  fits-matching e h = rw (eq-eqb (node g n .parent) p e, le-leb c (node g n .counter) h)
+
+-- the test at one node, when the missing node is looked for
+module _ (g : Guide) (cs : List ℕ) (n p m : ℕ) where
+  pub lacking-elsewhere : (node g m .parent ≡ p → ⊥) → lacking g cs n p m ≡ false
+  unfolding lacking
+  lacking-elsewhere d = rw (ne-eqb (node g m .parent) p d)
+
+  pub lacking-optional : required g m (tally cs) ≡ false → lacking g cs n p m ≡ false
+  unfolding lacking
+  lacking-optional e = rw (e, and-false)
+
+  pub lacking-come : (tally cs m ≡ 0 → ⊥) → lacking g cs n p m ≡ false
+  unfolding lacking
+  lacking-come d = rw (ne-eqb (tally cs m) 0 d, and-false, and-false)
+
+  module _ (e : node g m .parent ≡ p) (q : required g m (tally cs) ≡ true) (z : tally cs m ≡ 0) where
+    pub lacking-closed : (p ≡ node g n .parent → ⊥) → lacking g cs n p m ≡ true
+    unfolding lacking
+    lacking-closed d = rw (eq-eqb (node g m .parent) p e, q, eq-eqb (tally cs m) 0 z, ne-eqb p (node g n .parent) d)
+
+    pub lacking-taking : p ≡ node g n .parent → lacking g cs n p m ≡ ltb (node g m .counter) (node g n .counter)
+    unfolding lacking
+    lacking-taking h = rw (eq-eqb (node g m .parent) p e, q, eq-eqb (tally cs m) 0 z, eq-eqb p (node g n .parent) h)
 
 -- the search for the node, at one level and then outward
 module _ (g : Guide) (v : View) (k p c : ℕ) where
@@ -26,6 +63,12 @@ module _ (g : Guide) (v : View) (k p c : ℕ) where
       → seek g v (levels g (suc k) p c) ≡ seek g v (levels g k (node g p .parent) (node g p .counter))
   unfolding seek levels
   seek-up e z = rw (e, ne-eqb p 0 z)
+
+-- the search for the missing node does not look at the counters reached
+pub missing-any : (g : Guide) (cs : List ℕ) (n k p c d : ℕ) → missing g cs n (levels g k p c) ≡ missing g cs n (levels g k p d)
+unfolding missing levels
+missing-any g cs n zero p c d = refl
+missing-any g cs n (suc k) p c d = refl
 
 -- the search for the missing node, at one level and then outward
 module _ (g : Guide) (cs : List ℕ) (n k p c : ℕ) where

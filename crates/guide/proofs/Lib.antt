@@ -15,6 +15,7 @@ pub mod Faults
 pub mod Editions
 pub mod Columns
 pub mod Links
+pub mod Clearing
 pub mod Face
 pub mod Sheets
 pub mod PageSamples
@@ -27,4 +28,16 @@ pub mod PageHolds
 pub mod Leftmost
 pub mod PageFirst
 pub mod OnePass
+pub mod SegmentPass
 pub mod PageFace
+pub mod Framing
+pub mod Enclosing
+pub mod Faultless
+pub mod Answering
+pub mod FaultlessParts
+pub mod FaultlessTree
+pub mod FrameRules
+pub mod ProperThrough
+pub mod Verdicts
+pub mod JudgedProper
+pub mod Keeping

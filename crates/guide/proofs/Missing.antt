@@ -1,5 +1,5 @@
 -- The search outward for the lowest missing node finds what the tree says.
-use Prim.Native.Nat.{ℕ, _≤_, _<_}
+use Prim.Native.Nat.{ℕ, _-_, _≤_, _<_}
 use mathlib.Core.Path.{_≡_, refl, sym, _∙_}
 use mathlib.Core.Bool.{Bool, true, false, not, _&&_, _||_}
 use mathlib.Core.List.{List, _∷_}
@@ -26,11 +26,11 @@ pub data Least (P : ℕ → Type 0) : ℕ → Type 0 where
 least-of
     : (g : Guide) (test : ℕ → Bool) (P : ℕ → Type 0) → ((m : ℕ) → T (test m) → P m) → ((m : ℕ) → P m → T (test m)) → ((m : ℕ) → P m → 0 < m)
     → ((m : ℕ) → P m → m < length g) → Least P (firstNode g test)
-least-of g test P to from some within = go (searched test 1 (length g))
+least-of g test P to from some within = go (searched test 1 (length g - 1))
   where
-    go : {n : ℕ} → Search test 1 (length g) n → Least P n
+    go : {n : ℕ} → Search test 1 (length g - 1) n → Least P n
     go (found {n = n} l e h low) = least l (record { holds = to n h; lowest = λ x i p. low x (some x p) i (from x p) })
-    go (nowhere never) = absent (λ m p. never m (some m p) (let w = within m p in omega arith) (from m p))
+    go (nowhere never) = absent (λ m p. never m (some m p) (let w = within m p in let s = some m p in omega arith) (from m p))
 
 module _ (g : Guide) (cs : List ℕ) (n : ℕ) where
   abbrev pub dueNow : ℕ → ℕ → Bool

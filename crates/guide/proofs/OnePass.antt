@@ -8,7 +8,7 @@ use lib.ListN.{getD, drop}
 use Rattle.cut.specs.declared.service.Syntax.{Syntax}
 use Rattle.element.specs.Plain.{plain}
 use Rattle.element.specs.Numeral.{some, none}
-use Rattle.guide.specs.Page.{must, may, Row, used, unused, Composite}
+use Rattle.guide.specs.Page.{must, may, Row, used, unused, Composite, beyond}
 use Rattle.guide.specs.PageFault.{firstOf, notUsed, missing, wrongFormat, wrongCode, textFault, componentFault, anyFilled, elementFault}
 use Rattle.guide.specs.Choices.{pickℕ, orElse}
 use Rattle.guide.proofs.Scanned.{firstOf-scan, none-scan}
@@ -61,7 +61,7 @@ passFault y m rs (b ∷ bs) =
     let t = plain y false b in
     orElse (moodFault y m r t) (passFault y (moodAfter m r t) (drop 1 rs) bs)
 
-firstOf-step
+pub firstOf-step
     : {A B : Type 0} (f : A → B → ℕ) (a : A) (b : B) (rs : List A) (t : B) (ts : List B)
     → firstOf f a b rs (t ∷ ts) ≡ orElse (f (getD rs 0 a) t) (firstOf f a b (drop 1 rs) ts)
 unfolding firstOf
@@ -70,14 +70,14 @@ firstOf-step f a b (r ∷ rs) t ts = refl
 
 module _ (y : Syntax) where
   -- at an empty component: missing, where a must component is asked for
-  empty-fault : (asked : Bool) (r : Row) → textFault y asked r [] ≡ pickℕ (isMust r && asked) 17 0
+  pub empty-fault : (asked : Bool) (r : Row) → textFault y asked r [] ≡ pickℕ (isMust r && asked) 17 0
   unfolding textFault notUsed missing wrongFormat wrongCode some none isMust
   empty-fault asked (used must f cs) = refl
   empty-fault asked (used may f cs) = refl
   empty-fault asked unused = refl
 
   -- at one that stands nothing is missing
-  filled-fault : (r : Row) (x : ℕ) (xs : List ℕ) → textFault y false r (x ∷ xs) ≡ textFault y true r (x ∷ xs)
+  pub filled-fault : (r : Row) (x : ℕ) (xs : List ℕ) → textFault y false r (x ∷ xs) ≡ textFault y true r (x ∷ xs)
   unfolding textFault notUsed missing none
   filled-fault (used must f cs) x xs = refl
   filled-fault (used may f cs) x xs = refl
@@ -160,3 +160,26 @@ module _ (y : Syntax) where
           → passFault y (pickMood q asking idle) (k .rows) bs ≡ firstOf (componentFault y (q || anyFilled y bs)) unused [] (k .rows) bs
       go true = asking-pass (k .rows) bs
       go false = idle-pass (k .rows) bs
+
+-- the fault of an element that does not stand: a must row of a required one is missing
+alone : (y : Syntax) (k : Composite) → elementFault y k [] ≡ pickℕ (k .required && anyMust (k .rows)) 17 0
+unfolding passFault endFault opened
+alone y k = sym (element-pass y k []) ∙ go (k .required)
+  where
+    go : (q : Bool) → endFault (pickMood q asking idle) (k .rows) ≡ pickℕ (q && anyMust (k .rows)) 17 0
+    go true = refl
+    go false = refl
+
+-- and of several
+unfoldable pub absentFault : List Composite → ℕ
+absentFault [] = 0
+absentFault (k ∷ ks) = pickℕ (k .required && anyMust (k .rows)) 17 (absentFault ks)
+
+pub absent-pass : (y : Syntax) (ks : List Composite) → firstOf (elementFault y) beyond [] ks [] ≡ absentFault ks
+unfolding firstOf absentFault
+absent-pass y [] = refl
+absent-pass y (k ∷ ks) = rw (alone y k, absent-pass y ks) (go (k .required && anyMust (k .rows)))
+  where
+    go : (b : Bool) → orElse (pickℕ b 17 0) (absentFault ks) ≡ pickℕ b 17 (absentFault ks)
+    go true = refl
+    go false = refl

@@ -19,7 +19,7 @@ use Rattle.guide.specs.Choices.{pickℕ}
 use Rattle.guide.proofs.Listing.{begun, or-cases, or-right, off-coded, off-other, off-list, filled-found, found-filled}
 
 -- the fault of a text on a row that is not used
-unused-filled : (y : Syntax) (asked : Bool) (t : List ℕ) → (t ≡ [] → ⊥) → textFault y asked unused t ≡ 18
+pub unused-filled : (y : Syntax) (asked : Bool) (t : List ℕ) → (t ≡ [] → ⊥) → textFault y asked unused t ≡ 18
 unfolding textFault notUsed some
 unused-filled y asked [] h = absurd (h refl)
 unused-filled y asked (x ∷ xs) h = refl
@@ -30,7 +30,7 @@ unfolding textFault notUsed isMissing none
 must-empty y f cs = refl
 
 -- and of a text on a row in use: that of its format, or that of its code, or none
-used-filled
+pub used-filled
     : (y : Syntax) (asked : Bool) (k : Status) (f : Format) (cs : List (List ℕ)) (t : List ℕ) → (t ≡ [] → ⊥)
     → textFault y asked (used k f cs) t ≡ pickℕ (not (fitsFormat y f t)) 19 (pickℕ (not (onList cs t)) 20 0)
 unfolding textFault notUsed isMissing wrongFormat wrongCode some none

@@ -11,8 +11,8 @@ use Rattle.element.specs.Numeral.{some, none, isDigit, digitsAhead, behindDigit
 use Rattle.element.specs.Format.{fitsFormat}
 use Rattle.guide.specs.Page.{must, Page, codes, optional, simple}
 use Rattle.cut.specs.Bytes.{bytesOf}
-use Rattle.guide.specs.Composites.{S009, C002, C106, C507, C506, C082, C517, C056, C076, C504, C212, services, C272, C273, C509, basis, C280}
-use Rattle.guide.specs.Pages20d.{coded, UNH, BGM, DTM, RFF, NAD, LOC, CTA, COM, CUX, PGI, LIN, PIA, IMD, PRI, RNG, UNT, pages20d, pageOf}
+use Rattle.guide.specs.Composites.{C273}
+use Rattle.guide.specs.Pages20d.{pages20d, pageOf}
 use Rattle.guide.specs.PageFault.{firstOf, among, onList, notUsed, missing, wrongFormat, wrongCode, textFault, componentFault, anyFilled, elementFault, pageFault}
 
 -- the fault of a segment on a page, with the base's service characters
@@ -25,9 +25,7 @@ faultOn page segment = pageFault edifact page (bytesOf segment)
 
 -- at a node of PRICAT 2.0d
 at : ℕ → String → ℕ
-unfolding
-    faultOn S009 C002 C106 C507 C506 C082 C517 C056 C076 C504 C212 services C272 C273 C509 basis C280 coded UNH BGM DTM RFF NAD LOC CTA
-    COM CUX PGI LIN PIA IMD PRI RNG UNT pages20d pageOf
+unfolding faultOn pages20d pageOf
 at node segment = faultOn (pageOf node) segment
 
 -- "`PRI+CAL:168.06::::ANN'` fits; with three colons 19"

@@ -1,5 +1,5 @@
 -- The search outward for the node that takes a segment finds what the tree says.
-use Prim.Native.Nat.{ℕ, _≤_, _<_}
+use Prim.Native.Nat.{ℕ, _-_, _≤_, _<_}
 use mathlib.Core.Path.{_≡_, _∙_}
 use mathlib.Core.Bool.{_&&_}
 use mathlib.Core.List.{List, _∷_}
@@ -53,9 +53,9 @@ module _ (g : Guide) (r : Rising g) (v : View) where
     miss : ((n : ℕ) → T (takes g n v) → node g n .parent ≡ p → c ≤ node g n .counter → ⊥) → Hit p c 0
 
   pub hits : (p c : ℕ) → Hit p c (firstNode g (fitsIn g v p c))
-  hits p c = go (searched (fitsIn g v p c) 1 (length g))
+  hits p c = go (searched (fitsIn g v p c) 1 (length g - 1))
     where
-      go : {n : ℕ} → Search (fitsIn g v p c) 1 (length g) n → Hit p c n
+      go : {n : ℕ} → Search (fitsIn g v p c) 1 (length g - 1) n → Hit p c n
       go (found {n = n} l e h low) =
           let parts = fits-parts p c n h in
           hit l (first-takes p c n h low) (parts .0) (parts .1)

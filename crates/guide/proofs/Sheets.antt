@@ -15,6 +15,7 @@ use Rattle.guide.specs.Placing.{
   lacking,
   missing,
   place,
+  indexed,
   recounted,
   countsAfter,
   lastAfter,
@@ -30,7 +31,7 @@ use Rattle.guide.proofs.Editions.{pricat20d-passes, whole-iff, beginnin
 
 -- The twelve rows.
 pub sheets-hold : saidOf pricat20d a-to-l ≡ expectedOf a-to-l
-unfolding matches same among chosen required over pricat20d lowest levels fitsIn seek lacking missing place recounted countsAfter lastAfter run
+unfolding matches same among chosen required over pricat20d lowest levels fitsIn seek lacking missing place indexed recounted countsAfter lastAfter run
 sheets-hold = refl
 
 map-same : (vs : List View) → map (λ v. v) vs ≡ vs
@@ -60,9 +61,9 @@ sheets-mean = all-mean pricat20d pricat20d-passes a-to-l sheets-hold
 
 -- a and b are whole messages.
 pub case-a : Whole pricat20d (λ v. v) (H ++ (bare "UNT" ∷ []))
-unfolding matches same among chosen required over pricat20d lowest levels fitsIn seek lacking missing place recounted countsAfter lastAfter run
+unfolding matches same among chosen required over pricat20d lowest levels fitsIn seek lacking missing place indexed recounted countsAfter lastAfter run
 case-a = whole-iff pricat20d 26 pricat20d-passes (λ v. v) (H ++ (bare "UNT" ∷ [])) .0 (_, refl, refl)
 
 pub case-b : Whole pricat20d (λ v. v) (H4 ++ (with "NAD" "MS" ∷ with "NAD" "MR" ∷ bare "UNT" ∷ []))
-unfolding matches same among chosen required over pricat20d lowest levels fitsIn seek lacking missing place recounted countsAfter lastAfter run
+unfolding matches same among chosen required over pricat20d lowest levels fitsIn seek lacking missing place indexed recounted countsAfter lastAfter run
 case-b = whole-iff pricat20d 26 pricat20d-passes (λ v. v) (H4 ++ (with "NAD" "MS" ∷ with "NAD" "MR" ∷ bare "UNT" ∷ [])) .0 (_, refl, refl)

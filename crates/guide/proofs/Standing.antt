@@ -102,18 +102,18 @@ module _ {A : Type 0} (g : Guide) (view : A → View) (r : Rising g) where
   levels-spine f o = walk 0 f [] o (λ k i. refl) (suc (lastNode g 0 f)) (omega arith)
 
   module _ (n : ℕ) (s : A) (t : T (takes g n (view s))) (cs : List ℕ) (room : length g ≤ length cs) where
-    counted-same : (p : ℕ) (f : Kids A) → p < node g n .parent → Counted g p f cs → Counted g p f (recounted g n 0 cs)
+    counted-same : (p : ℕ) (f : Kids A) → p < node g n .parent → Counted g p f cs → Counted g p f (recounted g n cs)
     counted-same p f h c m e =
         let up = rise n (view s) t in
         recounted-other g n cs m (λ q. omega (arith, ap (λ (x : ℕ). node g x .parent) q)) (λ q. omega arith) ∙ c m e
 
-    counts-same : (p : ℕ) (f : Kids A) → node g n .parent ≡ p → Counted g p f cs → Counted g p (then f n s none) (recounted g n 0 cs)
+    counts-same : (p : ℕ) (f : Kids A) → node g n .parent ≡ p → Counted g p f cs → Counted g p (then f n s none) (recounted g n cs)
     counts-same p f u c m e = go (eqb n m) refl
       where
         up : node g n .parent < n
         up = rise n (view s) t
 
-        go : (b : Bool) → eqb n m ≡ b → tally (recounted g n 0 cs) m ≡ count f m + one b
+        go : (b : Bool) → eqb n m ≡ b → tally (recounted g n cs) m ≡ count f m + one b
         go true q =
             let i : n < length cs = omega (arith, in-table g n (takes-limit g n (view s) t)) in
             let same : n ≡ m = eqb-true n m q in
@@ -121,14 +121,14 @@ module _ {A : Type 0} (g : Guide) (view : A → View) (r : Rising g) where
         go false q =
             recounted-other g n cs m (λ i. eqb-false n m q (sym i)) (λ i. omega (arith, up)) ∙ (c m e ∙ omega arith)
 
-    counts-new : Counted {A = A} g n none (recounted g n 0 cs)
+    counts-new : Counted {A = A} g n none (recounted g n cs)
     counts-new m e =
         let up = rise n (view s) t in
         recounted-child g n cs m (λ q. omega (arith, ap (λ (x : ℕ). node g x .parent) q)) e
 
     pub counts-add
         : (F : Claim A) → Possible g F → (p : ℕ) (f : Kids A) (d : At F p f n) → Open g view p f
-        → Counts g p f cs → Counts g p (add d s) (recounted g n 0 cs)
+        → Counts g p f cs → Counts g p (add d s) (recounted g n cs)
     unfolding Counts Open
     counts-add F mi p f (here h) o c = (counts-same p f (mi p f n h .under) (counted g p f cs c), counts-new)
     counts-add F mi p f (below {l = l} {x = x} {t = t′} {k = k} d) o c =
@@ -149,5 +149,5 @@ module _ {A : Type 0} (g : Guide) (view : A → View) (r : Rising g) where
       record {
         last = sym (last-add F 0 f n s d);
         counts = counts-add n s t (st .counts) (z .room) F mi 0 f d o (z .counts);
-        room = omega (arith, z .room, recounted-length g n 0 (st .counts));
+        room = omega (arith, z .room, recounted-length g n (st .counts));
       }

@@ -55,6 +55,14 @@ pub required-any : (g : Guide) (m : ℕ) (a b : ℕ → ℕ) → T (required g m
 unfolding required
 required-any g m a b h = h
 
+pub required-is : (g : Guide) (m : ℕ) (seen : ℕ → ℕ) → required g m seen ≡ node g m .must
+unfolding required
+required-is g m seen = refl
+
+pub over-is : (g : Guide) (n : ℕ) (seen : ℕ → ℕ) → over g n seen ≡ node g n .refusal
+unfolding over
+over-is g n seen = refl
+
 pub over-any : (g : Guide) (n : ℕ) (a b : ℕ → ℕ) → over g n a ≡ over g n b
 unfolding over
 over-any g n a b = refl
@@ -197,14 +205,16 @@ module _ (g : Guide) where
           let l : length g ≤ n = ltb-false n (length g) e in
           absurd (rw (List·getD-eq-default g message l) at h)
 
+  parent-below : T (rising g) → (n : ℕ) → n < length g → T (ltb 0 n || ltb 0 (node g n .limit)) → node g n .parent < n
+  parent-below h n l k =
+      ltb→lt _ _ (implied (ltb 0 n || ltb 0 (node g n .limit)) (ltb (node g n .parent) n) (and-left (lowerParent g n) (mustTakes g n) (rising-at h n l)) k)
+
   pub rising-holds : T (rising g) → Rising g
   unfolding required
   rising-holds h =
       record {
-        rises =
-            λ n l.
-            let t = rising-at h n (in-table g n l) in
-            ltb→lt _ _ (implied (ltb 0 (node g n .limit)) (ltb (node g n .parent) n) (and-left (lowerParent g n) (mustTakes g n) t) (lt→ltb _ _ l));
+        below = λ n k l. parent-below h n l (or-left (ltb 0 n) (ltb 0 (node g n .limit)) (lt→ltb 0 n k));
+        rises = λ n l. parent-below h n (in-table g n l) (or-right (ltb 0 n) (ltb 0 (node g n .limit)) (lt→ltb 0 (node g n .limit) l));
         taking =
             λ n seen m.
             let t = rising-at h n (must-inside n m) in

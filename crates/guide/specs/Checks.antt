@@ -18,9 +18,9 @@ abbrev pub implies : Bool → Bool → Bool
 implies true b = b
 implies false b = true
 
--- a node that takes segments has a parent of a lower number, and a required node takes segments
+-- every node but the message has a parent of a lower number, the message takes no segment, and a required node takes segments
 abbrev pub lowerParent : Guide → ℕ → Bool
-lowerParent g n = implies (ltb 0 (node g n .limit)) (ltb (node g n .parent) n)
+lowerParent g n = implies (ltb 0 n || ltb 0 (node g n .limit)) (ltb (node g n .parent) n)
 
 abbrev pub mustTakes : Guide → ℕ → Bool
 mustTakes g n = implies (node g n .must) (ltb 0 (node g n .limit))
@@ -81,6 +81,7 @@ ends g z =
 
 -- what `rising` gives
 pub record Rising (g : Guide) : Type 0 where
+  pub below : (n : ℕ) → 0 < n → n < length g → node g n .parent < n
   pub rises : (n : ℕ) → 0 < node g n .limit → node g n .parent < n
   pub taking : (n : ℕ) (seen : ℕ → ℕ) → T (required g n seen) → 0 < node g n .limit
 

@@ -17,5 +17,7 @@ pub mod FirstFault
 pub mod PageFault
 pub mod Views
 pub mod Sheet
+pub mod Frames
 pub mod Accepted
 pub mod Judging
+pub mod Refusal

@@ -7,7 +7,7 @@ use lib.ListN.{getD}
 use Rattle.element.specs.declared.formats.Format.{Format}
 use Rattle.element.specs.declared.formats.Format.the-variants.{AnUpTo, NUpTo, N}
 use Rattle.guide.specs.Page.{must, may, Row, used, unused, Page, codes, any, required, optional, simple}
-use Rattle.guide.specs.Composites.{S009, C002, C106, C507, C506, C082, C517, C056, C076, C504, C212, C272, C273, C509, basis, C280}
+use Rattle.guide.specs.Composites.{S009, C002, C106, C507, C506, C082, C517, C056, C076, C504, C212, services, C272, C273, C509, basis, C280}
 
 -- an element with one code of up to three bytes
 unfoldable pub coded : String → Row
@@ -124,8 +124,11 @@ UNT =
     ∷ simple (used must (AnUpTo 14) any)  -- 0062
     ∷ []
 
--- all of them by their nodes; there is no node 0
+-- all of them by their nodes; there is no node 0. To unfold them is to unfold what they are made of
 unfoldable pub pages20d : List Page
+unfolding
+    codes simple coded S009 C002 C106 C507 C506 C082 C517 C056 C076 C504 C212 services C272 C273 C509 basis C280 UNH BGM DTM RFF NAD
+    LOC CTA COM CUX PGI LIN PIA IMD PRI RNG UNT
 pages20d =
     []  -- 0
     ∷ UNH  -- 1

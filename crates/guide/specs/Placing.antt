@@ -1,6 +1,6 @@
 -- Placing one segment after another: the first fault in document 01's order 13, 15 or 16, 14. The state is the last node and how often each
 -- node has come in the open instance of its parent; no tree is kept.
-use Prim.Native.Nat.{ℕ, zero, suc}
+use Prim.Native.Nat.{ℕ, zero, suc, _-_}
 use mathlib.Core.Bool.{Bool, true, false, not, _&&_, _||_}
 use mathlib.Core.List.{List, [], _∷_}
 use lib.ListN.{length, getD, replicate}
@@ -15,7 +15,7 @@ lowest test i (suc k) = pickℕ (test i) i (lowest test (suc i) k)
 
 -- the lowest node that passes the test
 abbrev pub firstNode : Guide → (ℕ → Bool) → ℕ
-firstNode g test = lowest test 1 (length g)
+firstNode g test = lowest test 1 (length g - 1)
 
 -- an open instance: its node, and the counter that its children have reached
 pub record Level : Type 0 where
@@ -85,14 +85,17 @@ place g v last cs = answer g cs (levels g (suc last) last 0) (seek g v (levels g
 abbrev pub recount : Guide → ℕ → ℕ → ℕ → ℕ
 recount g n m c = pickℕ (eqb m n) (suc c) (pickℕ (eqb (node g m .parent) n) 0 c)
 
--- the counts from node m on
-unfoldable pub recounted : Guide → ℕ → ℕ → List ℕ → List ℕ
-recounted g n m [] = []
-recounted g n m (c ∷ cs) = recount g n m c ∷ recounted g n (suc m) cs
+-- f of each node's number and count, from node m on
+unfoldable pub indexed : (ℕ → ℕ → ℕ) → ℕ → List ℕ → List ℕ
+indexed f m [] = []
+indexed f m (c ∷ cs) = f m c ∷ indexed f (suc m) cs
+
+unfoldable pub recounted : Guide → ℕ → List ℕ → List ℕ
+recounted g n cs = indexed (recount g n) 0 cs
 
 -- the counts afterwards; a refusal leaves them as they are
 unfoldable pub countsAfter : Guide → Answer → List ℕ → List ℕ
-countsAfter g (placed n) cs = recounted g n 0 cs
+countsAfter g (placed n) cs = recounted g n cs
 countsAfter g (refused k m) cs = cs
 
 unfoldable pub lastAfter : Answer → ℕ → ℕ
