@@ -1,0 +1,139 @@
+-- Laws of the open levels: both searches over the list of levels, as walks from a node to its parent.
+use Prim.Native.Nat.{ℕ, zero, suc, _-_, _≤_, _<_}
+use mathlib.Core.Path.{_≡_, refl, sym, _∙_, ap}
+use mathlib.Core.Bool.{Bool, true, false, and-false}
+use mathlib.Core.List.{List, [], _∷_}
+use native.Mathlib.Omega.{arith}
+use lib.ListN.{length, List·getD-eq-default}
+use lib.Dec.{eqb, ltb}
+use borrow.Author.Tests.{eq-eqb, ne-eqb, eqb-false, ltb-true, ltb-false}
+use Rattle.guide.specs.Nodes.{View, message, node, matches}
+use Rattle.guide.specs.Placing.{firstNode, Level, pickLevels, levels, fitsIn, seek}
+use Rattle.guide.specs.Choices.{orElse}
+use Rattle.judge.specs.declared.editions.Edition.{Edition}
+use Rattle.judge.specs.Editions.{guideOf}
+use Rattle.judge.proofs.Sound.{sound-at}
+use Rattle.judge.proofs.Tables.{table-fits}
+use Rattle.judge.proofs.Links.{lowest-none}
+
+pub orElse-none : (a : ℕ) → orElse a 0 ≡ a
+orElse-none zero = refl
+orElse-none (suc a) = refl
+
+pub orElse-some : (a b : ℕ) → (a ≡ 0 → ⊥) → orElse a b ≡ a
+orElse-some zero b h = absurd (h refl)
+orElse-some (suc a) b h = refl
+
+pub orElse-assoc : (a b c : ℕ) → orElse (orElse a b) c ≡ orElse a (orElse b c)
+orElse-assoc zero b c = refl
+orElse-assoc (suc a) b c = refl
+
+module _ (e : Edition) where
+  pub parent-lower : (p : ℕ) → (p ≡ 0 → ⊥) → p < length (guideOf e) → node (guideOf e) p .parent < p
+  parent-lower p h l = sound-at e p (omega arith) l .lower
+
+  -- the levels from a node of the table end at the message, however many are asked for
+  levels-end : (k j p c : ℕ) → p ≤ k → p ≤ j → p < length (guideOf e) → levels (guideOf e) (suc k) p c ≡ levels (guideOf e) (suc j) p c
+  unfolding levels
+  levels-end zero j p c a b l =
+      let z : p ≡ 0 = omega arith in
+      rw (eq-eqb p 0 z)
+  levels-end (suc k) j p c a b l = go (eqb p 0) refl j b (levels-end k)
+    where
+      go
+          : (t : Bool) → eqb p 0 ≡ t → (j : ℕ) → p ≤ j
+          → ((i q c : ℕ) → q ≤ k → q ≤ i → q < length (guideOf e) → levels (guideOf e) (suc k) q c ≡ levels (guideOf e) (suc i) q c)
+          → _≡_ {A = List Level}
+          (record { node = p; reached = c } ∷ pickLevels t [] (levels (guideOf e) (suc k) (node (guideOf e) p .parent) (node (guideOf e) p .counter)))
+          (record { node = p; reached = c } ∷ pickLevels t [] (levels (guideOf e) j (node (guideOf e) p .parent) (node (guideOf e) p .counter)))
+      go true q j b ih = refl
+      go false q zero b ih = absurd (eqb-false p 0 q (omega arith))
+      go false q (suc i) b ih =
+          let r = parent-lower p (eqb-false p 0 q) l in
+          ap (λ (ls : List Level). record { node = p; reached = c } ∷ ls)
+          (ih i (node (guideOf e) p .parent) (node (guideOf e) p .counter) (omega arith) (omega arith) (omega arith))
+
+  -- the levels from p outward: p, and then those from its parent
+  pub levels-up
+      : (p c : ℕ) → (p ≡ 0 → ⊥) → p < length (guideOf e)
+      → levels (guideOf e) (suc p) p c
+      ≡ record { node = p; reached = c } ∷ levels (guideOf e) (suc (node (guideOf e) p .parent)) (node (guideOf e) p .parent) (node (guideOf e) p .counter)
+  unfolding levels
+  levels-up zero c h l = absurd (h refl)
+  levels-up (suc p) c h l =
+      let r = parent-lower (suc p) h l in
+      rw (ne-eqb (suc p) 0 h)
+      (ap (λ (ls : List Level). record { node = suc p; reached = c } ∷ ls)
+      (levels-end p (node (guideOf e) (suc p) .parent) (node (guideOf e) (suc p) .parent) (node (guideOf e) (suc p) .counter) (omega arith) (omega arith) (omega arith)))
+
+  -- the message is the last
+  pub levels-root : (p c : ℕ) → p ≡ 0 → levels (guideOf e) (suc p) p c ≡ record { node = p; reached = c } ∷ []
+  unfolding levels
+  levels-root p c h = rw (eq-eqb p 0 h)
+
+-- the search for the node that takes a segment, from the level of p outward
+unfoldable pub seekFrom : Edition → View → ℕ → ℕ → ℕ
+seekFrom e v p c = seek (guideOf e) v (levels (guideOf e) (suc p) p c)
+
+module _ (e : Edition) (v : View) where
+  abbrev seekAll : ℕ → ℕ
+  seekAll last = seek (guideOf e) v (levels (guideOf e) (suc last) last 0)
+
+  pub seek-begins : (last : ℕ) → seekFrom e v last 0 ≡ seekAll last
+  unfolding seekFrom
+  seek-begins last = refl
+
+  -- the search from p gives the answer of the search from `last`, and n is what was tried at p
+  module _ (last p c n : ℕ) (given : seekFrom e v p c ≡ seekAll last) (tried : n ≡ firstNode (guideOf e) (fitsIn (guideOf e) v p c)) where
+    pub seek-found : (n ≡ 0 → ⊥) → n ≡ seekAll last
+    unfolding seekFrom levels seek
+    seek-found h =
+        let q : seekFrom e v p c ≡ n = rw (sym tried) (orElse-some n _ h) in
+        sym q ∙ given
+
+    pub seek-root : n ≡ 0 → p ≡ 0 → 0 ≡ seekAll last
+    unfolding seekFrom seek
+    seek-root z h =
+        let q : seekFrom e v p c ≡ 0 = rw (levels-root e p c h, sym tried, z) in
+        sym q ∙ given
+
+    pub seek-up
+        : n ≡ 0 → (p ≡ 0 → ⊥) → p < length (guideOf e) → (q d : ℕ) → q ≡ node (guideOf e) p .parent → d ≡ node (guideOf e) p .counter
+        → seekFrom e v q d ≡ seekAll last
+    unfolding seekFrom seek
+    seek-up z h l q d up counter =
+        let s : seekFrom e v p c ≡ seekFrom e v q d = rw (levels-up e p c h l, sym tried, z, up, counter) in
+        sym s ∙ given
+
+  -- no node is a child of one that the table does not have
+  fits-nowhere : (p c m : ℕ) → length (guideOf e) ≤ p → 1 ≤ m → fitsIn (guideOf e) v p c m ≡ false
+  unfolding fitsIn matches
+  fits-nowhere p c m h l = go (ltb m (length (guideOf e))) refl
+    where
+      go : (b : Bool) → ltb m (length (guideOf e)) ≡ b → fitsIn (guideOf e) v p c m ≡ false
+      go true q =
+          let k = ltb-true m (length (guideOf e)) q in
+          let r = sound-at e m l k .lower in
+          rw (ne-eqb (node (guideOf e) m .parent) p (λ (z : node (guideOf e) m .parent ≡ p). omega arith))
+      go false q =
+          let k : length (guideOf e) ≤ m = ltb-false m (length (guideOf e)) q in
+          rw (List·getD-eq-default (guideOf e) message k) (simp (and-false))
+
+  seek-nowhere : (k p c : ℕ) → length (guideOf e) ≤ p → seek (guideOf e) v (levels (guideOf e) k p c) ≡ 0
+  unfolding seek levels
+  seek-nowhere zero p c h = refl
+  seek-nowhere (suc k) p c h =
+      rw (lowest-none (fitsIn (guideOf e) v p c) 1 (length (guideOf e) - 1) (λ m l. fits-nowhere p c m h l))
+      (go (eqb p 0) (seek-nowhere k (node (guideOf e) p .parent) (node (guideOf e) p .counter) outside))
+    where
+      outside : length (guideOf e) ≤ node (guideOf e) p .parent
+      outside = rw (List·getD-eq-default (guideOf e) message h) (omega (arith, table-fits e))
+
+      go
+          : (b : Bool) → seek (guideOf e) v (levels (guideOf e) k (node (guideOf e) p .parent) (node (guideOf e) p .counter)) ≡ 0
+          → seek (guideOf e) v (pickLevels b [] (levels (guideOf e) k (node (guideOf e) p .parent) (node (guideOf e) p .counter))) ≡ 0
+      go true ih = refl
+      go false ih = ih
+
+  pub seek-outside : (last : ℕ) → length (guideOf e) ≤ last → seekAll last ≡ 0
+  seek-outside last h = seek-nowhere (suc last) last 0 h

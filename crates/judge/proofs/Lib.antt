@@ -1,0 +1,11 @@
+pub mod Tables
+pub mod Packing
+pub mod Sound
+pub mod Codes
+pub mod Matches
+pub mod Links
+pub mod Levels
+pub mod Fits
+pub mod Gaps
+pub mod Counts
+pub mod Outcomes

@@ -1,0 +1,157 @@
+-- Laws of the links: a walk over the children of a node, from the first one by next siblings, finds what a search through the whole table
+-- finds, for every test that holds of children only.
+use Prim.Native.Nat.{ℕ, zero, suc, _-_, _≤_, _<_}
+use mathlib.Core.Path.{_≡_, refl, sym, _∙_, ap}
+use mathlib.Core.Bool.{Bool, true, false}
+use native.Mathlib.Omega.{arith}
+use lib.ListN.{length, List·getD-eq-default}
+use lib.Dec.{eqb, ltb}
+use borrow.Author.Tests.{ne-eqb, eqb-true, eqb-false, ltb-true, ltb-false}
+use Rattle.guide.specs.Nodes.{Guide, Node, message, nobody, node}
+use Rattle.guide.specs.Placing.{lowest, firstNode}
+use Rattle.guide.specs.Choices.{pickℕ}
+use Rattle.judge.specs.Rows.{childOf, firstChild, nextSibling}
+
+pub pick-none : (b : Bool) → pickℕ b 0 0 ≡ 0
+pick-none true = refl
+pick-none false = refl
+
+-- the lowest number from i on that passes, if there is one: it passes, and is not below i
+pub lowest-passes : (test : ℕ → Bool) (i k : ℕ) → (lowest test i k ≡ 0 → ⊥) → test (lowest test i k) ≡ true
+unfolding lowest
+lowest-passes test i zero h = absurd (h refl)
+lowest-passes test i (suc k) h = go (test i) refl h (lowest-passes test (suc i) k)
+  where
+    go
+        : (b : Bool) → test i ≡ b → (pickℕ b i (lowest test (suc i) k) ≡ 0 → ⊥) → ((lowest test (suc i) k ≡ 0 → ⊥) → test (lowest test (suc i) k) ≡ true)
+        → test (pickℕ b i (lowest test (suc i) k)) ≡ true
+    go true e n ih = e
+    go false e n ih = ih n
+
+pub lowest-from : (test : ℕ → Bool) (i k : ℕ) → (lowest test i k ≡ 0 → ⊥) → i ≤ lowest test i k
+unfolding lowest
+lowest-from test i zero h = absurd (h refl)
+lowest-from test i (suc k) h = go (test i) h (lowest-from test (suc i) k)
+  where
+    go
+        : (b : Bool) → (pickℕ b i (lowest test (suc i) k) ≡ 0 → ⊥) → ((lowest test (suc i) k ≡ 0 → ⊥) → suc i ≤ lowest test (suc i) k)
+        → i ≤ pickℕ b i (lowest test (suc i) k)
+    go true n ih = omega arith
+    go false n ih =
+        let l = ih n in
+        omega arith
+
+-- a search in which nothing passes
+pub lowest-none : (test : ℕ → Bool) (i k : ℕ) → ((m : ℕ) → i ≤ m → test m ≡ false) → lowest test i k ≡ 0
+unfolding lowest
+lowest-none test i zero h = refl
+lowest-none test i (suc k) h = rw (h i (omega arith)) (lowest-none test (suc i) k (λ m l. h m (omega arith)))
+
+-- from node n on, 0 being none: what a search finds, and how many nodes are left
+unfoldable pub onward : (ℕ → Bool) → Guide → ℕ → ℕ
+onward test g n = pickℕ (eqb n 0) 0 (lowest test n (length g - n))
+
+unfoldable pub ahead : Guide → ℕ → ℕ
+ahead g n = pickℕ (eqb n 0) 0 (length g - n)
+
+-- the next link leaves fewer
+pub ahead-less : (g : Guide) (n next : ℕ) → (n ≡ 0 → ⊥) → n < length g → ((next ≡ 0 → ⊥) → n < next) → ahead g next < ahead g n
+unfolding ahead
+ahead-less g n next some inside above = go (eqb next 0) refl
+  where
+    go : (b : Bool) → eqb next 0 ≡ b → pickℕ b 0 (length g - next) < ahead g n
+    go true e = rw (ne-eqb n 0 some) (omega arith)
+    go false e =
+        let l = above (eqb-false next 0 e) in
+        rw (ne-eqb n 0 some) (omega arith)
+
+module _ (g : Guide) where
+  -- a search for what only some pass goes on from the first of these
+  onward-skip
+      : (test some : ℕ → Bool) → ((m : ℕ) → some m ≡ false → test m ≡ false) → (i k : ℕ) → 1 ≤ i → k ≡ length g - i
+      → onward test g (lowest some i k) ≡ lowest test i k
+  unfolding onward lowest
+  onward-skip test some only i zero h l = refl
+  onward-skip test some only i (suc k) h l = go (some i) refl (onward-skip test some only (suc i) k (omega arith) (omega arith))
+    where
+      go
+          : (b : Bool) → some i ≡ b → onward test g (lowest some (suc i) k) ≡ lowest test (suc i) k
+          → onward test g (pickℕ b i (lowest some (suc i) k)) ≡ pickℕ (test i) i (lowest test (suc i) k)
+      go true e ih =
+          let m : length g - i ≡ suc k = omega arith in
+          rw (ne-eqb i 0 (λ (z : i ≡ 0). omega arith), m)
+      go false e ih = rw (only i e) ih
+
+  -- a child of a node of the table stands in the table: past the end is nobody's child
+  pub child-inside : (p n : ℕ) → p < nobody → childOf g p n ≡ true → n < length g
+  child-inside p n h e = go (ltb n (length g)) refl
+    where
+      go : (b : Bool) → ltb n (length g) ≡ b → n < length g
+      go true q = ltb-true n (length g) q
+      go false q =
+          let l : length g ≤ n = ltb-false n (length g) q in
+          let z : nobody ≡ p = sym (ap (λ (x : Node). x .parent) (List·getD-eq-default g message l)) ∙ eqb-true _ _ e in
+          absurd (omega arith)
+
+-- a test that holds of children of p only
+abbrev pub Only : Guide → ℕ → (ℕ → Bool) → Type 0
+Only g p test = (m : ℕ) → childOf g p m ≡ false → test m ≡ false
+
+-- a walk over the children of p stands at n: n is 0 or a child, and from there on the answer is found
+pub record Walking (g : Guide) (p : ℕ) (test : ℕ → Bool) (n : ℕ) : Type 0 where
+  pub known : p < nobody
+  pub only : Only g p test
+  pub inside : (n ≡ 0 → ⊥) → n < length g
+  pub child : (n ≡ 0 → ⊥) → node g n .parent ≡ p
+  pub answer : onward test g n ≡ firstNode g test
+
+pub walk-begins : (g : Guide) (p : ℕ) (test : ℕ → Bool) (n : ℕ) → p < nobody → Only g p test → n ≡ firstChild g p → Walking g p test n
+unfolding firstChild
+walk-begins g p test n known only e =
+    let passes : (n ≡ 0 → ⊥) → childOf g p n ≡ true =
+    λ z. rw e (lowest-passes (childOf g p) 1 (length g - 1) (λ q. z (e ∙ q))) in
+    record {
+      known = known;
+      only = only;
+      inside = λ z. child-inside g p n known (passes z);
+      child = λ z. eqb-true (node g n .parent) p (passes z);
+      answer = ap (onward test g) e ∙ onward-skip g test (childOf g p) only 1 (length g - 1) (omega arith) refl;
+    }
+
+module _ {g : Guide} {p : ℕ} {test : ℕ → Bool} {n : ℕ} (w : Walking g p test n) where
+  pub walk-out : n ≡ 0 → 0 ≡ firstNode g test
+  unfolding onward
+  walk-out e = sym (rw e) ∙ w .answer
+
+  module _ (some : n ≡ 0 → ⊥) where
+    pub walk-found : test n ≡ true → n ≡ firstNode g test
+    unfolding onward lowest
+    walk-found t =
+        let m : length g - n ≡ suc (length g - suc n) = omega (arith, w .inside some) in
+        let q : onward test g n ≡ n = rw (ne-eqb n 0 some, m, t) in
+        sym q ∙ w .answer
+
+    module _ (next : ℕ) (link : next ≡ nextSibling g n) where
+      sibling : next ≡ lowest (childOf g p) (suc n) (length g - suc n)
+      unfolding nextSibling
+      sibling = link ∙ ap (λ (q : ℕ). lowest (childOf g q) (suc n) (length g - suc n)) (w .child some)
+
+      pub walk-next : test n ≡ false → Walking g p test next
+      unfolding onward lowest
+      walk-next t =
+          let l : n < length g = w .inside some in
+          let m : length g - n ≡ suc (length g - suc n) = omega arith in
+          let q : onward test g n ≡ lowest test (suc n) (length g - suc n) = rw (ne-eqb n 0 some, m, t) in
+          let passes : (next ≡ 0 → ⊥) → childOf g p next ≡ true =
+          λ z. rw sibling (lowest-passes (childOf g p) (suc n) (length g - suc n) (λ e. z (sibling ∙ e))) in
+          record {
+            known = w .known;
+            only = w .only;
+            inside = λ z. child-inside g p next (w .known) (passes z);
+            child = λ z. eqb-true (node g next .parent) p (passes z);
+            answer =
+                ap (onward test g) sibling ∙ onward-skip g test (childOf g p) (w .only) (suc n) (length g - suc n) (omega arith) (omega arith) ∙ sym q ∙ w .answer;
+          }
+
+      pub walk-less : ahead g next < ahead g n
+      walk-less = ahead-less g n next some (w .inside some) (λ z. rw sibling (lowest-from (childOf g p) (suc n) (length g - suc n) (λ q. z (sibling ∙ q))))

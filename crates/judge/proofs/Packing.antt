@@ -1,0 +1,153 @@
+-- Laws of words as numbers: what the readers of a tag and of a code give, and that equal numbers are equal words.
+use Prim.Native.Nat.{ℕ, suc, _+_, _*_, _-_, _≤_, _<_, min}
+use mathlib.Core.Path.{_≡_, refl, sym, _∙_, ap}
+use mathlib.Core.Bool.{Bool, true, false, _&&_}
+use mathlib.Core.List.{List, [], _∷_}
+use native.Mathlib.Decide.{decLe}
+use native.Mathlib.Omega.{arith}
+use lib.ListN.{length, getD, take, drop, length-take, length-drop}
+use lib.Seq.{take-all, take-take, take-at}
+use lib.Dec.{eqb}
+use borrow.Author.Tests.{eq-eqb, ne-eqb, eqb-true, eqb-false, le-leb, lt-leb}
+use Rattle.cut.specs.Bytes.{part}
+use Rattle.cut.specs.declared.service.Syntax.{Syntax}
+use Rattle.cut.proofs.Parts.{part-none, part-next}
+use Rattle.element.specs.Plain.{plain, decoded, copied}
+use Rattle.element.specs.Components.{componentAt}
+use Rattle.element.specs.declared.components.Span.{Span}
+use Rattle.element.proofs.ComponentFace.{component-bytes}
+use Rattle.element.specs.Plain.{same}
+use Rattle.guide.specs.Views.{viewOf}
+use Rattle.judge.specs.Words.{packed, shortWord, Bytes}
+
+-- a part is its first byte and then the rest
+pub pack-none : (d : List ℕ) (a e : ℕ) → e ≤ a → 1 ≡ packed (part a e d)
+unfolding packed
+pack-none d a e h = rw (part-none d a e h)
+
+pack-next
+    : (d : List ℕ) (a e x r : ℕ) → a < e → e ≤ length d → x ≡ getD d a 0 → r ≡ packed (part (a + 1) e d) → x + 256 * r ≡ packed (part a e d)
+unfolding packed
+pack-next d a e x r h l first rest = rw (first, rest, part-next d a e h l)
+
+-- the part from a up to e, of one, two or three bytes
+module _ (d : List ℕ) (a e : ℕ) (inside : e ≤ length d) (x : ℕ) (first : x ≡ getD d a 0) where
+  pub pack-one : e - a ≡ 1 → x + 256 ≡ packed (part a e d)
+  pack-one h = pack-next d a e x 1 (omega arith) inside first (pack-none d (a + 1) e (omega arith))
+
+  module _ (y : ℕ) (second : y ≡ getD d (a + 1) 0) where
+    pub pack-two : e - a ≡ 2 → x + 256 * (y + 256) ≡ packed (part a e d)
+    pack-two h =
+        pack-next d a e x (y + 256) (omega arith) inside first
+        (pack-next d (a + 1) e y 1 (omega arith) inside second (pack-none d (a + 1 + 1) e (omega arith)))
+
+    pub pack-three : (z : ℕ) → z ≡ getD d (a + 2) 0 → e - a ≡ 3 → x + 256 * (y + 256 * (z + 256)) ≡ packed (part a e d)
+    pack-three z third h =
+        let two : a + 2 ≡ a + 1 + 1 = omega arith in
+        pack-next d a e x (y + 256 * (z + 256)) (omega arith) inside first
+        (pack-next d (a + 1) e y (z + 256) (omega arith) inside second
+        (pack-next d (a + 1 + 1) e z 1 (omega arith) inside (third ∙ ap (λ (i : ℕ). getD d i 0) two) (pack-none d (a + 1 + 1 + 1) e (omega arith))))
+
+-- an end past the delivery counts as the delivery's end
+part-out : (d : List ℕ) (a e : ℕ) → length d ≤ e → part a e d ≡ drop a d
+unfolding part
+part-out d a e h =
+    let n : length (drop a d) ≤ e - a = simp length-drop (omega arith) in
+    take-all (e - a) (drop a d) n
+
+part-within : (d : List ℕ) (a e : ℕ) → Dec (e ≤ length d) → part a (min e (length d)) d ≡ part a e d
+part-within d a e (yes h) =
+    let m : min e (length d) ≡ e = omega arith in
+    rw m
+part-within d a e (no h) =
+    let m : min e (length d) ≡ length d = omega arith in
+    let l : length d ≤ e = omega arith in
+    let k : length d ≤ length d = omega arith in
+    rw m (part-out d a (length d) k ∙ sym (part-out d a e l))
+
+-- the tag of the segment from a up to e, where z is that end or the delivery's
+module _ (d : List ℕ) (a e z : ℕ) (limit : z ≡ min e (length d)) where
+  within : part a z d ≡ part a e d
+  within = rw limit (part-within d a e (decLe e (length d)))
+
+  pub tag-none : z ≤ a → 1 ≡ packed (take 3 (part a e d))
+  unfolding packed
+  tag-none h =
+      let q : part a e d ≡ [] = sym within ∙ part-none d a z h in
+      rw q
+
+  pub tag-short : (r : ℕ) → z - a < 3 → r ≡ packed (part a z d) → r ≡ packed (take 3 (part a e d))
+  unfolding part
+  tag-short r h k =
+      let n : length (part a z d) ≤ 3 = simp length-take (omega arith) in
+      k ∙ ap packed (sym (take-all 3 (part a z d) n) ∙ ap (take 3) within)
+
+  pub tag-three : (r : ℕ) → 3 ≤ z - a → r ≡ packed (part a (a + 3) d) → r ≡ packed (take 3 (part a e d))
+  unfolding part
+  tag-three r h k =
+      let n : 3 ≤ e - a = omega arith in
+      let t : a + 3 - a ≡ 3 = omega arith in
+      k ∙ ap packed (ap (λ (m : ℕ). take m (drop a d)) t ∙ sym (take-take 3 (e - a) (drop a d) n))
+
+-- a row of four with the word s at its front, as much as fits: n bytes are written
+module _ (s row : List ℕ) (n : ℕ) (count : n ≡ min (length s) 4) (written : row ≡ copied s (0 ∷ 0 ∷ 0 ∷ 0 ∷ [])) where
+  short-long : 3 < n → 0 ≡ shortWord s
+  unfolding shortWord
+  short-long h =
+      let l : 3 < length s = omega arith in
+      rw (lt-leb (length s) 3 l)
+
+  short-front : n ≤ 3 → part 0 n row ≡ s
+  unfolding part copied
+  short-front h =
+      let l : length s ≤ 4 = omega arith in
+      let m : n - 0 ≡ length s = omega arith in
+      rw (written, m, take-all 4 s l) (take-at s _ (length s) refl)
+
+  short-packed : (r : ℕ) → n ≤ 3 → r ≡ packed (part 0 n row) → r ≡ shortWord s
+  unfolding shortWord
+  short-packed r h k =
+      let l : length s ≤ 3 = omega arith in
+      rw (le-leb (length s) 3 l) (k ∙ ap packed (short-front h))
+
+-- the component that stands at the span, and the row that its decoded bytes were written to
+module _ (y : Syntax) (d : List ℕ) (start end e c : ℕ) (span : Span) (found : span ≡ componentAt y d start end e c) where
+  key-bytes : decoded y (span .start) (span .end) d ≡ viewOf y (part start end d) .key e c
+  unfolding decoded viewOf
+  key-bytes = rw found (ap (plain y false) (component-bytes y d start end e c))
+
+  module _
+      (row : List ℕ) (n : ℕ) (count : n ≡ min (length (decoded y (span .start) (span .end) d)) 4)
+      (written : row ≡ copied (decoded y (span .start) (span .end) d) (0 ∷ 0 ∷ 0 ∷ 0 ∷ []))
+    where
+      pub key-long : 3 < n → 0 ≡ shortWord (viewOf y (part start end d) .key e c)
+      key-long h = short-long _ row n count written h ∙ ap shortWord key-bytes
+
+      pub key-short : (r : ℕ) → n ≤ 3 → r ≡ packed (part 0 n row) → r ≡ shortWord (viewOf y (part start end d) .key e c)
+      key-short r h k = short-packed _ row n count written r h k ∙ ap shortWord key-bytes
+
+-- equal numbers are equal words
+rest-bytes : (x : ℕ) (xs : List ℕ) → Bytes (x ∷ xs) → Bytes xs
+rest-bytes x xs h i = h (suc i)
+
+pub packed-some : (s : List ℕ) → 1 ≤ packed s
+unfolding packed
+packed-some [] = omega arith
+packed-some (x ∷ xs) = omega (arith, packed-some xs)
+
+pub packed-same : (s t : List ℕ) → Bytes s → Bytes t → eqb (packed s) (packed t) ≡ same s t
+unfolding packed same
+packed-same [] [] h k = refl
+packed-same [] (y ∷ ys) h k = ne-eqb 1 (y + 256 * packed ys) (λ e. omega (arith, packed-some ys))
+packed-same (x ∷ xs) [] h k = ne-eqb (x + 256 * packed xs) 1 (λ e. omega (arith, packed-some xs))
+packed-same (x ∷ xs) (y ∷ ys) h k =
+    go (h 0) (k 0) (packed-same xs ys (rest-bytes x xs h) (rest-bytes y ys k)) (eqb x y) refl (eqb (packed xs) (packed ys)) refl
+  where
+    go
+        : x < 256 → y < 256 → eqb (packed xs) (packed ys) ≡ same xs ys → (p : Bool) → eqb x y ≡ p → (q : Bool) → eqb (packed xs) (packed ys) ≡ q
+        → eqb (x + 256 * packed xs) (y + 256 * packed ys) ≡ p && same xs ys
+    go a b ih true e true f =
+        let z : x + 256 * packed xs ≡ y + 256 * packed ys = omega (arith, eqb-true x y e, eqb-true (packed xs) (packed ys) f) in
+        eq-eqb _ _ z ∙ sym f ∙ ih
+    go a b ih true e false f = ne-eqb _ _ (λ (z : x + 256 * packed xs ≡ y + 256 * packed ys). eqb-false (packed xs) (packed ys) f (omega arith)) ∙ sym f ∙ ih
+    go a b ih false e q f = ne-eqb _ _ (λ (z : x + 256 * packed xs ≡ y + 256 * packed ys). eqb-false x y e (omega arith))

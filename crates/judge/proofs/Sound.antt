@@ -1,0 +1,68 @@
+-- What the code needs of every row of a table: one computed test, and what it gives.
+use Prim.Native.Nat.{ℕ, zero, suc, _-_, _<_}
+use mathlib.Core.Bool.{Bool, true, _&&_}
+use mathlib.Core.List.{List, [], _∷_}
+use native.Mathlib.Omega.{arith}
+use lib.ListN.{length}
+use lib.Dec.{T, ltb, leb, ltb→lt}
+use Rattle.guide.specs.Nodes.{Guide, node}
+use Rattle.guide.specs.Pricat.{pricat20d, pricat20c}
+use Rattle.guide.specs.Checks.{every}
+use Rattle.guide.proofs.Basics.{every-at, and-left, and-right}
+use Rattle.judge.specs.declared.editions.Edition.{Edition}
+use Rattle.judge.specs.declared.editions.Edition.the-variants.{D, C}
+use Rattle.judge.specs.Editions.{guideOf}
+use Rattle.judge.specs.Words.{Bytes}
+
+-- bytes alone
+abbrev pub bytesOnly : List ℕ → Bool
+bytesOnly [] = true
+bytesOnly (x ∷ xs) = ltb x 256 && bytesOnly xs
+
+-- codes of at most three bytes
+abbrev pub shortCodes : List (List ℕ) → Bool
+shortCodes [] = true
+shortCodes (c ∷ cs) = (leb (length c) 3 && bytesOnly c) && shortCodes cs
+
+-- a row takes segments, its parent has a lower number, and its tag and codes are bytes
+abbrev soundRow : Guide → ℕ → Bool
+soundRow g n = ltb 0 (node g n .limit) && (ltb (node g n .parent) n && (bytesOnly (node g n .tag) && shortCodes (node g n .selector .codes)))
+
+unfoldable sound : Guide → Bool
+sound g = every (λ k. soundRow g (suc k)) (length g - 1)
+
+sound-table : (e : Edition) → T (sound (guideOf e))
+unfolding pricat20d pricat20c sound every
+sound-table D = tt
+sound-table C = tt
+
+pub record Sound (g : Guide) (n : ℕ) : Type 0 where
+  pub limited : 0 < node g n .limit
+  pub lower : node g n .parent < n
+  pub tag : Bytes (node g n .tag)
+  pub codes : T (shortCodes (node g n .selector .codes))
+
+pub bytes-only : (s : List ℕ) → T (bytesOnly s) → Bytes s
+bytes-only [] h i = omega arith
+bytes-only (x ∷ xs) h zero = ltb→lt x 256 (and-left (ltb x 256) (bytesOnly xs) h)
+bytes-only (x ∷ xs) h (suc i) = bytes-only xs (and-right (ltb x 256) (bytesOnly xs) h) i
+
+row-sound : (g : Guide) (n : ℕ) → T (soundRow g n) → Sound g n
+row-sound g n h =
+    let a = ltb 0 (node g n .limit) in
+    let b = ltb (node g n .parent) n in
+    let c = bytesOnly (node g n .tag) in
+    let d = shortCodes (node g n .selector .codes) in
+    let t = and-right a (b && (c && d)) h in
+    let u = and-right b (c && d) t in
+    record {
+      limited = ltb→lt _ _ (and-left a (b && (c && d)) h);
+      lower = ltb→lt _ _ (and-left b (c && d) t);
+      tag = bytes-only (node g n .tag) (and-left c d u);
+      codes = and-right c d u;
+    }
+
+pub sound-at : (e : Edition) (n : ℕ) → 0 < n → n < length (guideOf e) → Sound (guideOf e) n
+unfolding sound
+sound-at e zero h l = absurd (omega arith)
+sound-at e (suc n) h l = row-sound (guideOf e) (suc n) (every-at (λ k. soundRow (guideOf e) (suc k)) (length (guideOf e) - 1) n (sound-table e) (omega arith))

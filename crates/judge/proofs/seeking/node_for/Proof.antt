@@ -1,0 +1,91 @@
+-- `judge::seeking::node_for` meets its contract. The loop's invariant: the search from the level of p outward gives the answer. Assumes nothing.
+use Prim.Native.Nat.{suc, _<_}
+use mathlib.Core.Path.{_≡_, sym}
+use borrow.Author.Needs.{needs}
+use native.Mathlib.Omega.{arith}
+use lib.ListN.{length}
+use Rattle.cut.specs.Bytes.{part}
+use Rattle.guide.specs.Placing.{levels, seek}
+use Rattle.guide.specs.Views.{viewOf}
+use Rattle.judge.specs.Editions.{guideOf}
+use Rattle.judge.proofs.Levels.{seekFrom, seek-begins, seek-found, seek-root, seek-up, seek-outside, parent-lower}
+use Rattle.judge.proofs.seeking.node_for.Statement.{statement}
+use Rattle.judge.proofs.seeking.node_for.Tie as tie
+
+abbrev Inv-loop : tie.InvT-loop
+Inv-loop y edition d start end last tag p₀ reached₀ p reached =
+    (p < length (guideOf edition))
+    × (seekFrom edition (viewOf y (part start end d)) p reached
+    ≡ seek (guideOf edition) (viewOf y (part start end d)) (levels (guideOf edition) (suc last) last 0))
+
+abbrev μ-loop : tie.MeasureT-loop
+μ-loop y edition d start end last tag p₀ reached₀ p reached = p
+
+rows-of-requires : tie.Need-rows-of-requires Inv-loop μ-loop
+rows-of-requires c κs = search needs
+
+returns : tie.Need-returns Inv-loop μ-loop
+returns c =
+    let a = c .before .before .before .args in
+    sym (seek-outside (a .edition) (viewOf (a .y) (part (a .start) (a .end) (a .d .now))) (a .last) (omega arith))
+
+tag-number-requires : tie.Need-tag-number-requires Inv-loop μ-loop
+tag-number-requires c κs = search needs
+
+loop-holds : tie.Need-loop-holds Inv-loop μ-loop
+loop-holds c =
+    let a = c .before .before .before .before .args in
+    (omega arith, seek-begins (a .edition) (viewOf (a .y) (part (a .start) (a .end) (a .d .now))) (a .last))
+
+child-for-requires : tie.Need-child-for-requires Inv-loop μ-loop
+child-for-requires c κs = (c .loop .inv .0, c .before .tag-number .ensures)
+
+returns-2 : tie.Need-returns-2 Inv-loop μ-loop
+returns-2 c = let loop = c .before .before in seek-found _ _ _ _ _ _ (loop .loop .inv .1) (c .before .child-for .ensures) (c .if2 .taken)
+
+returns-3 : tie.Need-returns-3 Inv-loop μ-loop
+returns-3 c =
+    let tried = c .before .before in
+    seek-root _ _ _ _ _ _ (tried .before .loop .inv .1) (tried .child-for .ensures) (c .before .if2 .left) (c .if3 .taken)
+
+counter-of-requires : tie.Need-counter-of-requires Inv-loop μ-loop
+counter-of-requires c κs = c .before .before .before .loop .inv .0
+
+parent-of-requires : tie.Need-parent-of-requires Inv-loop μ-loop
+parent-of-requires c κs = c .before .before .before .before .loop .inv .0
+
+loop-less : tie.Need-loop-less Inv-loop μ-loop
+loop-less c =
+    let branch = c .before .before in
+    let loop = branch .before .before .before in
+    let a = loop .before .before .before .before .before .args in
+    omega (arith, parent-lower (a .edition) (loop .loop .p) (branch .if3 .left) (loop .loop .inv .0))
+
+loop-again : tie.Need-loop-again Inv-loop μ-loop
+loop-again c =
+    let branch = c .before .before in
+    let tried = branch .before .before in
+    let loop = tried .before .loop in
+    let a = tried .before .before .before .before .before .before .args in
+    let low = parent-lower (a .edition) (loop .p) (branch .if3 .left) (loop .inv .0) in (
+      omega arith,
+      seek-up _ _ _ _ _ _ (loop .inv .1) (tried .child-for .ensures) (branch .before .if2 .left) (branch .if3 .left) (loop .inv .0) _ _ (c .parent-of .ensures) (c .before .counter-of .ensures),
+    )
+
+pub node-for-spec : {M : Type 1} → statement M
+node-for-spec =
+    tie.close
+    (tie.spec
+    Inv-loop
+    μ-loop
+    rows-of-requires
+    returns
+    tag-number-requires
+    loop-holds
+    child-for-requires
+    returns-2
+    returns-3
+    counter-of-requires
+    parent-of-requires
+    loop-less
+    loop-again)

@@ -1,0 +1,5 @@
+pub mod Editions
+pub mod Words
+pub mod Rows
+pub mod Answers
+pub mod Workers

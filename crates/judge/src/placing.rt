@@ -1,0 +1,60 @@
+// Places one segment after the other: its node, or the first fault in the order 13, 15 or 16, 14.
+use crate::counting::enter;
+use crate::editions::Edition;
+use crate::lacking::missing_for;
+use crate::rows::limit_of;
+use crate::rows::refusal_of;
+use crate::seeking::node_for;
+use cut::Syntax;
+ghost use mathlib.Core.Path.{_≡_};
+ghost use Rattle.cut.specs.Bytes.{part};
+ghost use Rattle.guide.specs.Placing.{place as placeIn, countsAfter};
+ghost use Rattle.guide.specs.Views.{viewOf};
+ghost use Rattle.judge.specs.Editions.{guideOf};
+ghost use Rattle.judge.specs.Answers.{answerOf};
+
+// The segment's node, or a refusal with its number and node.
+pub enum Placed {
+    At(usize),
+    Refused { number: u32, node: usize },
+}
+
+// The segment from start up to end comes after the node `last`; `counts` says how often each node has come in the open instance of its
+// parent. A refusal leaves the counts as they are.
+pub fn place(
+    y: Syntax,
+    edition: Edition,
+    d: &[u8],
+    start: usize,
+    end: usize,
+    last: usize,
+    counts: &mut [u32; 96],
+) -> Placed
+    ensures { λ r. ⌜ r ≡ answerOf (placeIn (guideOf edition) (viewOf y (part start end (now (d .entry)))) last (now (counts .entry))) ⌝ }
+    ensures { λ _. ⌜ now (counts .exit) ≡ countsAfter (guideOf edition) (placeIn (guideOf edition) (viewOf y (part start end (now (d .entry)))) last (now (counts .entry))) (now (counts .entry)) ⌝ }
+{
+    let n = node_for(y, edition, d, start, end, last);
+    if n == 0 {
+        return Placed::Refused {
+            number: 13,
+            node: 0,
+        };
+    }
+    let full = limit_of(edition, n) <= counts[n];
+    let over = refusal_of(edition, n);
+    let m = missing_for(edition, counts, n, last);
+    if full {
+        return Placed::Refused {
+            number: over,
+            node: n,
+        };
+    }
+    if m != 0 {
+        return Placed::Refused {
+            number: 14,
+            node: m,
+        };
+    }
+    enter(edition, n, counts);
+    Placed::At(n)
+}

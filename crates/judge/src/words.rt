@@ -1,0 +1,80 @@
+// Tags and codes as numbers.
+use cut::Syntax;
+ghost use Prim.Native.Nat.{_+_, _<_, _≤_, min};
+ghost use mathlib.Core.Path.{_≡_};
+ghost use lib.ListN.{length, take};
+ghost use Rattle.cut.specs.Bytes.{part};
+ghost use Rattle.guide.specs.Views.{viewOf};
+ghost use Rattle.judge.specs.Words.{packed, shortWord};
+
+fn wide(x: u8) -> u32
+    ensures { λ r. ⌜ (r ≡ x) × (r < 256) ⌝ }
+{
+    x as u32
+}
+
+// The bytes from a up to e, at most three.
+fn pack(d: &[u8], a: usize, e: usize) -> u32
+    requires { ⌜ (e ≤ length (now d)) × (e ≤ a + 3) ⌝ }
+    ensures { λ r. ⌜ r ≡ packed (part a e (now (d .entry))) ⌝ }
+{
+    if e <= a {
+        return 1;
+    }
+    let first = wide(d[a]);
+    let more = e - a;
+    if more == 1 {
+        return first + 256;
+    }
+    let second = wide(d[a + 1]);
+    if more == 2 {
+        return first + 256 * (second + 256);
+    }
+    let third = wide(d[a + 2]);
+    first + 256 * (second + 256 * (third + 256))
+}
+
+fn end_within(d: &[u8], e: usize) -> usize
+    ensures { λ r. ⌜ r ≡ min e (length (now (d .entry))) ⌝ }
+{
+    if d.len() < e {
+        return d.len();
+    }
+    e
+}
+
+// The tag of the segment from start up to end: its first three bytes, or fewer where it is shorter.
+pub(crate) fn tag_number(d: &[u8], start: usize, end: usize) -> u32
+    ensures { λ r. ⌜ r ≡ packed (take 3 (part start end (now (d .entry)))) ⌝ }
+{
+    let limit = end_within(d, end);
+    if limit <= start {
+        return 1;
+    }
+    if limit - start < 3 {
+        return pack(d, start, limit);
+    }
+    pack(d, start, start + 3)
+}
+
+// A component of the segment, releases removed; 0 where it is longer than any code.
+pub(crate) fn key_number(
+    y: Syntax,
+    d: &[u8],
+    start: usize,
+    end: usize,
+    element: usize,
+    component: usize,
+) -> u32
+    ensures { λ r. ⌜ r ≡ shortWord (viewOf y (part start end (now (d .entry))) .key element component) ⌝ }
+{
+    let span = element::component_at(y, d, start, end, element, component);
+    let a = span.start;
+    let e = span.end;
+    let mut bytes = [0u8; 4];
+    let n = element::copy_plain(y, d, a, e, &mut bytes);
+    if 3 < n {
+        return 0;
+    }
+    pack(&bytes, 0, n)
+}
