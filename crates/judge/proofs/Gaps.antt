@@ -13,7 +13,7 @@ use Rattle.judge.specs.declared.editions.Edition.{Edition}
 use Rattle.judge.specs.Editions.{guideOf}
 use Rattle.judge.specs.Workers.{lacksChild}
 use Rattle.judge.proofs.Links.{Only, pick-none}
-use Rattle.judge.proofs.Levels.{orElse-none, orElse-assoc, levels-up, levels-root}
+use Rattle.judge.proofs.Levels.{orElse-none, levels-up, levels-root}
 
 module _ (g : Guide) (cs : List ℕ) (n p m : ℕ) where
   pub lacks-optional : (b : Bool) → b ≡ node g m .must → b ≡ false → false ≡ lacksChild g cs n p m
@@ -44,45 +44,33 @@ module _ (g : Guide) (cs : List ℕ) (n p : ℕ) where
   unfolding lacking lacksChild
   lacks-child m r b h e q = rw (eq-eqb (node g m .parent) p h) (sym e ∙ q)
 
--- the search from the level of p outward
-unfoldable pub missingFrom : Edition → List ℕ → ℕ → ℕ → ℕ
-missingFrom e cs n p = missing (guideOf e) cs n (levels (guideOf e) (suc p) p 0)
-
 module _ (e : Edition) (cs : List ℕ) (n : ℕ) where
-  abbrev missingAll : ℕ → ℕ
-  missingAll last = missing (guideOf e) cs n (levels (guideOf e) (suc last) last 0)
-
-  pub missing-begins : (last : ℕ) → orElse 0 (missingFrom e cs n last) ≡ missingAll last
-  unfolding missingFrom
-  missing-begins last = refl
+  -- the search from the level of p outward
+  abbrev missingFrom : ℕ → ℕ
+  missingFrom p = missing (guideOf e) cs n (levels (guideOf e) (suc p) p 0)
 
   -- a level by itself says whether its instance lacks a node, wherever its children have come to
   level-any : (k p c : ℕ) → missing (guideOf e) cs n (levels (guideOf e) (suc k) p c) ≡ missing (guideOf e) cs n (levels (guideOf e) (suc k) p 0)
   unfolding levels missing
   level-any k p c = refl
 
-  -- what was found before the level of p, the gap at p, and the two together
-  module _
-      (last p found gap both : ℕ) (given : orElse found (missingFrom e cs n p) ≡ missingAll last)
-      (here : gap ≡ firstNode (guideOf e) (lacking (guideOf e) cs n p)) (joined : both ≡ orElse found gap)
-    where
-      last-level : missingFrom e cs n p ≡ gap → both ≡ missingAll last
-      last-level q = joined ∙ ap (orElse found) (sym q) ∙ given
+  -- the gap at the level of p
+  module _ (p gap : ℕ) (here : gap ≡ firstNode (guideOf e) (lacking (guideOf e) cs n p)) where
+    -- the level that takes n is the last
+    pub missing-taking : (q : ℕ) → q ≡ node (guideOf e) n .parent → p ≡ q → gap ≡ missingFrom p
+    unfolding levels missing
+    missing-taking q parent h = sym (rw (eq-eqb p (node (guideOf e) n .parent) (h ∙ parent), sym here) (orElse-none gap))
 
-      pub missing-taking : (q : ℕ) → q ≡ node (guideOf e) n .parent → p ≡ q → both ≡ missingAll last
-      unfolding missingFrom levels missing
-      missing-taking q parent h = last-level (rw (eq-eqb p (node (guideOf e) n .parent) (h ∙ parent), sym here) (orElse-none gap))
+    pub missing-root : p ≡ 0 → gap ≡ missingFrom p
+    unfolding missing
+    missing-root h = sym (rw (levels-root e p 0 h, sym here, pick-none (eqb p (node (guideOf e) n .parent))) (orElse-none gap))
 
-      pub missing-root : p ≡ 0 → both ≡ missingAll last
-      unfolding missingFrom missing
-      missing-root h = last-level (rw (levels-root e p 0 h, sym here, pick-none (eqb p (node (guideOf e) n .parent))) (orElse-none gap))
-
-      pub missing-up
-          : (q r : ℕ) → q ≡ node (guideOf e) n .parent → (p ≡ q → ⊥) → (p ≡ 0 → ⊥) → p < length (guideOf e) → r ≡ node (guideOf e) p .parent
-          → orElse both (missingFrom e cs n r) ≡ missingAll last
-      unfolding missingFrom missing
-      missing-up q r parent h k l up =
-          let other : eqb p (node (guideOf e) n .parent) ≡ false = ne-eqb p _ (λ (z : p ≡ node (guideOf e) n .parent). h (z ∙ sym parent)) in
-          let s : missingFrom e cs n p ≡ orElse gap (missingFrom e cs n r) =
-          rw (levels-up e p 0 k l, sym here, other, up) (ap (orElse gap) (level-any (node (guideOf e) p .parent) (node (guideOf e) p .parent) (node (guideOf e) p .counter))) in
-          ap (λ (x : ℕ). orElse x (missingFrom e cs n r)) joined ∙ orElse-assoc found gap (missingFrom e cs n r) ∙ ap (orElse found) (sym s) ∙ given
+    pub missing-up
+        : (q r outer : ℕ) → q ≡ node (guideOf e) n .parent → (p ≡ q → ⊥) → (p ≡ 0 → ⊥) → p < length (guideOf e) → r ≡ node (guideOf e) p .parent
+        → outer ≡ missingFrom r → orElse gap outer ≡ missingFrom p
+    unfolding missing
+    missing-up q r outer parent h k l up found =
+        let other : eqb p (node (guideOf e) n .parent) ≡ false = ne-eqb p _ (λ (z : p ≡ node (guideOf e) n .parent). h (z ∙ sym parent)) in
+        let s : missingFrom p ≡ orElse gap (missingFrom r) =
+        rw (levels-up e p 0 k l, sym here, other, up) (ap (orElse gap) (level-any (node (guideOf e) p .parent) (node (guideOf e) p .parent) (node (guideOf e) p .counter))) in
+        ap (orElse gap) found ∙ sym s

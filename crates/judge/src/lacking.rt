@@ -54,23 +54,19 @@ fn or_else(a: usize, b: usize) -> usize
     a
 }
 
-// The lowest missing node, from the innermost open instance outward level by level, up to the one that takes n; 0 if none is missing.
-pub(crate) fn missing_for(edition: Edition, counts: &[u32; 96], n: usize, last: usize) -> usize
-    requires { ⌜ (n < length (guideOf edition)) × (last < length (guideOf edition)) ⌝ }
-    ensures { λ r. ⌜ r ≡ missing (guideOf edition) (now (counts .entry)) n (levels (guideOf edition) (suc last) last 0) ⌝ }
+// The lowest missing node, looked for from the innermost open instance outward level by level, up to the one that takes n; 0 if none is
+// missing. The level is the open instance's node: a parent has a lower number, so it falls.
+pub(crate) fn missing_for(edition: Edition, counts: &[u32; 96], n: usize, level: usize) -> usize
+    requires { ⌜ (n < length (guideOf edition)) × (level < length (guideOf edition)) ⌝ }
+    ensures { λ r. ⌜ r ≡ missing (guideOf edition) (now (counts .entry)) n (levels (guideOf edition) (suc level) level 0) ⌝ }
 {
-    let taking = parent_of(edition, n);
-    let mut p = last;
-    let mut found = 0;
-    loop {
-        let gap = lacking_in(edition, counts, n, p);
-        found = or_else(found, gap);
-        if p == taking {
-            return found;
-        }
-        if p == 0 {
-            return found;
-        }
-        p = parent_of(edition, p);
+    let gap = lacking_in(edition, counts, n, level);
+    if level == parent_of(edition, n) {
+        return gap;
     }
+    if level == 0 {
+        return gap;
+    }
+    let outer = missing_for(edition, counts, n, parent_of(edition, level));
+    or_else(gap, outer)
 }
