@@ -78,11 +78,11 @@ module _ (y : Syntax) (g : Guide) (pages : ℕ → Page) where
     pub holds : Holds y (pages n) (s .bytes)
     pub ruled : Ruled y g i (m .positions) (m .reference) n s
 
-  clean-free : (s : Segment) → Clean y s → bytesFault y g pages s ≡ 0
+  pub clean-free : (s : Segment) → Clean y s → bytesFault y g pages s ≡ 0
   unfolding bytesFault
   clean-free s c = rw (c .terminated, c .allowed, c .tagged)
 
-  free-clean : (s : Segment) → bytesFault y g pages s ≡ 0 → Clean y s
+  pub free-clean : (s : Segment) → bytesFault y g pages s ≡ 0 → Clean y s
   unfolding bytesFault
   free-clean s h = go (s .piece) refl (allowedBytes (s .bytes)) refl (taggedBytes y (s .bytes)) refl h
     where
@@ -94,7 +94,7 @@ module _ (y : Syntax) (g : Guide) (pages : ℕ → Page) where
       go false p false q c r e = absurd (omega arith)
       go false p true q false r e = absurd (omega arith)
 
-  free-closes : (i : ℕ) (r : List ℕ) (s : Segment) → endFault y g pages i r s ≡ 0 → Closes y g i r s
+  pub free-closes : (i : ℕ) (r : List ℕ) (s : Segment) → endFault y g pages i r s ≡ 0 → Closes y g i r s
   unfolding endFault
   free-closes i r s h =
       let a = is i (countOf (text y (s .bytes) 1 0)) in
@@ -102,15 +102,15 @@ module _ (y : Syntax) (g : Guide) (pages : ℕ → Page) where
       let t = T-true (picked-zero (a && b) 20 h) in
       record { counted = is-count i _ (true-T a (and-left a b t)); referred = same-eq _ r (and-right a b t) }
 
-  closes-free : (i : ℕ) (r : List ℕ) (s : Segment) → Closes y g i r s → endFault y g pages i r s ≡ 0
+  pub closes-free : (i : ℕ) (r : List ℕ) (s : Segment) → Closes y g i r s → endFault y g pages i r s ≡ 0
   unfolding endFault
   closes-free i r s c = rw (count-is i _ (c .counted), c .referred, true-T (same r r) (same-refl r))
 
-  free-line : (n : ℕ) (s : Segment) → lineFault y g pages n s ≡ 0 → countOf (text y (s .bytes) 1 0) ≡ Is n
+  pub free-line : (n : ℕ) (s : Segment) → lineFault y g pages n s ≡ 0 → countOf (text y (s .bytes) 1 0) ≡ Is n
   unfolding lineFault
   free-line n s h = is-count n _ (picked-zero _ 21 h)
 
-  line-free : (n : ℕ) (s : Segment) → countOf (text y (s .bytes) 1 0) ≡ Is n → lineFault y g pages n s ≡ 0
+  pub line-free : (n : ℕ) (s : Segment) → countOf (text y (s .bytes) 1 0) ≡ Is n → lineFault y g pages n s ≡ 0
   unfolding lineFault
   line-free n s e = rw (count-is n _ e)
 

@@ -1,17 +1,15 @@
 -- What judging keeps of segments without a fault: where placing stands, how many positions there were, and the reference in UNH.
-use Prim.Native.Nat.{ℕ, suc, _+_}
+use Prim.Native.Nat.{ℕ, _+_}
 use mathlib.Core.Path.{_≡_, refl, sym, _∙_, ap}
 use mathlib.Core.Bool.{Bool, true, false}
 use mathlib.Core.List.{List, [], _∷_, _++_}
 use native.Mathlib.Omega.{arith}
 use lib.ListN.{length}
-use lib.Dec.{T}
 use Rattle.cut.specs.declared.service.Syntax.{Syntax}
 use Rattle.cut.specs.Bytes.{bytesOf}
 use Rattle.cut.specs.Segments.{Segment}
 use Rattle.guide.specs.Nodes.{Guide}
 use Rattle.guide.specs.Page.{Page}
-use Rattle.guide.specs.Content.{text}
 use Rattle.guide.specs.Tree.{Kids, none, then, Given, one, giving, assigned, Beginning}
 use Rattle.guide.specs.Checks.{Passes}
 use Rattle.guide.specs.Sheet.{onlyIf, isTag, withTag}

@@ -41,3 +41,8 @@ pub mod ProperThrough
 pub mod Verdicts
 pub mod JudgedProper
 pub mod Keeping
+pub mod Blaming
+pub mod FaultFound
+pub mod FaultFree
+pub mod LastTag
+pub mod JudgedRefused
