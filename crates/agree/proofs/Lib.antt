@@ -1,0 +1,6 @@
+pub mod AgreeTexts
+pub mod AgreeSides
+pub mod AgreeWalk
+pub mod AgreeHeads
+pub mod AgreeSearch
+pub mod AgreeDistinct

@@ -1,0 +1,4 @@
+pub mod Agreement
+pub mod AgreeInner
+pub mod AgreePositions
+pub mod AgreeParts

@@ -1,0 +1,8 @@
+// Rule 23: which position of a message agrees with an earlier one.
+mod agree_first;
+mod agree_headings;
+mod agreement;
+
+pub use agree_first::Agreeing;
+pub use agree_first::first_agreeing;
+pub use agreement::segments_agree;
