@@ -13,6 +13,7 @@ pub use Rattle.guide.proofs.Contents.{price-format, article-stands}
 -- one pass over the components of a segment, as a cursor gives them, gives its first fault: the moods of an element, what a component and an
 -- element's end add, and the walk with its steps
 pub use Rattle.guide.proofs.OnePass.{Mood, asking, idle, owing, element-pass, absent-pass}
+pub use Rattle.guide.proofs.OnePass.{pickMood}
 unfoldable pub use Rattle.guide.proofs.OnePass.{isMust, anyMust, opened, moodAfter, moodFault, endFault, passFault, absentFault}
 pub use Rattle.guide.proofs.SegmentPass.{ending, walk-done, walk-tag, walk-further, walk-enter, segment-pass}
 unfoldable pub use Rattle.guide.proofs.SegmentPass.{walkFault}

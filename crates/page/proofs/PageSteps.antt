@@ -1,0 +1,100 @@
+-- The pass over a segment's components, one step further.
+use Prim.Native.Nat.{ℕ, zero, suc, _+_, _≤_, _<_}
+use mathlib.Core.Bool.{false}
+use mathlib.Core.Path.{_≡_, refl, sym, ap, _∙_}
+use mathlib.Core.List.{List, [], _∷_}
+use native.Mathlib.Omega.{arith}
+use lib.ListN.{getD, drop}
+use Rattle.cut.specs.Bytes.{part}
+use Rattle.cut.specs.declared.service.Syntax.{Syntax}
+use Rattle.element.specs.Components.{Component, components}
+use Rattle.element.specs.Plain.{plain, decoded}
+use Rattle.guide.specs.Page.{Row, unused, Page, beyond, elementOf, rowOf}
+use Rattle.guide.specs.PageFault.{pageFault}
+use Rattle.guide.specs.Choices.{orElse}
+use Rattle.guide.proofs.PageFace.{opened, moodAfter, moodFault, endFault, absentFault, absent-pass, walkFault, walk-done, walk-tag, walk-further, walk-enter, segment-pass}
+use Rattle.page.specs.PageColumns.{allElements, allRows}
+use Rattle.page.specs.PageWalk.{moodOf, Passed, PassedRow}
+
+pub or-first : (f x : ℕ) → 0 < f → f ≡ orElse f x
+or-first zero x h = absurd (omega arith)
+or-first (suc f) x h = refl
+
+pub or-second : (f x : ℕ) → f ≤ 0 → x ≡ orElse f x
+or-second zero x h = refl
+or-second (suc f) x h = absurd (omega arith)
+
+-- the first of two faults, by the test of the first
+pub first-told : (f g x : ℕ) → f ≡ g → 0 < f → f ≡ orElse g x
+first-told f g x e h = or-first f x h ∙ rw e
+
+pub second-told : (f g r x : ℕ) → f ≡ g → f ≤ 0 → r ≡ x → r ≡ orElse g x
+second-told f g r x e h p = p ∙ or-second f x h ∙ rw e
+
+module _ (y : Syntax) (page : Page) where
+  -- the row of a component, by its place in the columns
+  pub row-passed
+      : (k r e c m : ℕ) (t : List ℕ) (fault m′ : ℕ) → getD allElements k beyond ≡ elementOf page e
+      → getD allRows r unused ≡ getD (getD allElements k beyond .rows) c unused → fault ≡ moodFault y (moodOf m) (getD allRows r unused) t
+      → moodOf m′ ≡ moodAfter (moodOf m) (getD allRows r unused) t → PassedRow y page e c m t fault e c m′
+  unfolding rowOf
+  row-passed k r e c m t fault m′ p q f a =
+      let w : getD allRows r unused ≡ getD (elementOf page e .rows) c unused = q ∙ rw p in
+      record {
+        told = f ∙ ap (λ (x : Row). moodFault y (moodOf m) x t) w;
+        mood = a ∙ ap (λ (x : Row). moodAfter (moodOf m) x t) w;
+        element = refl;
+        component = refl;
+      }
+
+  module _ (d : List ℕ) (e₀ c₀ m₀ e c a b : ℕ) where
+    abbrev here : Component
+    here = record { element = e; component = c; start = a; bytes = part a b d }
+
+    pub passed-tag : e ≡ 0 → (fault : ℕ) → fault ≡ 0 → Passed y page e₀ c₀ m₀ here fault e₀ c₀ m₀
+    passed-tag h fault z ks = walk-tag y page e₀ (c₀ + 1) (moodOf m₀) here ks h ∙ or-second fault _ (omega arith)
+
+    module _ (z : e ≡ 0 → ⊥) where
+      pub passed-further
+          : (fault e′ c′ m′ : ℕ) → 0 < c → PassedRow y page e c m₀ (decoded y a b d) fault e′ c′ m′ → Passed y page e₀ c₀ m₀ here fault e′ c′ m′
+      unfolding decoded
+      passed-further fault e′ c′ m′ h p ks =
+          walk-further y page e₀ (c₀ + 1) (moodOf m₀) here ks z (λ q. omega arith)
+          ∙ rw (p .told, p .mood, p .element, p .component)
+
+      pub passed-ended : (fault e′ c′ m′ : ℕ) → c ≤ 0 → fault ≡ endFault (moodOf m₀) (drop (c₀ + 1) (elementOf page e₀ .rows)) → 0 < fault → Passed y page e₀ c₀ m₀ here fault e′ c′ m′
+      passed-ended fault e′ c′ m′ h p l ks =
+          let k = opened (elementOf page e) in
+          let t = plain y false (part a b d) in
+          let x = orElse (moodFault y k (rowOf page e c) t) (walkFault y page e (c + 1) (moodAfter k (rowOf page e c) t) ks) in
+          walk-enter y page e₀ (c₀ + 1) (moodOf m₀) here ks z (omega arith)
+          ∙ ap (λ (f : ℕ). orElse f x) (sym p)
+          ∙ sym (or-first fault x l)
+          ∙ or-first fault (walkFault y page e′ (c′ + 1) (moodOf m′) ks) l
+
+      pub passed-entered
+          : (f m fault e′ c′ m′ : ℕ) → c ≤ 0 → f ≡ endFault (moodOf m₀) (drop (c₀ + 1) (elementOf page e₀ .rows)) → f ≤ 0
+          → moodOf m ≡ opened (elementOf page e) → PassedRow y page e c m (decoded y a b d) fault e′ c′ m′ → Passed y page e₀ c₀ m₀ here fault e′ c′ m′
+      unfolding decoded
+      passed-entered f m fault e′ c′ m′ h p l o w ks =
+          let q : f ≡ 0 = omega arith in
+          walk-enter y page e₀ (c₀ + 1) (moodOf m₀) here ks z (omega arith)
+          ∙ rw (sym p ∙ q, ← o, w .told, w .mood, w .element, w .component)
+
+  -- no component is left
+  pub passed-all
+      : (e c m : ℕ) (ks : List Component) → ks ≡ []
+      → walkFault y page e (c + 1) (moodOf m) ks ≡ orElse (endFault (moodOf m) (drop (c + 1) (elementOf page e .rows))) (absentFault (drop e page))
+  passed-all e c m ks h = rw (h, walk-done y page e (c + 1) (moodOf m), absent-pass y (drop e page))
+
+  -- before the first
+  pub passed-none : (p : ℕ) (s : List ℕ) (ks : List Component) → ks ≡ components y p s → walkFault y page 0 (0 + 1) (moodOf 0) ks ≡ pageFault y page s
+  passed-none p s ks h = rw h (segment-pass y page (0 + 1) p s)
+
+  -- a component was passed: its fault decides, or the pass goes on
+  module _ (e c m fault e′ c′ m′ : ℕ) (k : Component) (all rest : List Component) (w : Passed y page e c m k fault e′ c′ m′) (l : all ≡ k ∷ rest) where
+    pub pass-stops : 0 < fault → walkFault y page e (c + 1) (moodOf m) all ≡ fault
+    pass-stops h = rw l (w rest ∙ sym (or-first fault _ h))
+
+    pub pass-goes : fault ≤ 0 → walkFault y page e (c + 1) (moodOf m) all ≡ walkFault y page e′ (c′ + 1) (moodOf m′) rest
+    pass-goes h = rw l (w rest ∙ sym (or-second fault _ h))

@@ -1,0 +1,2 @@
+pub mod PageColumns
+pub mod PageWalk

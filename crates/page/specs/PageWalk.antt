@@ -1,0 +1,27 @@
+-- What the workers of the page check promise each other; no public call cites these.
+use Prim.Native.Nat.{ℕ, zero, suc, _+_}
+use mathlib.Core.Path.{_≡_}
+use mathlib.Core.List.{List, _∷_}
+use Rattle.cut.specs.declared.service.Syntax.{Syntax}
+use Rattle.element.specs.Components.{Component}
+use Rattle.guide.specs.Page.{Page, rowOf}
+use Rattle.guide.specs.Choices.{orElse}
+use Rattle.guide.proofs.PageFace.{Mood, asking, idle, owing, moodAfter, moodFault, walkFault}
+
+-- 0 idle, 1 asking, else owing
+abbrev pub moodOf : ℕ → Mood
+moodOf zero = idle
+moodOf (suc zero) = asking
+moodOf (suc (suc n)) = owing
+
+-- the component k was passed behind component c of element e: its fault, or where the pass stands after it
+abbrev pub Passed : Syntax → Page → ℕ → ℕ → ℕ → Component → ℕ → ℕ → ℕ → ℕ → Type 0
+Passed y page e c m k fault e′ c′ m′ =
+    (ks : List Component) → walkFault y page e (c + 1) (moodOf m) (k ∷ ks) ≡ orElse fault (walkFault y page e′ (c′ + 1) (moodOf m′) ks)
+
+-- component c of element e has the text t and is judged with the given mood: its fault, and where the pass stands after it
+pub record PassedRow (y : Syntax) (page : Page) (e c m : ℕ) (t : List ℕ) (fault e′ c′ m′ : ℕ) : Type 0 where
+  pub told : fault ≡ moodFault y (moodOf m) (rowOf page e c) t
+  pub mood : moodOf m′ ≡ moodAfter (moodOf m) (rowOf page e c) t
+  pub element : e′ ≡ e
+  pub component : c′ ≡ c
