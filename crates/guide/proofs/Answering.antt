@@ -20,7 +20,8 @@ use Rattle.guide.specs.Nodes.{Guide, node}
 use Rattle.guide.specs.Page.{Page}
 use Rattle.guide.specs.Content.{text, Holds}
 use Rattle.guide.specs.PageFault.{pageFault}
-use Rattle.guide.specs.Placing.{Answer, placed, refused, place}
+use Rattle.guide.specs.Placing.{place}
+use Rattle.guide.specs.Answers.{Answer, placed, refused}
 use Rattle.guide.specs.Sheet.{isTag}
 use Rattle.guide.specs.Accepted.{Clean, seen}
 use Rattle.guide.specs.Judging.{Memory, is, bytesFault, endFault, lineFault, ruleFault, contentFault, unlessFault, thenContent, thenPlace, segmentAnswer}

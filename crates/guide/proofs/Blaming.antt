@@ -19,7 +19,7 @@ use Rattle.guide.specs.Page.{Page}
 use Rattle.guide.specs.Content.{text, Holds}
 use Rattle.guide.specs.FirstFault.{First, Fault, not-used, missing, wrong-format, wrong-code}
 use Rattle.guide.specs.PageFault.{pageFault}
-use Rattle.guide.specs.Placing.{Answer, placed, refused}
+use Rattle.guide.specs.Answers.{Answer, placed, refused}
 use Rattle.guide.specs.Sheet.{isTag}
 use Rattle.guide.specs.Accepted.{Clean}
 use Rattle.guide.specs.Judging.{Memory, is, bytesFault, endFault, lineFault, ruleFault, contentFault, unlessFault, thenContent, thenPlace, segmentAnswer}

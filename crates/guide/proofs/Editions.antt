@@ -9,7 +9,8 @@ use Rattle.element.specs.Plain.{same}
 use Rattle.guide.specs.Pricat.{pricat20d, pricat20c}
 use Rattle.guide.specs.Tree.{Whole, Beginning}
 use Rattle.guide.specs.Placing.{start, fault, run}
-use Rattle.guide.specs.Meaning.{Goes, GoesTo, Stops}
+use Rattle.guide.specs.Meaning.{Stops}
+use Rattle.guide.specs.Runs.{Goes, GoesTo}
 use Rattle.guide.specs.Checks.{every, rising, shared, together, overlap, clear, apartAt, apart, distinct, ends, Passes}
 use Rattle.guide.proofs.Tables.{passing, distinct-takes}
 use Rattle.guide.proofs.Fitting.{only-one, goes-beginning, front-begins}

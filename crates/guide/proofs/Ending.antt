@@ -11,7 +11,7 @@ use borrow.Author.Tests.{eqb-true, eqb-false}
 use Rattle.guide.specs.Nodes.{View, Guide, node, takes, required}
 use Rattle.guide.specs.Tree.{Kids, none, then, one, count, top, All, Next, Closed, Open, Whole, Beginning}
 use Rattle.guide.specs.Placing.{start, run}
-use Rattle.guide.specs.Meaning.{GoesTo}
+use Rattle.guide.specs.Runs.{GoesTo}
 use Rattle.guide.specs.Checks.{Rising, Apart, Ends}
 use Rattle.guide.proofs.Basics.{one-same, one-other}
 use Rattle.guide.proofs.Tables.{takes-limit}

@@ -11,7 +11,7 @@ use Rattle.cut.specs.Segments.{Segment}
 use Rattle.guide.specs.Nodes.{Guide, capacity}
 use Rattle.guide.specs.Page.{Page}
 use Rattle.guide.specs.Tree.{Given, assigned, Beginning}
-use Rattle.guide.specs.Placing.{Answer, placed, refused}
+use Rattle.guide.specs.Answers.{Answer, placed, refused}
 use Rattle.guide.specs.Meaning.{Outcome}
 use Rattle.guide.specs.Checks.{Passes}
 use Rattle.guide.specs.Sheet.{withTag}

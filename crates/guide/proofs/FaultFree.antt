@@ -10,7 +10,7 @@ use Rattle.cut.specs.Segments.{Segment}
 use Rattle.guide.specs.Nodes.{Guide}
 use Rattle.guide.specs.Page.{Page}
 use Rattle.guide.specs.Tree.{Given}
-use Rattle.guide.specs.Placing.{placed, refused}
+use Rattle.guide.specs.Answers.{placed, refused}
 use Rattle.guide.specs.Checks.{Passes}
 use Rattle.guide.specs.Frames.{Framed}
 use Rattle.guide.specs.Judging.{Memory, fresh, segmentAnswer}

@@ -12,7 +12,7 @@ use Rattle.cut.specs.Messages.{lastEnd}
 use Rattle.guide.specs.Nodes.{Guide}
 use Rattle.guide.specs.Page.{Page}
 use Rattle.guide.specs.Tree.{Given, giving}
-use Rattle.guide.specs.Placing.{Answer, placed, refused}
+use Rattle.guide.specs.Answers.{Answer, placed, refused}
 use Rattle.guide.specs.Sheet.{isTag}
 use Rattle.guide.specs.Judging.{accepts, refuses, pickVerdict, Memory, segmentAnswer, remember, judgeFrom}
 

@@ -14,7 +14,8 @@ use Rattle.guide.specs.Nodes.{Guide}
 use Rattle.guide.specs.Page.{Page}
 use Rattle.guide.specs.Content.{text, Holds}
 use Rattle.guide.specs.Tree.{Given, one}
-use Rattle.guide.specs.Placing.{Answer, placed, refused, State, after, fits, follow, run, give, given}
+use Rattle.guide.specs.Placing.{State, after, fits, follow, run, give, given}
+use Rattle.guide.specs.Answers.{Answer, placed, refused}
 use Rattle.guide.specs.Sheet.{onlyIf, isTag, withTag}
 use Rattle.guide.specs.Accepted.{Each, Clean, seen, Numbered}
 use Rattle.guide.specs.Judging.{Memory, pickBytes}

@@ -7,7 +7,8 @@ use native.Mathlib.Omega.{arith}
 use lib.ListN.{length, length-map}
 use Rattle.guide.specs.Nodes.{View, Guide}
 use Rattle.guide.specs.Tree.{none, Whole, Beginning}
-use Rattle.guide.specs.Placing.{refused, place, State, start, fits, fault, run}
+use Rattle.guide.specs.Placing.{place, State, start, fits, fault, run}
+use Rattle.guide.specs.Answers.{refused}
 use Rattle.guide.specs.Meaning.{Outcome, Stops}
 use Rattle.guide.specs.Checks.{Rising, Apart}
 use Rattle.guide.proofs.Basics.{map-append}

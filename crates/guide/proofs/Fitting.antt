@@ -8,7 +8,7 @@ use lib.ListN.{length}
 use Rattle.guide.specs.Nodes.{View, Guide}
 use Rattle.guide.specs.Tree.{none, Given, assigned, Beginning}
 use Rattle.guide.specs.Placing.{State, start, Ran, fits, fault, run, given}
-use Rattle.guide.specs.Meaning.{Goes}
+use Rattle.guide.specs.Runs.{Goes}
 use Rattle.guide.specs.Checks.{Rising, Apart}
 use Rattle.guide.proofs.Basics.{map-append}
 use Rattle.guide.proofs.Growing.{Begun, begun-none}

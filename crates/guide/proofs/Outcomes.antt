@@ -9,7 +9,8 @@ use borrow.Author.Tests.{ne-eqb, ltb-true, ltb-false}
 use Rattle.guide.specs.Nodes.{View, Guide, node, takes, over}
 use Rattle.guide.specs.Tree.{Kids, count, Open}
 use Rattle.guide.specs.Steps.{Claim, At, here, below, Might, Fresh, Full, Short, Lacking}
-use Rattle.guide.specs.Placing.{seek, tally, missing, refused, pickAnswer, unlessMissing, answer, place, State}
+use Rattle.guide.specs.Placing.{seek, tally, missing, pickAnswer, unlessMissing, answer, place, State}
+use Rattle.guide.specs.Answers.{refused}
 use Rattle.guide.specs.Meaning.{Outcome, moved, no-node, too-many, short}
 use Rattle.guide.specs.Checks.{Rising}
 use Rattle.guide.proofs.Tables.{over-any}

@@ -26,7 +26,7 @@ use Rattle.guide.specs.Steps.{
   earlier,
   Lacking,
 }
-use Rattle.guide.specs.Placing.{Answer, placed, refused}
+use Rattle.guide.specs.Answers.{Answer, placed, refused}
 use Rattle.guide.specs.Meaning.{Outcome, moved, no-node, too-many, short}
 use Rattle.guide.specs.Checks.{Rising, Apart}
 use Rattle.guide.proofs.Basics.{same-number}

@@ -10,7 +10,8 @@ use lib.Dec.{T}
 use Rattle.guide.specs.Nodes.{View, Guide, takes}
 use Rattle.guide.specs.Tree.{Kids, none, then, Given, segs, giving, assigned}
 use Rattle.guide.specs.Steps.{Claim, Possible, At, add, Fresh}
-use Rattle.guide.specs.Placing.{Answer, placed, refused, place, State, start, after, fits, fault, follow, run, give, given}
+use Rattle.guide.specs.Placing.{place, State, start, after, fits, fault, follow, run, give, given}
+use Rattle.guide.specs.Answers.{Answer, placed, refused}
 use Rattle.guide.specs.Meaning.{Outcome, moved}
 use Rattle.guide.specs.Checks.{Rising, Apart}
 use Rattle.guide.proofs.Basics.{map-append}

@@ -11,7 +11,8 @@ use borrow.Author.Tests.{ne-eqb, eqb-true, eqb-false, ltb-false, ltb-true}
 use Rattle.guide.specs.Nodes.{View, Guide, node, takes}
 use Rattle.guide.specs.Tree.{Kids, none, then, one, count, Open}
 use Rattle.guide.specs.Steps.{Claim, Possible, At, here, below, add}
-use Rattle.guide.specs.Placing.{Level, level, pickLevels, levels, tally, recounted, placed, countsAfter, lastAfter, State, start, after}
+use Rattle.guide.specs.Placing.{Level, level, pickLevels, levels, tally, recounted, countsAfter, lastAfter, State, start, after}
+use Rattle.guide.specs.Answers.{placed}
 use Rattle.guide.specs.Checks.{Rising}
 use Rattle.guide.proofs.Recounting.{recounted-length, recounted-itself, recounted-child, recounted-other}
 use Rattle.guide.proofs.Tables.{takes-limit, in-table}

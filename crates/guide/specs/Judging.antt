@@ -20,7 +20,8 @@ use Rattle.guide.specs.Page.{Page}
 use Rattle.guide.specs.Content.{text}
 use Rattle.guide.specs.PageFault.{pageFault}
 use Rattle.guide.specs.Tree.{one}
-use Rattle.guide.specs.Placing.{Answer, placed, refused, place, State, start, after}
+use Rattle.guide.specs.Placing.{place, State, start, after}
+use Rattle.guide.specs.Answers.{Answer, placed, refused}
 use Rattle.guide.specs.Sheet.{isTag}
 
 -- accepted with the count of its segments and the byte after it; or refused with number, segment, place and node

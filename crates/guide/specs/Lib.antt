@@ -1,3 +1,4 @@
+pub mod Answers
 pub mod Choices
 pub mod Nodes
 pub mod Pricat
@@ -21,3 +22,4 @@ pub mod Frames
 pub mod Accepted
 pub mod Judging
 pub mod Refusal
+pub mod Runs

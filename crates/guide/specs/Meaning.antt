@@ -1,13 +1,13 @@
 -- What an answer of placing means over the tree of the segments before. Document 01, 'Refusal numbers', 13 to 16.
 use Prim.Native.Nat.{ℕ, suc}
 use mathlib.Core.Path.{_≡_}
-use mathlib.Core.List.{List, _∷_, _++_, map}
+use mathlib.Core.List.{List, _∷_, _++_}
 use lib.ListN.{length}
 use lib.Dec.{T}
 use Rattle.guide.specs.Nodes.{View, Guide, takes}
 use Rattle.guide.specs.Tree.{Kids, Beginning}
 use Rattle.guide.specs.Steps.{At, Might, Fresh, Full, Lacking}
-use Rattle.guide.specs.Placing.{Answer, placed, refused, State, start, fits, run}
+use Rattle.guide.specs.Answers.{Answer, placed, refused}
 
 module _ {A : Type 0} (g : Guide) (view : A → View) (f : Kids A) (s : A) where
   pub data Outcome : Answer → Type 0 where
@@ -21,14 +21,6 @@ module _ {A : Type 0} (g : Guide) (view : A → View) (f : Kids A) (s : A) where
     short : {n m : ℕ} → T (takes g n (view s)) → At (Lacking g m) 0 f n → Outcome (refused 14 m)
 
 module _ {A : Type 0} (g : Guide) (view : A → View) where
-  -- the segments ss are placed one after the other without a fault; z is how many counts the state has
-  abbrev pub Goes : ℕ → List A → Type 0
-  Goes z ss = (st : State) × (run g 1 (map view ss) (start z) ≡ fits st)
-
-  -- ... and the last of them is an instance of node u
-  abbrev pub GoesTo : ℕ → ℕ → List A → Type 0
-  GoesTo z u ss = (st : State) × (run g 1 (map view ss) (start z) ≡ fits st) × (st .last ≡ u)
-
   -- segment i of ss is refused with number k and node m: those before it are a beginning, and over its tree the row of k says so
   pub record Stops (ss : List A) (k i m : ℕ) : Type 0 where
     pub front : List A

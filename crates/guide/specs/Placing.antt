@@ -6,6 +6,7 @@ use mathlib.Core.List.{List, [], _∷_}
 use lib.ListN.{length, getD, replicate}
 use lib.Dec.{eqb, ltb, leb}
 use Rattle.guide.specs.Choices.{pickℕ, orElse}
+use Rattle.guide.specs.Answers.{Answer, placed, refused}
 use Rattle.guide.specs.Nodes.{View, Guide, node, matches, required, over}
 
 -- the lowest of the k numbers from i on that passes the test; 0 if none does
@@ -58,11 +59,6 @@ lacking g cs n p m =
 unfoldable pub missing : Guide → List ℕ → ℕ → List Level → ℕ
 missing g cs n [] = 0
 missing g cs n (l ∷ ls) = orElse (firstNode g (lacking g cs n (l .node))) (pickℕ (eqb (l .node) (node g n .parent)) 0 (missing g cs n ls))
-
--- the segment's node, or a refusal with its number and node
-pub data Answer : Type 0 where
-  placed : ℕ → Answer
-  refused : ℕ → ℕ → Answer
 
 abbrev pub pickAnswer : Bool → Answer → Answer → Answer
 pickAnswer true a b = a

@@ -18,7 +18,7 @@ use Rattle.guide.specs.Page.{Page}
 use Rattle.guide.specs.Content.{text, Holds}
 use Rattle.guide.specs.FirstFault.{First}
 use Rattle.guide.specs.Tree.{assigned, Beginning}
-use Rattle.guide.specs.Placing.{placed, refused}
+use Rattle.guide.specs.Answers.{placed, refused}
 use Rattle.guide.specs.Meaning.{Outcome}
 use Rattle.guide.specs.Sheet.{isTag, withTag}
 use Rattle.guide.specs.Accepted.{Clean, seen, segmentsOf, lastOf}

@@ -9,3 +9,4 @@ pub mod Fits
 pub mod Gaps
 pub mod Counts
 pub mod Outcomes
+pub mod Face

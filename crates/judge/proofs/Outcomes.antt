@@ -7,7 +7,8 @@ use lib.ListN.{length, getD, List·getD-eq-default}
 use lib.Dec.{eqb, ltb, leb}
 use borrow.Author.Tests.{eq-eqb, ne-eqb, lt-ltb, le-ltb, ltb-true, ltb-false, leb-true, leb-false}
 use Rattle.guide.specs.Nodes.{View, Node, Guide, message, node, matches, over}
-use Rattle.guide.specs.Placing.{firstNode, Level, levels, fitsIn, seek, missing, Answer, placed, refused, place, recounted, countsAfter}
+use Rattle.guide.specs.Placing.{firstNode, Level, levels, fitsIn, seek, missing, place, recounted, countsAfter}
+use Rattle.guide.specs.Answers.{Answer, placed, refused}
 use Rattle.guide.specs.Choices.{orElse}
 use Rattle.judge.specs.declared.editions.Edition.{Edition}
 use Rattle.judge.specs.declared.placing.Placed.{Placed}

@@ -1,5 +1,5 @@
 -- What placing a segment answers, as the declared enum has it.
-use Rattle.guide.specs.Placing.{Answer, placed, refused}
+use Rattle.guide.specs.Answers.{Answer, placed, refused}
 use Rattle.judge.specs.declared.placing.Placed.{Placed}
 use Rattle.judge.specs.declared.placing.Placed.the-variants.{At, Refused}
 
