@@ -9,4 +9,5 @@ pub mod Fits
 pub mod Gaps
 pub mod Counts
 pub mod Outcomes
+pub mod Tagged
 pub mod Face

@@ -8,8 +8,10 @@ mod pricat20c;
 mod pricat20d;
 mod rows;
 mod seeking;
+mod tags;
 mod words;
 
 pub use editions::Edition;
 pub use placing::Placed;
 pub use placing::place;
+pub use tags::has_tag;

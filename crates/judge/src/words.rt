@@ -14,7 +14,7 @@ fn wide(x: u8) -> u32
 }
 
 // The bytes from a up to e, at most three.
-fn pack(d: &[u8], a: usize, e: usize) -> u32
+pub(crate) fn pack(d: &[u8], a: usize, e: usize) -> u32
     requires { ⌜ (e ≤ length (now d)) × (e ≤ a + 3) ⌝ }
     ensures { λ r. ⌜ r ≡ packed (part a e (now (d .entry))) ⌝ }
 {

@@ -1,0 +1,20 @@
+// Which tag a node has.
+use crate::editions::Edition;
+use crate::editions::rows_of;
+use crate::rows::tag_of;
+use crate::words::pack;
+ghost use mathlib.Core.List.{[], _∷_};
+ghost use mathlib.Core.Path.{_≡_};
+ghost use Rattle.guide.specs.Sheet.{isTag};
+ghost use Rattle.judge.specs.Editions.{guideOf};
+
+// Whether node n has the tag of these three bytes; past the table's end there is no node.
+pub fn has_tag(edition: Edition, n: usize, a: u8, b: u8, c: u8) -> bool
+    ensures { λ r. ⌜ r ≡ isTag (guideOf edition) (a ∷ b ∷ c ∷ []) n ⌝ }
+{
+    if rows_of(edition) <= n {
+        return false;
+    }
+    let word = [a, b, c];
+    tag_of(edition, n) == pack(&word, 0, 3)
+}
