@@ -1,0 +1,9 @@
+// The verdict of one message: its segments one after the other, then its end, then agreeing positions.
+mod answers;
+mod faults;
+mod kept;
+mod message;
+mod segment;
+
+pub use answers::Verdict;
+pub use message::verdict_of;
