@@ -3,7 +3,7 @@ use Prim.Native.Nat.{ℕ, zero, suc, _+_}
 use mathlib.Core.Path.{_≡_}
 use mathlib.Core.Bool.{Bool, false, _&&_, _||_}
 use mathlib.Core.List.{List}
-use lib.ListN.{length, drop}
+use lib.ListN.{drop}
 use Rattle.cut.specs.declared.service.Syntax.{Syntax}
 use Rattle.cut.specs.Bytes.{bytesOf, part}
 use Rattle.cut.specs.Segments.{Segment, segmentsFrom}
@@ -58,7 +58,7 @@ countsLeft (suc k) a cs = cs
 -- 23 or accepted, for n segments from `start` up to `at`
 unfoldable pub agreementAt : Syntax → List ℕ → ℕ → ℕ → ℕ → Verdict
 agreementAt y d start n at =
-    unlessAgreeing y pricat20d (segmentsAt y d start) (firstAgreeing y (positionsOf (segmentsFrom y start false (part start (length d) d)))) (accepts n at)
+    unlessAgreeing y pricat20d (segmentsAt y d start) (firstAgreeing y (positionsOf (segmentsAt y d start))) (accepts n at)
 
 -- 24, 23 or accepted
 unfoldable pub endedWith : Syntax → List ℕ → ℕ → Kept → ℕ → ℕ → Verdict

@@ -1,67 +1,72 @@
+-- `verdict::message::node_at` meets its contract. The loop's invariant: `Sought`.
+use mathlib.Core.Bool.{false}
+use mathlib.Core.Path.{sym, _∙_}
+use native.Mathlib.Omega.{arith}
+use Rattle.cut.proofs.First.{Cutting, cutting, nothing}
+use Rattle.verdict.proofs.NodeSought.{Sought, sought-first, sought-done, sought-none, sought-refused, sought-on}
+use borrow.Author.Needs.{needs}
 use Rattle.verdict.proofs.message.node_at.Statement.{statement}
 use Rattle.verdict.proofs.message.node_at.Tie as tie
-use Rattle.verdict.proofs.message.node_at.Reads as reads
-use Rattle.verdict.proofs.message.node_at.Lts as lts
-use Rattle.cut.proofs.segment_at.Reads as segment-at-reads
-use Rattle.judge.proofs.place.Reads as place-reads
 
 abbrev Inv-loop : tie.InvT-loop
-Inv-loop y d start i counts₀ last₀ at₀ left₀ counts last at left = ?
+Inv-loop y d start i counts₀ last₀ at₀ left₀ counts last at left = Sought y d start i at last counts left
 
 abbrev μ-loop : tie.MeasureT-loop
-μ-loop y d start i counts₀ last₀ at₀ left₀ counts last at left = ?
+μ-loop y d start i counts₀ last₀ at₀ left₀ counts last at left = left
 
--- src/message.rt:126:5
+took
+    : (c : tie.After-known-told Inv-loop μ-loop)
+    → Cutting (c .before .before .before .before .before .before .before .args .y) (c .before .before .before .before .before .before .before .args .d .now) (c .before .before .before .before .before .loop .at) false
+    (c .before .s .given .0 .0) (c .before .s .given .0 .1 .0) (c .before .s .given .0 .1 .1 .0)
+took c = cutting _ _ _ _ _ _ _ (sym (c .before .before .before .segment-at .ensures) ∙ c .before .s .given .1)
+
 loop-holds : tie.Need-loop-holds Inv-loop μ-loop
-loop-holds c = ?
+loop-holds c = sought-first _ _ _ _
 
--- src/message.rt:127:13
 segment-at-requires : tie.Need-segment-at-requires Inv-loop μ-loop
-segment-at-requires c κs = ?
+segment-at-requires c κs = search needs
 
--- src/message.rt:129:20
 enum-known-s : tie.Need-enum-known-s Inv-loop μ-loop
-enum-known-s c = ?
+enum-known-s c = search needs
 
--- src/message.rt:134:13
 enum-told : tie.Need-enum-told Inv-loop μ-loop
-enum-told c = ?
+enum-told c = search needs
 
--- src/message.rt:134:13
 returns : tie.Need-returns Inv-loop μ-loop
-returns c = ?
+returns c =
+    sought-none _ _ _ _ _ _ _ _ (c .before .before .before .before .loop .inv) (c .before .before .before .loop-test .taken)
+    (nothing _ _ _ _ (sym (c .before .before .segment-at .ensures) ∙ c .enum-told .given .1))
 
--- src/message.rt:136:13
 place-requires : tie.Need-place-requires Inv-loop μ-loop
-place-requires c κs = ?
+place-requires c κs = search needs
 
--- src/message.rt:137:24
 enum-known-placed : tie.Need-enum-known-placed Inv-loop μ-loop
-enum-known-placed c = ?
+enum-known-placed c = search needs
 
--- src/message.rt:138:13
 enum-told-2 : tie.Need-enum-told-2 Inv-loop μ-loop
-enum-told-2 c = ?
+enum-told-2 c = search needs
 
--- src/message.rt:138:13
 returns-2 : tie.Need-returns-2 Inv-loop μ-loop
-returns-2 c = ?
+returns-2 c =
+    let cut = c .before .before .before .before in
+    let head = cut .before .before .before .before .before in
+    sought-refused _ _ _ _ _ _ _ _ (head .loop .inv) (cut .before .before .before .before .loop-test .taken) _ _ _ (took cut) _ (c .before .before .place .ensures .0) _ _ (c .enum-told2 .given .1)
 
--- src/message.rt:141:9
 sub-left : tie.Need-sub-left Inv-loop μ-loop
-sub-left c = ?
+sub-left c = search needs
 
--- src/message.rt:126:5
 loop-less : tie.Need-loop-less Inv-loop μ-loop
-loop-less c = ?
+loop-less c = search needs
 
--- src/message.rt:126:5
 loop-again : tie.Need-loop-again Inv-loop μ-loop
-loop-again c = ?
+loop-again c =
+    let cut = c .before .before .before .before .before in
+    let head = cut .before .before .before .before .before in
+    sought-on _ _ _ _ _ _ _ _ (head .loop .inv) (cut .before .before .before .before .loop-test .taken) _ _ _ (took cut) _ (c .before .before .before .place .ensures .0)
+    _ (c .before .placed .given .1) _ (c .before .before .before .place .ensures .1)
 
--- src/message.rt:119:1
 returns-3 : tie.Need-returns-3 Inv-loop μ-loop
-returns-3 c = ?
+returns-3 c = sought-done _ _ _ _ _ _ _ _ (c .before .loop .inv) (c .loop-test .left)
 
 pub node-at-spec : {M : Type 1} → statement M
 node-at-spec =

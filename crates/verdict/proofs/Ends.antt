@@ -1,0 +1,61 @@
+-- The end of a message whose segments have no fault: 24, 23 or accepted.
+use Prim.Native.Nat.{ℕ, suc, _+_, _-_, _≤_}
+use mathlib.Core.Path.{_≡_, refl, sym, _∙_, ap}
+use mathlib.Core.Bool.{Bool, true, false}
+use mathlib.Core.List.{List}
+use native.Mathlib.Omega.{arith}
+use lib.ListN.{length, drop, length-drop}
+use lib.Seq.{take-all}
+use Rattle.cut.specs.declared.service.Syntax.{Syntax}
+use Rattle.cut.specs.Bytes.{bytesOf, part}
+use Rattle.cut.specs.Segments.{segmentsFrom}
+use Rattle.guide.specs.Pricat.{pricat20d}
+use Rattle.guide.specs.Sheet.{isTag}
+use Rattle.agree.specs.AgreePositions.{positionsOf, firstAgreeing}
+use Rattle.agree.specs.declared.agree_first.Agreeing.{Agreeing}
+use Rattle.agree.specs.declared.agree_first.Agreeing.the-variants.{At, Nothing}
+use Rattle.verdict.specs.declared.answers.Verdict.{Verdict}
+use Rattle.verdict.specs.declared.answers.Verdict.the-variants.{Accepted, Refused}
+use Rattle.verdict.specs.declared.kept.Kept.{Kept}
+use Rattle.verdict.specs.Answers.{declared}
+use Rattle.verdict.specs.Verdicts.{nodeOf, unlessAgreeing}
+use Rattle.verdict.specs.Workers.{segmentsAt, agreementAt, endedWith}
+
+-- the part up to the delivery's end or further is all that follows
+pub part-all : (d : List ℕ) (start end : ℕ) → length d ≤ end → part start end d ≡ drop start d
+unfolding part
+part-all d start end h =
+    let n : length (drop start d) ≤ end - start = rw (length-drop start d) (omega arith) in
+    take-all (end - start) (drop start d) n
+
+module _ (y : Syntax) (d : List ℕ) (start n at : ℕ) where
+  module _ (a : Agreeing) (is : a ≡ firstAgreeing y (positionsOf (segmentsFrom y start false (part start (length d) d)))) where
+    same-agreeing : firstAgreeing y (positionsOf (segmentsAt y d start)) ≡ a
+    same-agreeing = sym (is ∙ rw (part-all d start (length d) (omega arith)))
+
+    pub agrees : (i p : ℕ) → a ≡ At i p → (m : ℕ) → m ≡ nodeOf y pricat20d (segmentsAt y d start) i → Refused 23 i p m ≡ declared (agreementAt y d start n at)
+    unfolding agreementAt unlessAgreeing
+    agrees i p h m k = rw (same-agreeing ∙ h, k)
+
+    pub none-agrees : a ≡ Nothing → Accepted n at ≡ declared (agreementAt y d start n at)
+    unfolding agreementAt unlessAgreeing
+    none-agrees h = rw (same-agreeing ∙ h)
+
+  module _ (kept : Kept) (u : Bool) (unt : u ≡ isTag pricat20d (bytesOf "UNT") (kept .last)) where
+    abbrev Ended : Verdict → Type 0
+    Ended r = r ≡ declared (endedWith y d start kept n at)
+
+    pub no-end : u ≡ false → Ended (Refused 24 (n + 1) at 0)
+    unfolding endedWith
+    no-end h =
+        let z : n + 1 ≡ suc n = omega arith in
+        rw (← unt, h, z)
+
+    module _ (ends : u ≡ true) where
+      pub not-compared : kept .intervals ≡ true → Ended (Accepted n at)
+      unfolding endedWith
+      not-compared h = rw (← unt, ends, h)
+
+      pub compared : kept .intervals ≡ false → (r : Verdict) → r ≡ declared (agreementAt y d start n at) → Ended r
+      unfolding endedWith
+      compared h r e = rw (← unt, ends, h) e
