@@ -4,11 +4,13 @@ use mathlib.Core.Path.{_≡_, refl, sym, _∙_, ap}
 use mathlib.Core.Bool.{Bool, true, false}
 use mathlib.Core.List.{List}
 use native.Mathlib.Omega.{arith}
-use lib.ListN.{length, drop, length-drop}
+use lib.ListN.{length, take, drop, length-drop}
 use lib.Seq.{take-all}
 use Rattle.cut.specs.declared.service.Syntax.{Syntax}
 use Rattle.cut.specs.Bytes.{bytesOf, part}
 use Rattle.cut.specs.Segments.{segmentsFrom}
+use Rattle.element.proofs.Limits.{drop-part}
+use Rattle.guide.specs.Pages20d.{pageOf}
 use Rattle.guide.specs.Pricat.{pricat20d}
 use Rattle.guide.specs.Sheet.{isTag}
 use Rattle.agree.specs.AgreePositions.{positionsOf, firstAgreeing}
@@ -18,7 +20,7 @@ use Rattle.verdict.specs.declared.answers.Verdict.{Verdict}
 use Rattle.verdict.specs.declared.answers.Verdict.the-variants.{Accepted, Refused}
 use Rattle.verdict.specs.declared.kept.Kept.{Kept}
 use Rattle.verdict.specs.Answers.{declared}
-use Rattle.verdict.specs.Verdicts.{nodeOf, unlessAgreeing}
+use Rattle.verdict.specs.Verdicts.{nodeOf, unlessAgreeing, verdictFrom}
 use Rattle.verdict.specs.Workers.{segmentsAt, agreementAt, endedWith}
 
 -- the part up to the delivery's end or further is all that follows
@@ -59,3 +61,22 @@ module _ (y : Syntax) (d : List ℕ) (start n at : ℕ) where
       pub compared : kept .intervals ≡ false → (r : Verdict) → r ≡ declared (agreementAt y d start n at) → Ended r
       unfolding endedWith
       compared h r e = rw (← unt, ends, h) e
+
+-- the part up to an end in the delivery is what follows in the bytes before that end
+part-front : (d : List ℕ) (start end : ℕ) → end ≤ length d → drop start (take (end - 0) (drop 0 d)) ≡ part start end d
+unfolding part
+part-front d start end h =
+    let z : 0 + start ≡ start = omega arith in
+    drop-part d 0 end start (omega arith) h ∙ rw z
+
+-- the verdict of a part, from that of all segments from its start on
+module _ (y : Syntax) (d : List ℕ) (start end : ℕ) (r : Verdict) where
+  abbrev InPart : Type 0
+  InPart = r ≡ declared (verdictFrom y pricat20d pageOf start (segmentsFrom y start false (part start end d)))
+
+  pub verdict-all : length d ≤ end → r ≡ declared (verdictFrom y pricat20d pageOf start (segmentsAt y d start)) → InPart
+  verdict-all h a = rw (part-all d start end h) a
+
+  pub verdict-front
+      : end ≤ length d → r ≡ declared (verdictFrom y pricat20d pageOf start (segmentsAt y (take (end - 0) (drop 0 d)) start)) → InPart
+  verdict-front h a = rw (← part-front d start end h) a
