@@ -31,6 +31,7 @@ pub mod OnePass
 pub mod SegmentPass
 pub mod PageFace
 pub mod Framing
+pub mod Heading
 pub mod Enclosing
 pub mod Faultless
 pub mod Answering
