@@ -4,3 +4,4 @@ pub mod AgreeWalk
 pub mod AgreeHeads
 pub mod AgreeSearch
 pub mod AgreeDistinct
+pub mod AgreeTree

@@ -45,5 +45,8 @@ pub mod Keeping
 pub mod Blaming
 pub mod FaultFound
 pub mod FaultFree
+pub mod Taken
 pub mod LastTag
 pub mod JudgedRefused
+pub mod Lines
+pub mod HeadFirst
