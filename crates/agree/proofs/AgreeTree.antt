@@ -1,8 +1,9 @@
 -- The positions that are read off a message's segments by their tags have the headings of those that are read off its tree.
 use Prim.Native.Nat.{ℕ, _+_}
 use mathlib.Core.Path.{_≡_, refl, sym, ap, ap₂, _∙_}
-use mathlib.Core.Bool.{Bool, true, false, cond, true≢false, false≢true}
+use mathlib.Core.Bool.{Bool, true, false, cond, _&&_, false≢true}
 use mathlib.Core.List.{List, [], _∷_, _++_, map, append-assoc, append-nil}
+use lib.ListN.{length}
 use lib.Dec.{T, eqb}
 use borrow.Author.Tests.{eqb-true}
 use Rattle.cut.specs.declared.service.Syntax.{Syntax}
@@ -11,7 +12,7 @@ use Rattle.cut.specs.Segments.{Segment}
 use Rattle.guide.specs.Nodes.{Guide, node}
 use Rattle.guide.specs.Tree.{Kids, none, then, Given, segs, giving, assigned, Limits, Next, Closed, Whole}
 use Rattle.guide.specs.Checks.{Rising}
-use Rattle.guide.specs.Sheet.{pickList, Position, position, positionsIn, childrenWith}
+use Rattle.guide.specs.Sheet.{pickList, Position, isTag, position, positionsIn}
 use Rattle.guide.specs.Heads.{isLin, isPia, isImd, isHead, Foremost}
 use Rattle.guide.specs.Accepted.{Each, seen}
 use Rattle.guide.proofs.Basics.{T-true, false-T, or-left, or-right, map-append}
@@ -67,5 +68,99 @@ unfolding begins
 imd-no-pia [] e = absurd (false≢true e)
 imd-no-pia (x ∷ xs) e = go (eqb x 73) refl e
   where
-    go : (b : Bool) → eqb x 73 ≡ b → ?
-    go b d = ?
+    go : (b : Bool) → eqb x 73 ≡ b → b && begins (bytesOf "MD") xs ≡ true → eqb x 80 && begins (bytesOf "IA") xs ≡ false
+    go true d f = rw (eqb-true x 73 d)
+    go false d f = absurd (false≢true f)
+
+imd-without : (ps rest : List Segment) → Lone (bytesOf "IMD") ps → Without (bytesOf "PIA") rest → Without (bytesOf "PIA") (ps ++ rest)
+unfolding Without
+imd-without _ rest missing w = w
+imd-without _ rest (alone {s = s} e) w = imd-no-pia (s .bytes) e
+
+module _ (g : Guide) where
+  -- a LIN before its children
+  heading-fronted
+      : (s : Segment) (k : Kids Segment) (rest : List Segment) → Fronted g k → Behind rest
+      → headingFrom (s .bytes) (segs k ++ rest) ≡ headingOf (position g s k)
+  unfolding headingFrom
+  heading-fronted s k rest f b =
+      let PIA = bytesOf "PIA" in
+      let IMD = bytesOf "IMD" in
+      let tail = behind-append (f .others) rest (f .behind) b in
+      let back = f .others ++ rest in
+      let split : segs k ++ rest ≡ f .pia ++ (f .imd ++ back) = rw (f .all) (simp append-assoc) in
+      let without = imd-without (f .imd) back (f .lone-imd) (tail .0) in
+      let pia = next-lone PIA (f .pia) (f .imd ++ back) (f .lone-pia) without in
+      let behind = behind-lone PIA (f .pia) (f .imd ++ back) (f .lone-pia) without in
+      let imd = next-lone IMD (f .imd) back (f .lone-imd) (tail .1) in
+      rw (split, behind, pia, imd, f .pias, f .imds)
+
+  module _ (y : Syntax) where
+    -- segments that are no LINs have no position
+    headings-none
+        : (xs : List (Given Segment)) (rest : List Segment) → Each (Taken g (seen y)) xs → NoLine g xs
+        → headingsIn (map (λ (x : Given Segment). x .segment) xs ++ rest) ≡ headingsIn rest
+    unfolding headingsIn Each
+    headings-none [] rest a b = refl
+    headings-none (x ∷ xs) rest a b =
+        let no = taken-begins y g x (a .0) (bytesOf "LIN") refl ∙ b .0 in
+        rw no (headings-none xs rest (a .1) (b .1))
+
+    module _ (r : Rising g) (h : Foremost g) where
+      lin-headings
+          : (n : ℕ) (s : Segment) (k : Kids Segment) (rest : List Segment) → T (isLin g n) → Closed g (seen y) n k → Limits g n k → Behind rest
+          → headingFrom (s .bytes) (segs k ++ rest) ∷ headingsIn (segs k ++ rest) ≡ headingOf (position g s k) ∷ headingsIn rest
+      lin-headings n s k rest t c q b =
+          ap₂ (λ (i : Heading) (is : List Heading). i ∷ is) (heading-fronted s k rest (head-first y g h n k c q) b)
+          (ap (λ (ss : List Segment). headingsIn (ss ++ rest)) (sym (assigned-segments k))
+          ∙ headings-none (assigned k) rest (assigned-taken g (seen y) n k (closed-open g (seen y) n k c)) (no-line-inside (seen y) g r h n k t c))
+
+      tree-headings
+          : (p : ℕ) (f : Kids Segment) (rest : List Segment) → (T (isLin g p) → ⊥) → Closed g (seen y) p f → Behind rest
+          → headingsIn (segs f ++ rest) ≡ headingsOf (positionsIn g f) ++ headingsIn rest
+      unfolding Closed positionsIn headingsIn Without
+      tree-headings p none rest o c b = refl
+      tree-headings p (then l n s k) rest o c b =
+          ap headingsIn (append-assoc (segs l) (s ∷ segs k) rest)
+          ∙ tree-headings p l (s ∷ (segs k ++ rest)) o (c .0) (not-begins (bytesOf "PIA") refl no-pia, not-begins (bytesOf "IMD") refl no-imd)
+          ∙ ap (λ (is : List Heading). headingsOf (positionsIn g l) ++ is)
+            (go (isLin g n) refl (tree-headings n k rest))
+          ∙ sym (append-assoc (headingsOf (positionsIn g l)) (headingsOf here) (headingsIn rest))
+          ∙ ap (λ (is : List Heading). is ++ headingsIn rest) (sym (map-append (λ (q : Position). headingOf q) (positionsIn g l) here))
+        where
+          here : List Position
+          here = pickList (isLin g n) (position g s k ∷ []) (positionsIn g k)
+
+          next : Next g (seen y) p l n s
+          next = c .1
+
+          not-begins : (t : List ℕ) → length t ≡ 3 → (T (isTag g t n) → ⊥) → begins t (s .bytes) ≡ false
+          not-begins t e i = taken-begins y g (giving n s) (next .takes) t e ∙ false-T (isTag g t n) i
+
+          no-head : T (isHead g n) → ⊥
+          no-head i = o (rw (next .under) at (h .behind-line n i))
+
+          no-pia : T (isPia g n) → ⊥
+          no-pia i = no-head (or-left (isPia g n) (isImd g n) i)
+
+          no-imd : T (isImd g n) → ⊥
+          no-imd i = no-head (or-right (isPia g n) (isImd g n) i)
+
+          go
+              : (q : Bool) → isLin g n ≡ q
+              → ((T (isLin g n) → ⊥) → Closed g (seen y) n k → Behind rest → headingsIn (segs k ++ rest) ≡ headingsOf (positionsIn g k) ++ headingsIn rest)
+              → headingsIn (s ∷ (segs k ++ rest)) ≡ headingsOf (pickList q (position g s k ∷ []) (positionsIn g k)) ++ headingsIn rest
+          go true e ih =
+              rw (taken-begins y g (giving n s) (next .takes) (bytesOf "LIN") refl ∙ e) (lin-headings n s k rest (T-true e) (c .2) (c .3) b)
+          go false e ih =
+              rw (taken-begins y g (giving n s) (next .takes) (bytesOf "LIN") refl ∙ e) (ih (λ t. rw e at t) (c .2) b)
+
+      -- The positions of a whole message, read by tags and read off its tree, have the same headings.
+      pub whole-headings
+          : (ss : List Segment) (w : Whole g (seen y) ss) → headingsListed (positionsOf ss) ≡ headingsOf (positionsIn g (w .tree))
+      unfolding positionsOf Without headingsIn
+      whole-headings ss w =
+          listed-headings 1 ss
+          ∙ ap headingsIn (sym (w .same) ∙ sym (append-nil (segs (w .tree))))
+          ∙ tree-headings 0 (w .tree) [] (h .root) (w .closed) (tt, tt)
+          ∙ append-nil (headingsOf (positionsIn g (w .tree)))
