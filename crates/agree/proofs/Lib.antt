@@ -5,3 +5,4 @@ pub mod AgreeHeads
 pub mod AgreeSearch
 pub mod AgreeDistinct
 pub mod AgreeTree
+pub mod AgreeLines
