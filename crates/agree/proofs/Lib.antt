@@ -6,3 +6,4 @@ pub mod AgreeSearch
 pub mod AgreeDistinct
 pub mod AgreeTree
 pub mod AgreeLines
+pub mod AgreeFirst
