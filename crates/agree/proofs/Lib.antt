@@ -7,3 +7,4 @@ pub mod AgreeDistinct
 pub mod AgreeTree
 pub mod AgreeLines
 pub mod AgreeFirst
+pub mod AgreeRepeated
