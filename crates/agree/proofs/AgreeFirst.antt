@@ -79,12 +79,11 @@ module _ (y : Syntax) where
         q,
         record { before = []; after = qs; all = refl; none = refl; agrees = rw append-nil d },
         cc,
-        cc
+        cc,
       )
       go false d f =
           let r = ih (es ++ (q .heading ∷ [])) i a f in
-          let p = r .1 in
-          (
+          let p = r .1 in (
             r .0,
             record {
               before = q ∷ p .before;
@@ -94,7 +93,7 @@ module _ (y : Syntax) where
               agrees = rw append-assoc at (p .agrees);
             },
             r .2,
-            r .3
+            r .3,
           )
 
   pub find-first : (qs : List Listed) → Finds qs
@@ -119,8 +118,8 @@ module _ (y : Syntax) where
       go
           : (c : Bool) → agreesAny y (b .heading) es ≡ c → cond c (At (b .number) (b .place)) (firstAfter y (es ++ (b .heading ∷ [])) before) ≡ Nothing
           → (firstAfter y (es ++ (b .heading ∷ [])) before ≡ Nothing
-             → agreesAny y (q .heading) ((es ++ (b .heading ∷ [])) ++ headingsListed before) ≡ true
-             → firstAfter y (es ++ (b .heading ∷ [])) (before ++ (q ∷ after)) ≡ At (q .number) (q .place))
+          → agreesAny y (q .heading) ((es ++ (b .heading ∷ [])) ++ headingsListed before) ≡ true
+          → firstAfter y (es ++ (b .heading ∷ [])) (before ++ (q ∷ after)) ≡ At (q .number) (q .place))
           → cond c (At (b .number) (b .place)) (firstAfter y (es ++ (b .heading ∷ [])) (before ++ (q ∷ after))) ≡ At (q .number) (q .place)
       go true i f ih = absurd (let z : _≡_ {A = ℕ} 0 1 = cc in omega arith)
       go false i f ih = ih f rest

@@ -7,11 +7,11 @@ use native.Mathlib.Omega.{arith}
 use lib.ListN.{length}
 use lib.Dec.{T}
 use Rattle.cut.specs.declared.service.Syntax.{Syntax}
-use Rattle.cut.specs.Bytes.{bytesOf, begins}
+use Rattle.cut.specs.Bytes.{bytesOf}
 use Rattle.cut.specs.Segments.{Segment}
 use Rattle.guide.specs.Nodes.{Guide}
 use Rattle.guide.specs.Tree.{Given, one, giving}
-use Rattle.guide.specs.Sheet.{onlyIf, isTag, withTag}
+use Rattle.guide.specs.Sheet.{onlyIf, withTag}
 use Rattle.guide.specs.Heads.{isLin}
 use Rattle.guide.specs.Accepted.{Each, seen}
 use Rattle.guide.proofs.Basics.{T-true, true-T}
@@ -82,7 +82,7 @@ module _ (g : Guide) where
       lines = omega (arith, lines-more x (p .front), p .lines);
     },
     omega arith,
-    a
+    a,
   )
 
   module _ (y : Syntax) (q : Listed) (after : List Listed) where
@@ -101,11 +101,10 @@ module _ (g : Guide) where
 
         go : (b : Bool) → isLin g (x .node) ≡ b → (bs : List Listed) → cond b (first ∷ later) later ≡ bs ++ (q ∷ after) → Placed k (x ∷ xs) (length bs) q
         go true i [] d =
-            let h : first ≡ q = head-eq-of-cons-eq d in
-            (
+            let h : first ≡ q = head-eq-of-cons-eq d in (
               record { front = []; node = x .node; line = x .segment; back = xs; all = refl; lin = T-true i; lines = refl },
               sym (ap (λ (z : Listed). z .number) h) ∙ omega arith,
-              sym (ap (λ (z : Listed). z .place) h)
+              sym (ap (λ (z : Listed). z .place) h),
             )
         go true i (b ∷ bs) d = placed-more k x xs (length bs) q (ih bs (tail-eq-of-cons-eq d)) (suc (length bs)) (omega (arith, ap one i))
         go false i bs d = placed-more k x xs (length bs) q (ih bs d) (length bs) (omega (arith, ap one i))

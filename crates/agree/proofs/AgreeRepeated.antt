@@ -1,8 +1,7 @@
 -- The search over the listed positions finds the first LIN that agrees with an earlier one, as document 01 says it over the tree. For every
 -- table that passes the tests, `foremost` among them.
-use Prim.Native.Nat.{ℕ, suc, _+_}
-use mathlib.Core.Path.{_≡_, refl, sym, ap, ap₂, subst, _∙_}
-use mathlib.Core.Bool.{true}
+use Prim.Native.Nat.{ℕ, suc}
+use mathlib.Core.Path.{_≡_, sym, ap, ap₂, _∙_}
 use mathlib.Core.Logic.{_↔_}
 use mathlib.Core.List.{List, [], _∷_, _++_, map, head-eq-of-cons-eq, tail-eq-of-cons-eq}
 use native.Mathlib.Omega.{arith}
@@ -11,21 +10,18 @@ use lib.Dec.{T}
 use Rattle.cut.specs.declared.service.Syntax.{Syntax}
 use Rattle.cut.specs.Bytes.{bytesOf}
 use Rattle.cut.specs.Segments.{Segment}
-use Rattle.cut.specs.Messages.{Message}
 use Rattle.guide.specs.Nodes.{Guide}
-use Rattle.guide.specs.Page.{Page}
-use Rattle.guide.specs.Tree.{Kids, Given, giving, assigned, Whole}
+use Rattle.guide.specs.Tree.{Given, giving, assigned, Whole}
 use Rattle.guide.specs.Checks.{Passes}
-use Rattle.guide.specs.Sheet.{Position, isTag, withTag, positionsIn}
+use Rattle.guide.specs.Sheet.{Position, withTag, positionsIn}
 use Rattle.guide.specs.Heads.{isLin, Foremost}
-use Rattle.guide.specs.Accepted.{Each, seen, segmentsOf, Distinct, Proper}
-use Rattle.guide.specs.Refusal.{Repeated, Repeats}
+use Rattle.guide.specs.Accepted.{seen, Distinct}
+use Rattle.guide.specs.Refusal.{Repeated}
 use Rattle.guide.proofs.Basics.{true-T, map-append}
 use Rattle.guide.proofs.Growing.{closed-open, assigned-segments}
-use Rattle.guide.proofs.Editions.{one-whole}
-use Rattle.guide.proofs.Taken.{Taken, assigned-taken}
+use Rattle.guide.proofs.Taken.{assigned-taken}
 use Rattle.guide.proofs.Lines.{linesOf, withTag-append, whole-lines}
-use Rattle.agree.specs.Agreement.{Heading, headingOf}
+use Rattle.agree.specs.Agreement.{headingOf}
 use Rattle.agree.specs.AgreePositions.{Listed, agreesAny, positionsFrom, positionsOf, firstAfter, firstAgreeing}
 use Rattle.agree.specs.declared.agree_first.Agreeing.the-variants.{At, Nothing}
 use Rattle.agree.proofs.AgreeDistinct.{none-distinct, distinct-none}
@@ -104,8 +100,7 @@ module _ (y : Syntax) (g : Guide) (u : ℕ) (p : Passes g u) (h : Foremost g) (s
       → (n : ℕ) × Repeated y g (w .tree) (q .number) (q .place) n
   unfolding firstAgreeing
   repeated-at q f d x =
-      let earlier = any-earlier y (d .item) (d .before) (ap₂ (agreesAny y) (d .image) (d .images) ∙ f .agrees) in
-      (
+      let earlier = any-earlier y (d .item) (d .before) (ap₂ (agreesAny y) (d .image) (d .images) ∙ f .agrees) in (
         x .spot .node,
         record {
           before = d .before;
@@ -123,7 +118,7 @@ module _ (y : Syntax) (g : Guide) (u : ℕ) (p : Passes g u) (h : Foremost g) (s
           lines = x .spot .lines;
           number = x .number;
           place = x .place;
-        }
+        },
       )
 
   found-repeated : (i a : ℕ) → firstAgreeing y (positionsOf ss) ≡ At i a → (n : ℕ) × Repeated y g (w .tree) i a n
@@ -165,13 +160,6 @@ module _ (y : Syntax) (g : Guide) (u : ℕ) (p : Passes g u) (h : Foremost g) (s
       (sym headings ∙ split)
       in
       found-at i a n r d (whereabouts (r .before) (r .repeats) (r .after) (d .before) (d .item) (d .after) (r .positions) (d .all) (sym (d .images)))
-
-  -- the node is that of segment i
-  pub repeated-node : (i a b n m : ℕ) → Repeated y g (w .tree) i a n → Repeated y g (w .tree) i b m → n ≡ m
-  repeated-node i a b n m r s =
-      ap (λ (x : Given Segment). x .node)
-      (same-middle (r .front) (r .back) (s .front) (s .back) (giving n (r .repeats .lin)) (giving m (s .repeats .lin)) (sym (r .segments) ∙ s .segments)
-      (omega (arith, r .number, s .number)))
 
   -- 23 is found at segment i and place a exactly if the LIN there is the first that agrees with an earlier one
   pub agreeing-repeated : (i a : ℕ) → (firstAgreeing y (positionsOf ss) ≡ At i a) ↔ ((n : ℕ) × Repeated y g (w .tree) i a n)

@@ -9,7 +9,7 @@ use borrow.Author.Tests.{eqb-true}
 use Rattle.cut.specs.declared.service.Syntax.{Syntax}
 use Rattle.cut.specs.Bytes.{bytesOf, begins}
 use Rattle.cut.specs.Segments.{Segment}
-use Rattle.guide.specs.Nodes.{Guide, node}
+use Rattle.guide.specs.Nodes.{Guide}
 use Rattle.guide.specs.Tree.{Kids, none, then, Given, segs, giving, assigned, Limits, Next, Closed, Whole}
 use Rattle.guide.specs.Checks.{Rising}
 use Rattle.guide.specs.Sheet.{pickList, Position, isTag, position, positionsIn}
@@ -43,7 +43,7 @@ listed-headings n (s ∷ ss) = go (begins (bytesOf "LIN") (s .bytes)) (listed-he
     go
         : (b : Bool) → headingsListed (positionsFrom (n + 1) ss) ≡ headingsIn ss
         → headingsListed
-          (cond b (record { number = n; place = s .start; heading = headingFrom (s .bytes) ss } ∷ positionsFrom (n + 1) ss) (positionsFrom (n + 1) ss))
+        (cond b (record { number = n; place = s .start; heading = headingFrom (s .bytes) ss } ∷ positionsFrom (n + 1) ss) (positionsFrom (n + 1) ss))
         ≡ cond b (headingFrom (s .bytes) ss ∷ headingsIn ss) (headingsIn ss)
     go true ih = ap (λ (hs : List Heading). headingFrom (s .bytes) ss ∷ hs) ih
     go false ih = ih
@@ -124,7 +124,7 @@ module _ (g : Guide) where
           ap headingsIn (append-assoc (segs l) (s ∷ segs k) rest)
           ∙ tree-headings p l (s ∷ (segs k ++ rest)) o (c .0) (not-begins (bytesOf "PIA") refl no-pia, not-begins (bytesOf "IMD") refl no-imd)
           ∙ ap (λ (is : List Heading). headingsOf (positionsIn g l) ++ is)
-            (go (isLin g n) refl (tree-headings n k rest))
+          (go (isLin g n) refl (tree-headings n k rest))
           ∙ sym (append-assoc (headingsOf (positionsIn g l)) (headingsOf here) (headingsIn rest))
           ∙ ap (λ (is : List Heading). is ++ headingsIn rest) (sym (map-append (λ (q : Position). headingOf q) (positionsIn g l) here))
         where

@@ -8,3 +8,4 @@ pub mod AgreeTree
 pub mod AgreeLines
 pub mod AgreeFirst
 pub mod AgreeRepeated
+pub mod AgreeRefusal

@@ -12,7 +12,7 @@ use Rattle.cut.specs.Bytes.{bytesOf, begins}
 use Rattle.cut.specs.Segments.{Segment}
 use Rattle.guide.specs.Nodes.{Guide, node}
 use Rattle.guide.specs.Tree.{Kids, none, then, one, segs, giving, count, Limits, Next, Closed}
-use Rattle.guide.specs.Sheet.{onlyIf, isTag, childrenWith}
+use Rattle.guide.specs.Sheet.{isTag, childrenWith}
 use Rattle.guide.specs.Heads.{isPia, isImd, isHead, Foremost}
 use Rattle.guide.specs.Accepted.{seen}
 use Rattle.guide.proofs.Basics.{T-true, false-T, and-left, and-right, and-both, or-left, or-right, same-eq, one-same, true-T}
