@@ -29,7 +29,7 @@ use Rattle.agree.specs.Agreement.{Heading, headingOf, agree}
 use Rattle.agree.specs.AgreePositions.{Listed, agreesAny, firstAfter}
 use Rattle.agree.specs.declared.agree_first.Agreeing.the-variants.{At, Nothing}
 use Rattle.agree.proofs.AgreeTexts.{heading-agree, agree-heading}
-use Rattle.agree.proofs.AgreeTree.{headingsOf, headingsListed}
+use Rattle.agree.proofs.AgreeDistinct.{headings, listed}
 
 module _ {A B : Type 0} (f : A → B) where
   -- a list whose images split at one of them splits there
@@ -63,7 +63,7 @@ module _ (y : Syntax) where
     pub after : List Listed
     pub all : qs ≡ before ++ (q ∷ after)
     pub none : firstAfter y es before ≡ Nothing
-    pub agrees : agreesAny y (q .heading) (es ++ headingsListed before) ≡ true
+    pub agrees : agreesAny y (q .heading) (es ++ listed before) ≡ true
 
   abbrev Finds : List Listed → Type 0
   Finds qs = (es : List Heading) (i a : ℕ) → firstAfter y es qs ≡ At i a → (q : Listed) × FirstIn es qs q × (i ≡ q .number) × (a ≡ q .place)
@@ -104,7 +104,7 @@ module _ (y : Syntax) where
   -- and such a one is found
   pub first-found
       : (es : List Heading) (before : List Listed) (q : Listed) (after : List Listed) → firstAfter y es before ≡ Nothing
-      → agreesAny y (q .heading) (es ++ headingsListed before) ≡ true → firstAfter y es (before ++ (q ∷ after)) ≡ At (q .number) (q .place)
+      → agreesAny y (q .heading) (es ++ listed before) ≡ true → firstAfter y es (before ++ (q ∷ after)) ≡ At (q .number) (q .place)
   unfolding firstAfter
   first-found es [] q after e d =
       let z : agreesAny y (q .heading) es ≡ true = rw append-nil at d in
@@ -112,13 +112,13 @@ module _ (y : Syntax) where
   first-found es (b ∷ before) q after e d =
       go (agreesAny y (b .heading) es) refl e (first-found (es ++ (b .heading ∷ [])) before q after)
     where
-      rest : agreesAny y (q .heading) ((es ++ (b .heading ∷ [])) ++ headingsListed before) ≡ true
+      rest : agreesAny y (q .heading) ((es ++ (b .heading ∷ [])) ++ listed before) ≡ true
       rest = rw append-assoc d
 
       go
           : (c : Bool) → agreesAny y (b .heading) es ≡ c → cond c (At (b .number) (b .place)) (firstAfter y (es ++ (b .heading ∷ [])) before) ≡ Nothing
           → (firstAfter y (es ++ (b .heading ∷ [])) before ≡ Nothing
-          → agreesAny y (q .heading) ((es ++ (b .heading ∷ [])) ++ headingsListed before) ≡ true
+          → agreesAny y (q .heading) ((es ++ (b .heading ∷ [])) ++ listed before) ≡ true
           → firstAfter y (es ++ (b .heading ∷ [])) (before ++ (q ∷ after)) ≡ At (q .number) (q .place))
           → cond c (At (b .number) (b .place)) (firstAfter y (es ++ (b .heading ∷ [])) (before ++ (q ∷ after))) ≡ At (q .number) (q .place)
       go true i f ih = absurd (let z : _≡_ {A = ℕ} 0 1 = cc in omega arith)
@@ -126,14 +126,14 @@ module _ (y : Syntax) where
 
   -- a position that agrees with one of these
   pub any-earlier
-      : (p : Position) (es : List Position) → agreesAny y (headingOf p) (headingsOf es) ≡ true → (e : Position) × List·Memᴰ e es × Agree y e p
+      : (p : Position) (es : List Position) → agreesAny y (headingOf p) (headings es) ≡ true → (e : Position) × List·Memᴰ e es × Agree y e p
   unfolding agreesAny
   any-earlier p [] h = absurd (false≢true h)
   any-earlier p (e ∷ es) h = go (agree y (headingOf e) (headingOf p)) refl h (any-earlier p es)
     where
       go
-          : (b : Bool) → agree y (headingOf e) (headingOf p) ≡ b → b || agreesAny y (headingOf p) (headingsOf es) ≡ true
-          → (agreesAny y (headingOf p) (headingsOf es) ≡ true → (e : Position) × List·Memᴰ e es × Agree y e p)
+          : (b : Bool) → agree y (headingOf e) (headingOf p) ≡ b → b || agreesAny y (headingOf p) (headings es) ≡ true
+          → (agreesAny y (headingOf p) (headings es) ≡ true → (e : Position) × List·Memᴰ e es × Agree y e p)
           → (z : Position) × List·Memᴰ z (e ∷ es) × Agree y z p
       go true k n ih = (e, List·Memᴰ·head refl, heading-agree y e p k)
       go false k n ih =
@@ -141,13 +141,13 @@ module _ (y : Syntax) where
           (r .0, List·Memᴰ·tail (r .1), r .2)
 
   pub earlier-any
-      : (p e : Position) (es : List Position) → List·Memᴰ e es → Agree y e p → agreesAny y (headingOf p) (headingsOf es) ≡ true
+      : (p e : Position) (es : List Position) → List·Memᴰ e es → Agree y e p → agreesAny y (headingOf p) (headings es) ≡ true
   unfolding agreesAny
   earlier-any p e [] m a = absurd (List·Memᴰ·not-nil m)
   earlier-any p e (z ∷ es) m a = go (List·Memᴰ·cases-cons m) (earlier-any p e es)
     where
       go
-          : (e ≡ z) ⊎ List·Memᴰ e es → (List·Memᴰ e es → Agree y e p → agreesAny y (headingOf p) (headingsOf es) ≡ true)
-          → agree y (headingOf z) (headingOf p) || agreesAny y (headingOf p) (headingsOf es) ≡ true
+          : (e ≡ z) ⊎ List·Memᴰ e es → (List·Memᴰ e es → Agree y e p → agreesAny y (headingOf p) (headings es) ≡ true)
+          → agree y (headingOf z) (headingOf p) || agreesAny y (headingOf p) (headings es) ≡ true
       go (inl q) ih = rw (← q, agree-heading y e p a)
-      go (inr k) ih = or-right (agree y (headingOf z) (headingOf p)) (agreesAny y (headingOf p) (headingsOf es)) (ih k a)
+      go (inr k) ih = or-right (agree y (headingOf z) (headingOf p)) (agreesAny y (headingOf p) (headings es)) (ih k a)

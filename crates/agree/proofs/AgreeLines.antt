@@ -2,7 +2,7 @@
 use Prim.Native.Nat.{ℕ, suc, _+_}
 use mathlib.Core.Path.{_≡_, refl, sym, ap, _∙_}
 use mathlib.Core.Bool.{Bool, true, false, cond}
-use mathlib.Core.List.{List, [], _∷_, _++_, map, head-eq-of-cons-eq, tail-eq-of-cons-eq, nil≢cons}
+use mathlib.Core.List.{List, [], _∷_, _++_, head-eq-of-cons-eq, tail-eq-of-cons-eq, nil≢cons}
 use native.Mathlib.Omega.{arith}
 use lib.ListN.{length}
 use lib.Dec.{T}
@@ -15,12 +15,9 @@ use Rattle.guide.specs.Sheet.{onlyIf, withTag}
 use Rattle.guide.specs.Heads.{isLin}
 use Rattle.guide.specs.Accepted.{Each, seen}
 use Rattle.guide.proofs.Basics.{T-true, true-T}
+use Rattle.guide.proofs.Faultless.{segmentsIn}
 use Rattle.guide.proofs.Taken.{Taken, taken-begins}
 use Rattle.agree.specs.AgreePositions.{headingFrom, Listed, positionsFrom}
-
--- the segments alone
-abbrev pub segmentsIn : List (Given Segment) → List Segment
-segmentsIn xs = map (λ (x : Given Segment). x .segment) xs
 
 module _ (g : Guide) where
   abbrev linesIn : List (Given Segment) → ℕ

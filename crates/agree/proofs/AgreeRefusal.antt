@@ -2,7 +2,7 @@
 use Prim.Native.Nat.{ℕ, suc}
 use mathlib.Core.Path.{_≡_, sym, ap, subst, _∙_}
 use mathlib.Core.Logic.{_↔_}
-use mathlib.Core.List.{List, _∷_, _++_, map}
+use mathlib.Core.List.{List, _∷_, _++_}
 use native.Mathlib.Omega.{arith}
 use lib.ListN.{length, getD, length-map}
 use lib.Seq.{getD-append-seam}
@@ -19,6 +19,7 @@ use Rattle.guide.specs.Heads.{Foremost}
 use Rattle.guide.specs.Accepted.{seen, segmentsOf, Compared, Distinct, Proper, Accepted}
 use Rattle.guide.specs.Refusal.{Repeated, Repeats}
 use Rattle.guide.proofs.Basics.{map-append}
+use Rattle.guide.proofs.FaultlessParts.{nodesIn}
 use Rattle.guide.proofs.Editions.{one-whole}
 use Rattle.agree.specs.AgreePositions.{positionsOf, firstAgreeing}
 use Rattle.agree.specs.declared.agree_first.Agreeing.{Agreeing}
@@ -29,19 +30,14 @@ use Rattle.agree.proofs.AgreeRepeated.{agreeing-repeated, agreeing-none
 abbrev pub searched : Syntax → Message → Agreeing
 searched y m = firstAgreeing y (positionsOf (segmentsOf m))
 
--- the nodes of a tree's segments, in message order
-abbrev pub nodesOf : Kids Segment → List ℕ
-nodesOf tree = map (λ (x : Given Segment). x .node) (assigned tree)
-
 -- the node of the first LIN that agrees with an earlier one is that of segment i
 pub repeated-node
-    : (y : Syntax) (g : Guide) (tree : Kids Segment) (i a n : ℕ) → Repeated y g tree i a n → (j : ℕ) → i ≡ suc j → getD (nodesOf tree) j 0 ≡ n
+    : (y : Syntax) (g : Guide) (tree : Kids Segment) (i a n : ℕ) → Repeated y g tree i a n → (j : ℕ) → i ≡ suc j → getD (nodesIn (assigned tree)) j 0 ≡ n
 repeated-node y g tree i a n r j e =
-    let nodes = map (λ (x : Given Segment). x .node) in
-    let front = nodes (r .front) in
-    let back = nodes (r .back) in
-    let all : nodesOf tree ≡ front ++ (n ∷ back) =
-    ap nodes (r .segments) ∙ map-append (λ (x : Given Segment). x .node) (r .front) (giving n (r .repeats .lin) ∷ r .back)
+    let front = nodesIn (r .front) in
+    let back = nodesIn (r .back) in
+    let all : nodesIn (assigned tree) ≡ front ++ (n ∷ back) =
+    ap nodesIn (r .segments) ∙ map-append (λ (x : Given Segment). x .node) (r .front) (giving n (r .repeats .lin) ∷ r .back)
     in
     let here : j ≡ length front = omega (arith, r .number, length-map (r .front) (λ (x : Given Segment). x .node)) in
     ap (λ (ns : List ℕ). getD ns j 0) all ∙ ap (λ (k : ℕ). getD (front ++ (n ∷ back)) k 0) here ∙ getD-append-seam front n back 0
@@ -56,11 +52,33 @@ module _ (y : Syntax) (g : Guide) (u : ℕ) (p : Passes g u) (h : Foremost g) (p
   pub finds-none : (q : Proper y g pages m) → (searched y m ≡ Nothing) ↔ Distinct y (positionsIn g (q .sheet .tree))
   finds-none q = agreeing-none y g u p h (segmentsOf m) (q .sheet)
 
-  repeats-found : (i a n : ℕ) → Repeats y g pages m i a n → searched y m ≡ At i a
-  repeats-found i a n r = finds-repeated (r .proper) i a .1 (n, r .repeated)
-
+  -- all proper trees of a message are one
   one-tree : (q o : Proper y g pages m) → q .sheet .tree ≡ o .sheet .tree
   one-tree q o = one-whole g u p (seen y) (segmentsOf m) (q .sheet) (o .sheet)
+
+  -- the rule applies to the message with this tree
+  abbrev pub Rule : Kids Segment → Type 0
+  Rule tree = Compared y (withTag g (bytesOf "BGM") (assigned tree))
+
+  -- such a message is accepted exactly if the search finds nothing where the rule applies
+  pub accepted-iff : (q : Proper y g pages m) → Accepted y g pages m ↔ (Rule (q .sheet .tree) → searched y m ≡ Nothing)
+  accepted-iff q = (
+    λ c r. finds-none (c .proper) .1 (c .distinct (subst Rule (one-tree q (c .proper)) r)),
+    λ f. record { proper = q; distinct = λ r. finds-none q .0 (f r) },
+  )
+
+  pub repeats-found : (i a n : ℕ) → Repeats y g pages m i a n → searched y m ≡ At i a
+  repeats-found i a n r = finds-repeated (r .proper) i a .1 (n, r .repeated)
+
+  -- and where it applies, refused with 23 exactly if the search finds the segment and the place
+  pub repeats-iff
+      : (q : Proper y g pages m) → Rule (q .sheet .tree) → (i a : ℕ) → (searched y m ≡ At i a) ↔ ((n : ℕ) × Repeats y g pages m i a n)
+  repeats-iff q c i a = (
+    λ e.
+        let r = finds-repeated q i a .0 e in
+        (r .0, record { proper = q; compared = c; repeated = r .1 }),
+    λ r. repeats-found i a (r .0) (r .1),
+  )
 
   -- refusal 23 names one segment, one place and one node
   pub repeats-once : (i a n j b k : ℕ) → Repeats y g pages m i a n → Repeats y g pages m j b k → (i ≡ j) × (a ≡ b) × (n ≡ k)
@@ -72,7 +90,7 @@ module _ (y : Syntax) (g : Guide) (u : ℕ) (p : Passes g u) (h : Foremost g) (p
         e,
         cc,
         sym (repeated-node y g (r .proper .sheet .tree) i a n (r .repeated) t (r .repeated .number))
-            ∙ ap (λ (f : Kids Segment). getD (nodesOf f) t 0) (one-tree (r .proper) (s .proper))
+            ∙ ap (λ (z : Kids Segment). getD (nodesIn (assigned z)) t 0) (one-tree (r .proper) (s .proper))
             ∙ repeated-node y g (s .proper .sheet .tree) j b k (s .repeated) t (sym e ∙ r .repeated .number),
       )
 
@@ -80,9 +98,6 @@ module _ (y : Syntax) (g : Guide) (u : ℕ) (p : Passes g u) (h : Foremost g) (p
   pub repeats-refused : (i a n : ℕ) → Repeats y g pages m i a n → Accepted y g pages m → ⊥
   repeats-refused i a n r c =
       let f = repeats-found i a n r in
-      let compared =
-      subst (λ (t : Kids Segment). Compared y (withTag g (bytesOf "BGM") (assigned t))) (one-tree (r .proper) (c .proper)) (r .compared)
-      in
-      let none = finds-none (c .proper) .1 (c .distinct compared) in
+      let none = accepted-iff (r .proper) .0 c (r .compared) in
       let z : _≡_ {A = ℕ} 0 1 = cc in
       omega arith

@@ -24,12 +24,12 @@ use Rattle.guide.proofs.Lines.{linesOf, withTag-append, whole-lines}
 use Rattle.agree.specs.Agreement.{headingOf}
 use Rattle.agree.specs.AgreePositions.{Listed, agreesAny, positionsFrom, positionsOf, firstAfter, firstAgreeing}
 use Rattle.agree.specs.declared.agree_first.Agreeing.the-variants.{At, Nothing}
-use Rattle.agree.proofs.AgreeDistinct.{none-distinct, distinct-none}
-use Rattle.agree.proofs.AgreeTree.{headingsOf, headingsListed, whole-headings}
+use Rattle.agree.proofs.AgreeDistinct.{headings, listed, none-distinct, distinct-none}
+use Rattle.agree.proofs.AgreeTree.{whole-headings}
 use Rattle.agree.proofs.AgreeLines.{Spot, Placed, same-line, listed-at}
 use Rattle.agree.proofs.AgreeFirst.{Divided, divided, FirstIn, find-first, first-found, any-earlier, earlier-any}
 
--- what stands behind equally many
+-- two splits of a list behind equally many have the same element there
 same-middle
     : {A : Type 0} (xs zs us vs : List A) (x u : A) → xs ++ (x ∷ zs) ≡ us ++ (u ∷ vs) → length xs ≡ length us → x ≡ u
 same-middle [] zs [] vs x u e l = head-eq-of-cons-eq e
@@ -37,7 +37,7 @@ same-middle [] zs (v ∷ us) vs x u e l = absurd (omega arith)
 same-middle (z ∷ xs) zs [] vs x u e l = absurd (omega arith)
 same-middle (z ∷ xs) zs (v ∷ us) vs x u e l = same-middle xs zs us vs x u (tail-eq-of-cons-eq e) (omega arith)
 
--- as many images as
+-- lists with the same images are equally long
 same-count : {A B C : Type 0} (f : A → C) (k : B → C) (xs : List A) (zs : List B) → map f xs ≡ map k zs → length xs ≡ length zs
 same-count f k xs zs e = sym (length-map xs f) ∙ ap length e ∙ length-map zs k
 
@@ -52,8 +52,8 @@ module _ (y : Syntax) (g : Guide) (u : ℕ) (p : Passes g u) (h : Foremost g) (s
   abbrev positions : List Position
   positions = positionsIn g (w .tree)
 
-  headings : headingsOf positions ≡ headingsListed (positionsOf ss)
-  headings = sym (whole-headings g y (p .rising) h ss w)
+  same-headings : headings positions ≡ listed (positionsOf ss)
+  same-headings = sym (whole-headings y g (p .rising) h ss w)
 
   stands
       : (before : List Listed) (q : Listed) (after : List Listed) → positionsOf ss ≡ before ++ (q ∷ after)
@@ -85,7 +85,7 @@ module _ (y : Syntax) (g : Guide) (u : ℕ) (p : Passes g u) (h : Foremost g) (s
 
   whereabouts
       : (before : List Position) (r : Position) (after : List Position) (earlier : List Listed) (q : Listed) (later : List Listed)
-      → positions ≡ before ++ (r ∷ after) → positionsOf ss ≡ earlier ++ (q ∷ later) → headingsOf before ≡ headingsListed earlier
+      → positions ≡ before ++ (r ∷ after) → positionsOf ss ≡ earlier ++ (q ∷ later) → headings before ≡ listed earlier
       → Whereabouts before r q
   whereabouts before r after earlier q later e d i =
       let n : length earlier ≡ length before = sym (same-count _ _ before earlier i) in
@@ -96,7 +96,7 @@ module _ (y : Syntax) (g : Guide) (u : ℕ) (p : Passes g u) (h : Foremost g) (s
   -- the first that is found, and the position that it is
   repeated-at
       : (q : Listed) (f : FirstIn y [] (positionsOf ss) q)
-      → (d : Divided (λ (z : Position). headingOf z) positions (headingsListed (f .before)) (q .heading)) → Whereabouts (d .before) (d .item) q
+      → (d : Divided (λ (z : Position). headingOf z) positions (listed (f .before)) (q .heading)) → Whereabouts (d .before) (d .item) q
       → (n : ℕ) × Repeated y g (w .tree) (q .number) (q .place) n
   unfolding firstAgreeing
   repeated-at q f d x =
@@ -129,16 +129,16 @@ module _ (y : Syntax) (g : Guide) (u : ℕ) (p : Passes g u) (h : Foremost g) (s
     where
       go : (q : Listed) → FirstIn y [] (positionsOf ss) q → i ≡ q .number → a ≡ q .place → (n : ℕ) × Repeated y g (w .tree) i a n
       go q f b c =
-          let split = ap headingsListed (f .all) ∙ map-append (λ (z : Listed). z .heading) (f .before) (q ∷ f .after) in
+          let split = ap listed (f .all) ∙ map-append (λ (z : Listed). z .heading) (f .before) (q ∷ f .after) in
           let d =
-          divided (λ (z : Position). headingOf z) positions (headingsListed (f .before)) (q .heading) (headingsListed (f .after)) (headings ∙ split)
+          divided (λ (z : Position). headingOf z) positions (listed (f .before)) (q .heading) (listed (f .after)) (same-headings ∙ split)
           in
           rw (b, c) (repeated-at q f d (whereabouts (d .before) (d .item) (d .after) (f .before) q (f .after) (d .all) (f .all) (d .images)))
 
   -- what repeats an earlier one is found
   found-at
       : (i a n : ℕ) (r : Repeated y g (w .tree) i a n)
-      → (d : Divided (λ (z : Listed). z .heading) (positionsOf ss) (headingsOf (r .before)) (headingOf (r .repeats)))
+      → (d : Divided (λ (z : Listed). z .heading) (positionsOf ss) (headings (r .before)) (headingOf (r .repeats)))
       → Whereabouts (r .before) (r .repeats) (d .item) → firstAgreeing y (positionsOf ss) ≡ At i a
   unfolding firstAgreeing
   found-at i a n r d x =
@@ -154,10 +154,10 @@ module _ (y : Syntax) (g : Guide) (u : ℕ) (p : Passes g u) (h : Foremost g) (s
 
   repeated-found : (i a n : ℕ) → Repeated y g (w .tree) i a n → firstAgreeing y (positionsOf ss) ≡ At i a
   repeated-found i a n r =
-      let split = ap headingsOf (r .positions) ∙ map-append (λ (z : Position). headingOf z) (r .before) (r .repeats ∷ r .after) in
+      let split = ap headings (r .positions) ∙ map-append (λ (z : Position). headingOf z) (r .before) (r .repeats ∷ r .after) in
       let d =
-      divided (λ (z : Listed). z .heading) (positionsOf ss) (headingsOf (r .before)) (headingOf (r .repeats)) (headingsOf (r .after))
-      (sym headings ∙ split)
+      divided (λ (z : Listed). z .heading) (positionsOf ss) (headings (r .before)) (headingOf (r .repeats)) (headings (r .after))
+      (sym same-headings ∙ split)
       in
       found-at i a n r d (whereabouts (r .before) (r .repeats) (r .after) (d .before) (d .item) (d .after) (r .positions) (d .all) (sym (d .images)))
 
@@ -167,4 +167,4 @@ module _ (y : Syntax) (g : Guide) (u : ℕ) (p : Passes g u) (h : Foremost g) (s
 
   -- and it is not found exactly if no two positions agree
   pub agreeing-none : (firstAgreeing y (positionsOf ss) ≡ Nothing) ↔ Distinct y positions
-  agreeing-none = (none-distinct y positions (positionsOf ss) headings, distinct-none y positions (positionsOf ss) headings)
+  agreeing-none = (none-distinct y positions (positionsOf ss) same-headings, distinct-none y positions (positionsOf ss) same-headings)

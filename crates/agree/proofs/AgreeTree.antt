@@ -2,7 +2,7 @@
 use Prim.Native.Nat.{ℕ, _+_}
 use mathlib.Core.Path.{_≡_, refl, sym, ap, ap₂, _∙_}
 use mathlib.Core.Bool.{Bool, true, false, cond, _&&_, false≢true}
-use mathlib.Core.List.{List, [], _∷_, _++_, map, append-assoc, append-nil}
+use mathlib.Core.List.{List, [], _∷_, _++_, append-assoc, append-nil}
 use lib.ListN.{length}
 use lib.Dec.{T, eqb}
 use borrow.Author.Tests.{eqb-true}
@@ -17,34 +17,29 @@ use Rattle.guide.specs.Heads.{isLin, isPia, isImd, isHead, Foremost}
 use Rattle.guide.specs.Accepted.{Each, seen}
 use Rattle.guide.proofs.Basics.{T-true, false-T, or-left, or-right, map-append}
 use Rattle.guide.proofs.Growing.{closed-open, assigned-segments}
+use Rattle.guide.proofs.Faultless.{segmentsIn}
 use Rattle.guide.proofs.Taken.{Taken, assigned-taken, taken-begins}
 use Rattle.guide.proofs.HeadFirst.{Lone, missing, alone, Without, Behind, behind-append, Fronted, head-first}
 use Rattle.guide.proofs.Lines.{NoLine, no-line-inside}
 use Rattle.agree.specs.Agreement.{Heading, bytesIn, headingOf}
-use Rattle.agree.specs.AgreePositions.{nextIf, behindIf, headingFrom, Listed, positionsFrom, positionsOf}
+use Rattle.agree.specs.AgreePositions.{nextIf, behindIf, headingFrom, positionsFrom, positionsOf}
+use Rattle.agree.proofs.AgreeDistinct.{headings, listed}
 
--- what is compared of each position
-abbrev pub headingsOf : List Position → List Heading
-headingsOf ps = map (λ (p : Position). headingOf p) ps
+-- what is compared of the positions among some segments, their numbers aside
+unfoldable headingsBy : List Segment → List Heading
+headingsBy [] = []
+headingsBy (s ∷ ss) = cond (begins (bytesOf "LIN") (s .bytes)) (headingFrom (s .bytes) ss ∷ headingsBy ss) (headingsBy ss)
 
-abbrev pub headingsListed : List Listed → List Heading
-headingsListed qs = map (λ (q : Listed). q .heading) qs
-
--- the same of segments, their numbers aside
-unfoldable headingsIn : List Segment → List Heading
-headingsIn [] = []
-headingsIn (s ∷ ss) = cond (begins (bytesOf "LIN") (s .bytes)) (headingFrom (s .bytes) ss ∷ headingsIn ss) (headingsIn ss)
-
-listed-headings : (n : ℕ) (ss : List Segment) → headingsListed (positionsFrom n ss) ≡ headingsIn ss
-unfolding headingsIn positionsFrom
+listed-headings : (n : ℕ) (ss : List Segment) → listed (positionsFrom n ss) ≡ headingsBy ss
+unfolding headingsBy positionsFrom
 listed-headings n [] = refl
 listed-headings n (s ∷ ss) = go (begins (bytesOf "LIN") (s .bytes)) (listed-headings (n + 1) ss)
   where
     go
-        : (b : Bool) → headingsListed (positionsFrom (n + 1) ss) ≡ headingsIn ss
-        → headingsListed
+        : (b : Bool) → listed (positionsFrom (n + 1) ss) ≡ headingsBy ss
+        → listed
         (cond b (record { number = n; place = s .start; heading = headingFrom (s .bytes) ss } ∷ positionsFrom (n + 1) ss) (positionsFrom (n + 1) ss))
-        ≡ cond b (headingFrom (s .bytes) ss ∷ headingsIn ss) (headingsIn ss)
+        ≡ cond b (headingFrom (s .bytes) ss ∷ headingsBy ss) (headingsBy ss)
     go true ih = ap (λ (hs : List Heading). headingFrom (s .bytes) ss ∷ hs) ih
     go false ih = ih
 
@@ -95,72 +90,74 @@ module _ (g : Guide) where
       let imd = next-lone IMD (f .imd) back (f .lone-imd) (tail .1) in
       rw (split, behind, pia, imd, f .pias, f .imds)
 
-  module _ (y : Syntax) where
-    -- segments that are no LINs have no position
-    headings-none
-        : (xs : List (Given Segment)) (rest : List Segment) → Each (Taken g (seen y)) xs → NoLine g xs
-        → headingsIn (map (λ (x : Given Segment). x .segment) xs ++ rest) ≡ headingsIn rest
-    unfolding headingsIn Each
-    headings-none [] rest a b = refl
-    headings-none (x ∷ xs) rest a b =
-        let no = taken-begins y g x (a .0) (bytesOf "LIN") refl ∙ b .0 in
-        rw no (headings-none xs rest (a .1) (b .1))
+module _ (y : Syntax) (g : Guide) where
+  -- segments that are no LINs have no position
+  headings-none
+      : (xs : List (Given Segment)) (rest : List Segment) → Each (Taken g (seen y)) xs → NoLine g xs
+      → headingsBy (segmentsIn xs ++ rest) ≡ headingsBy rest
+  unfolding headingsBy Each
+  headings-none [] rest a b = refl
+  headings-none (x ∷ xs) rest a b =
+      let no = taken-begins y g x (a .0) (bytesOf "LIN") refl ∙ b .0 in
+      rw no (headings-none xs rest (a .1) (b .1))
 
-    module _ (r : Rising g) (h : Foremost g) where
-      lin-headings
-          : (n : ℕ) (s : Segment) (k : Kids Segment) (rest : List Segment) → T (isLin g n) → Closed g (seen y) n k → Limits g n k → Behind rest
-          → headingFrom (s .bytes) (segs k ++ rest) ∷ headingsIn (segs k ++ rest) ≡ headingOf (position g s k) ∷ headingsIn rest
-      lin-headings n s k rest t c q b =
-          ap₂ (λ (i : Heading) (is : List Heading). i ∷ is) (heading-fronted s k rest (head-first y g h n k c q) b)
-          (ap (λ (ss : List Segment). headingsIn (ss ++ rest)) (sym (assigned-segments k))
-          ∙ headings-none (assigned k) rest (assigned-taken g (seen y) n k (closed-open g (seen y) n k c)) (no-line-inside (seen y) g r h n k t c))
+module _ (y : Syntax) (g : Guide) (r : Rising g) (h : Foremost g) where
+  -- a LIN with its children is one position
+  lin-headings
+      : (n : ℕ) (s : Segment) (k : Kids Segment) (rest : List Segment) → T (isLin g n) → Closed g (seen y) n k → Limits g n k → Behind rest
+      → headingFrom (s .bytes) (segs k ++ rest) ∷ headingsBy (segs k ++ rest) ≡ headingOf (position g s k) ∷ headingsBy rest
+  lin-headings n s k rest t c q b =
+      ap₂ (λ (i : Heading) (is : List Heading). i ∷ is) (heading-fronted g s k rest (head-first y g h n k c q) b)
+      (ap (λ (ss : List Segment). headingsBy (ss ++ rest)) (sym (assigned-segments k))
+      ∙ headings-none y g (assigned k) rest (assigned-taken g (seen y) n k (closed-open g (seen y) n k c)) (no-line-inside (seen y) g r h n k t c))
 
-      tree-headings
-          : (p : ℕ) (f : Kids Segment) (rest : List Segment) → (T (isLin g p) → ⊥) → Closed g (seen y) p f → Behind rest
-          → headingsIn (segs f ++ rest) ≡ headingsOf (positionsIn g f) ++ headingsIn rest
-      unfolding Closed positionsIn headingsIn Without
-      tree-headings p none rest o c b = refl
-      tree-headings p (then l n s k) rest o c b =
-          ap headingsIn (append-assoc (segs l) (s ∷ segs k) rest)
-          ∙ tree-headings p l (s ∷ (segs k ++ rest)) o (c .0) (not-begins (bytesOf "PIA") refl no-pia, not-begins (bytesOf "IMD") refl no-imd)
-          ∙ ap (λ (is : List Heading). headingsOf (positionsIn g l) ++ is)
-          (go (isLin g n) refl (tree-headings n k rest))
-          ∙ sym (append-assoc (headingsOf (positionsIn g l)) (headingsOf here) (headingsIn rest))
-          ∙ ap (λ (is : List Heading). is ++ headingsIn rest) (sym (map-append (λ (q : Position). headingOf q) (positionsIn g l) here))
-        where
-          here : List Position
-          here = pickList (isLin g n) (position g s k ∷ []) (positionsIn g k)
+  -- the children of an instance that is no LIN's, before segments of which the first is neither PIA nor IMD
+  tree-headings
+      : (p : ℕ) (f : Kids Segment) (rest : List Segment) → (T (isLin g p) → ⊥) → Closed g (seen y) p f → Behind rest
+      → headingsBy (segs f ++ rest) ≡ headings (positionsIn g f) ++ headingsBy rest
+  unfolding Closed positionsIn headingsBy Without
+  tree-headings p none rest o c b = refl
+  tree-headings p (then l n s k) rest o c b =
+      ap headingsBy (append-assoc (segs l) (s ∷ segs k) rest)
+      ∙ tree-headings p l (s ∷ (segs k ++ rest)) o (c .0) (not-begins (bytesOf "PIA") refl no-pia, not-begins (bytesOf "IMD") refl no-imd)
+      ∙ ap (λ (is : List Heading). headings (positionsIn g l) ++ is)
+      (go (isLin g n) refl (tree-headings n k rest))
+      ∙ sym (append-assoc (headings (positionsIn g l)) (headings here) (headingsBy rest))
+      ∙ ap (λ (is : List Heading). is ++ headingsBy rest) (sym (map-append (λ (q : Position). headingOf q) (positionsIn g l) here))
+    where
+      here : List Position
+      here = pickList (isLin g n) (position g s k ∷ []) (positionsIn g k)
 
-          next : Next g (seen y) p l n s
-          next = c .1
+      next : Next g (seen y) p l n s
+      next = c .1
 
-          not-begins : (t : List ℕ) → length t ≡ 3 → (T (isTag g t n) → ⊥) → begins t (s .bytes) ≡ false
-          not-begins t e i = taken-begins y g (giving n s) (next .takes) t e ∙ false-T (isTag g t n) i
+      not-begins : (t : List ℕ) → length t ≡ 3 → (T (isTag g t n) → ⊥) → begins t (s .bytes) ≡ false
+      not-begins t e i = taken-begins y g (giving n s) (next .takes) t e ∙ false-T (isTag g t n) i
 
-          no-head : T (isHead g n) → ⊥
-          no-head i = o (rw (next .under) at (h .behind-line n i))
+      no-head : T (isHead g n) → ⊥
+      no-head i = o (rw (next .under) at (h .behind-line n i))
 
-          no-pia : T (isPia g n) → ⊥
-          no-pia i = no-head (or-left (isPia g n) (isImd g n) i)
+      no-pia : T (isPia g n) → ⊥
+      no-pia i = no-head (or-left (isPia g n) (isImd g n) i)
 
-          no-imd : T (isImd g n) → ⊥
-          no-imd i = no-head (or-right (isPia g n) (isImd g n) i)
+      no-imd : T (isImd g n) → ⊥
+      no-imd i = no-head (or-right (isPia g n) (isImd g n) i)
 
-          go
-              : (q : Bool) → isLin g n ≡ q
-              → ((T (isLin g n) → ⊥) → Closed g (seen y) n k → Behind rest → headingsIn (segs k ++ rest) ≡ headingsOf (positionsIn g k) ++ headingsIn rest)
-              → headingsIn (s ∷ (segs k ++ rest)) ≡ headingsOf (pickList q (position g s k ∷ []) (positionsIn g k)) ++ headingsIn rest
-          go true e ih =
-              rw (taken-begins y g (giving n s) (next .takes) (bytesOf "LIN") refl ∙ e) (lin-headings n s k rest (T-true e) (c .2) (c .3) b)
-          go false e ih =
-              rw (taken-begins y g (giving n s) (next .takes) (bytesOf "LIN") refl ∙ e) (ih (λ t. rw e at t) (c .2) b)
+      go
+          : (q : Bool) → isLin g n ≡ q
+          → ((T (isLin g n) → ⊥) → Closed g (seen y) n k → Behind rest → headingsBy (segs k ++ rest) ≡ headings (positionsIn g k) ++ headingsBy rest)
+          → headingsBy (s ∷ (segs k ++ rest)) ≡ headings (pickList q (position g s k ∷ []) (positionsIn g k)) ++ headingsBy rest
+      go true e ih =
+          rw (taken-begins y g (giving n s) (next .takes) (bytesOf "LIN") refl ∙ e) (lin-headings n s k rest (T-true e) (c .2) (c .3) b)
+      go false e ih =
+          rw (taken-begins y g (giving n s) (next .takes) (bytesOf "LIN") refl ∙ e) (ih (λ t. rw e at t) (c .2) b)
 
-      -- The positions of a whole message, read by tags and read off its tree, have the same headings.
-      pub whole-headings
-          : (ss : List Segment) (w : Whole g (seen y) ss) → headingsListed (positionsOf ss) ≡ headingsOf (positionsIn g (w .tree))
-      unfolding positionsOf Without headingsIn
-      whole-headings ss w =
-          listed-headings 1 ss
-          ∙ ap headingsIn (sym (w .same) ∙ sym (append-nil (segs (w .tree))))
-          ∙ tree-headings 0 (w .tree) [] (h .root) (w .closed) (tt, tt)
-          ∙ append-nil (headingsOf (positionsIn g (w .tree)))
+  -- The positions of a whole message, read by tags and read off its tree, have the same headings.
+  pub whole-headings
+      : (ss : List Segment) (w : Whole g (seen y) ss) → listed (positionsOf ss) ≡ headings (positionsIn g (w .tree))
+  unfolding positionsOf Without headingsBy
+  whole-headings ss w =
+      listed-headings 1 ss
+      ∙ ap headingsBy (sym (w .same) ∙ sym (append-nil (segs (w .tree))))
+      ∙ tree-headings 0 (w .tree) [] (h .root) (w .closed) (tt, tt)
+      ∙ append-nil (headings (positionsIn g (w .tree)))
