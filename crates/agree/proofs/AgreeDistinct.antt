@@ -13,6 +13,13 @@ use Rattle.agree.specs.AgreePositions.{Listed, agreesAny, firstAfter, fi
 use Rattle.agree.specs.declared.agree_first.Agreeing.the-variants.{At, Nothing}
 use Rattle.agree.proofs.AgreeTexts.{heading-agree, agree-heading}
 
+-- what is compared of each position, read off a tree or listed
+abbrev pub headings : List Position → List Heading
+headings ps = map (λ (p : Position). headingOf p) ps
+
+abbrev pub listed : List Listed → List Heading
+listed qs = map (λ (q : Listed). q .heading) qs
+
 module _ {A : Type 0} (P : A → Type 0) (x : A) where
   each-last : (xs : List A) → Each P (xs ++ (x ∷ [])) → Each P xs × P x
   unfolding Each
@@ -27,12 +34,6 @@ module _ {A : Type 0} (P : A → Type 0) (x : A) where
   each-more (z ∷ xs) h k = (h .0, each-more xs (h .1) k)
 
 module _ (y : Syntax) where
-  abbrev headings : List Position → List Heading
-  headings ps = map (λ (p : Position). headingOf p) ps
-
-  abbrev listed : List Listed → List Heading
-  listed qs = map (λ (q : Listed). q .heading) qs
-
   -- p agrees with none of the positions es
   abbrev Apart : List Position → Position → Type 0
   Apart es p = Each (λ e. Agree y e p → ⊥) es

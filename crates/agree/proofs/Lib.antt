@@ -4,3 +4,8 @@ pub mod AgreeWalk
 pub mod AgreeHeads
 pub mod AgreeSearch
 pub mod AgreeDistinct
+pub mod AgreeTree
+pub mod AgreeLines
+pub mod AgreeFirst
+pub mod AgreeRepeated
+pub mod AgreeRefusal

@@ -11,7 +11,7 @@ use Rattle.guide.specs.Tree.{Whole, Beginning}
 use Rattle.guide.specs.Placing.{start, fault, run}
 use Rattle.guide.specs.Meaning.{Stops}
 use Rattle.guide.specs.Runs.{Goes, GoesTo}
-use Rattle.guide.specs.Checks.{every, rising, shared, together, overlap, clear, apartAt, apart, distinct, ends, Passes}
+use Rattle.guide.specs.Checks.{every, rising, shared, together, overlap, upward, apartAt, apart, distinct, ends, Passes}
 use Rattle.guide.proofs.Tables.{passing, distinct-takes}
 use Rattle.guide.proofs.Fitting.{only-one, goes-beginning, front-begins}
 use Rattle.guide.proofs.Ending.{only-whole, goes-to-whole}
@@ -22,7 +22,7 @@ unfolding pricat20d rising every
 rising-20d = tt
 
 apart-20d : T (apart pricat20d)
-unfolding pricat20d apart every same among shared together overlap clear apartAt
+unfolding pricat20d apart every same among shared together overlap upward apartAt
 apart-20d = tt
 
 ends-20d : T (ends pricat20d 26)
@@ -38,7 +38,7 @@ unfolding pricat20c rising every
 rising-20c = tt
 
 apart-20c : T (apart pricat20c)
-unfolding pricat20c apart every same among shared together overlap clear apartAt
+unfolding pricat20c apart every same among shared together overlap upward apartAt
 apart-20c = tt
 
 ends-20c : T (ends pricat20c 24)

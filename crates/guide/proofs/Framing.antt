@@ -18,7 +18,7 @@ use Rattle.guide.proofs.Basics.{T-true, and-left, and-right, or-cases, 
 use Rattle.guide.proofs.Tables.{in-table}
 
 -- a node that has a tag stands in the table
-tag-inside : (g : Guide) (x : ℕ) (t : List ℕ) (n : ℕ) → T (isTag g (x ∷ t) n) → n < length g
+pub tag-inside : (g : Guide) (x : ℕ) (t : List ℕ) (n : ℕ) → T (isTag g (x ∷ t) n) → n < length g
 unfolding isTag same
 tag-inside g x t n h = go (ltb n (length g)) refl
   where

@@ -2,24 +2,22 @@
 use Prim.Native.Nat.{ℕ}
 use mathlib.Core.Path.{_≡_, refl, sym, _∙_, ap, subst}
 use mathlib.Core.Logic.{_↔_}
-use mathlib.Core.List.{List, [], _∷_, _++_}
+use mathlib.Core.List.{List, [], _∷_}
 use native.Mathlib.Omega.{arith}
-use lib.Dec.{T, ltb}
+use lib.Dec.{T}
 use Rattle.cut.specs.declared.service.Syntax.{Syntax}
 use Rattle.cut.specs.Segments.{Segment}
 use Rattle.cut.specs.Messages.{Message}
-use Rattle.element.specs.Plain.{same}
-use Rattle.guide.specs.Nodes.{View, Guide, node, matches, takes}
+use Rattle.guide.specs.Nodes.{Guide, node}
 use Rattle.guide.specs.Page.{Page}
-use Rattle.guide.specs.Tree.{Kids, none, then, Given, giving, assigned, Open}
+use Rattle.guide.specs.Tree.{Given}
 use Rattle.guide.specs.Placing.{lastAfter}
 use Rattle.guide.specs.Checks.{Passes}
 use Rattle.guide.specs.Sheet.{isTag}
 use Rattle.guide.specs.Accepted.{Each, seen, segmentsOf, lastOf}
 use Rattle.guide.specs.Judging.{Memory, fresh}
-use Rattle.guide.proofs.Basics.{and-left, and-right, same-eq, same-refl}
-use Rattle.guide.proofs.Tables.{takes-matches}
-use Rattle.guide.proofs.Growing.{closed-open}
+use Rattle.guide.proofs.Basics.{same-eq, same-refl}
+use Rattle.guide.proofs.Taken.{Taken, assigned-taken, taken-tag}
 use Rattle.guide.proofs.Faultless.{segmentsIn, keep, kept, Through}
 use Rattle.guide.proofs.FaultlessTree.{faultless-tree}
 
@@ -29,36 +27,10 @@ final x [] = x
 final x (z ∷ zs) = final z zs
 
 module _ {A : Type 0} (P : A → Type 0) where
-  each-more : (xs zs : List A) → Each P xs → Each P zs → Each P (xs ++ zs)
-  unfolding Each
-  each-more [] zs a b = b
-  each-more (x ∷ xs) zs a b = (a .0, each-more xs zs (a .1) b)
-
   each-final : (x : A) (xs : List A) → Each P (x ∷ xs) → P (final x xs)
   unfolding Each final
   each-final x [] a = a .0
   each-final x (z ∷ zs) a = each-final z zs (a .1)
-
-module _ {A : Type 0} (g : Guide) (view : A → View) where
-  abbrev Taken : Given A → Type 0
-  Taken x = T (takes g (x .node) (view (x .segment)))
-
-  -- every segment of a beginning is taken by its node
-  assigned-taken : (p : ℕ) (f : Kids A) → Open g view p f → Each Taken (assigned f)
-  unfolding Open Each
-  assigned-taken p none o = tt
-  assigned-taken p (then l n s k) o =
-      let next = o .1 in
-      each-more Taken (assigned l) (giving n s ∷ assigned k) (assigned-taken p l (closed-open g view p l (o .0))) (next .takes, assigned-taken n k (o .2))
-
-  -- so it has the node's tag
-  taken-tag : (x : Given A) → Taken x → node g (x .node) .tag ≡ view (x .segment) .tag
-  unfolding matches
-  taken-tag x t =
-      let y = node g (x .node) in
-      let v = view (x .segment) in
-      let m = and-right (ltb 0 (y .limit)) _ (takes-matches g (x .node) v t) in
-      same-eq (y .tag) (v .tag) (and-left (same (y .tag) (v .tag)) _ m)
 
 module _ (y : Syntax) (g : Guide) (pages : ℕ → Page) where
   kept-last : (m : Memory) (x : Given Segment) (xs : List (Given Segment)) → kept y g pages m (x ∷ xs) .state .last ≡ final x xs .node

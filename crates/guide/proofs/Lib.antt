@@ -31,6 +31,7 @@ pub mod OnePass
 pub mod SegmentPass
 pub mod PageFace
 pub mod Framing
+pub mod Heading
 pub mod Enclosing
 pub mod Faultless
 pub mod Answering
@@ -44,5 +45,8 @@ pub mod Keeping
 pub mod Blaming
 pub mod FaultFound
 pub mod FaultFree
+pub mod Taken
 pub mod LastTag
 pub mod JudgedRefused
+pub mod Lines
+pub mod HeadFirst

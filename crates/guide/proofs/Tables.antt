@@ -18,6 +18,7 @@ use Rattle.guide.specs.Checks.{
   together,
   overlap,
   follows,
+  upward,
   clear,
   onePlace,
   apartAt,
@@ -222,20 +223,15 @@ module _ (g : Guide) where
       }
 
   -- walking up from the parent of m, past every instance that m is in
-  clear-up
-      : (x : Node) (k m y : ℕ) → Under g y m → node g m .parent < k → T (clear g x k (node g m .parent)) → node g y .parent ≡ x .parent
-      → node g y .counter ≤ x .counter → ⊥
-  unfolding clear
-  clear-up x zero m y u l h a b = omega arith
-  clear-up x (suc k) m y (child e) l h a b =
-      let z = node g m .parent in
-      T-not (follows g x z) (and-left (not (follows g x z)) (clear g x k (node g z .parent)) h)
-      (rw e (and-both (eqb (node g y .parent) (x .parent)) (leb (node g y .counter) (x .counter)) (eq-T _ _ a) (le→leb _ _ b)))
-  clear-up x (suc k) m y (deeper {y = z} e r u) l h a b =
-      let h′ : T (clear g x k (node g z .parent)) =
-      rw (sym e) (and-right (not (follows g x (node g m .parent))) (clear g x k (node g (node g m .parent) .parent)) h)
+  pub upward-at : (test : ℕ → Bool) (k m y : ℕ) → Under g y m → node g m .parent < k → T (upward g test k (node g m .parent)) → T (test y)
+  unfolding upward
+  upward-at test zero m y u l h = absurd (omega arith)
+  upward-at test (suc k) m y (child e) l h = rw (sym e) (and-left (test (node g m .parent)) (upward g test k (node g (node g m .parent) .parent)) h)
+  upward-at test (suc k) m y (deeper {y = z} e r u) l h =
+      let h′ : T (upward g test k (node g z .parent)) =
+      rw (sym e) (and-right (test (node g m .parent)) (upward g test k (node g (node g m .parent) .parent)) h)
       in
-      clear-up x k z y u (omega arith) h′ a b
+      upward-at test k z y u (omega arith) h′
 
   module _ (r : Rising g) (t : T (apart g)) where
     apart-at : (n m : ℕ) (v : View) → T (takes g n v) → T (takes g m v) → T (apartAt g n m)
@@ -263,9 +259,11 @@ module _ (g : Guide) where
           one-node = λ n m v a b e. same-number n m (not-lower n m v a b e) (not-lower m n v b a (sym e));
           outside =
               λ n m x v a b u e c.
-              clear-up (node g n) (length g) m x u
+              T-not (follows g (node g n) x)
+              (upward-at (λ y. not (follows g (node g n) y)) (length g) m x u
               (let z = r .rises m (takes-limit g m v b) in let y = in-table g m (takes-limit g m v b) in omega arith)
-              (and-right (onePlace g n m) _ (both-apart n m v a b)) e c;
+              (and-right (onePlace g n m) _ (both-apart n m v a b)))
+              (and-both (eqb (node g x .parent) (node g n .parent)) (leb (node g x .counter) (node g n .counter)) (eq-T _ _ e) (le→leb _ _ c));
         }
 
   -- where no two nodes of one place overlap, a node takes whatever matches it

@@ -51,10 +51,14 @@ overlap x y = (ltb 0 (x .limit) && ltb 0 (y .limit)) && (same (x .tag) (y .tag) 
 abbrev pub follows : Guide → Node → ℕ → Bool
 follows g x y = eqb (node g y .parent) (x .parent) && leb (node g y .counter) (x .counter)
 
--- walking up from y, at most k steps: x could come after none of them
-unfoldable pub clear : Guide → Node → ℕ → ℕ → Bool
-clear g x zero y = true
-clear g x (suc k) y = not (follows g x y) && clear g x k (node g y .parent)
+-- walking up from y, at most k steps: the test holds of each of them
+unfoldable pub upward : Guide → (ℕ → Bool) → ℕ → ℕ → Bool
+upward g test zero y = true
+upward g test (suc k) y = test y && upward g test k (node g y .parent)
+
+-- ... x could come after none of them
+abbrev pub clear : Guide → Node → ℕ → ℕ → Bool
+clear g x k y = upward g (λ z. not (follows g x z)) k y
 
 -- two nodes that one segment could match: under one parent they share a place; and neither can come after an instance that the other is in
 abbrev pub onePlace : Guide → ℕ → ℕ → Bool

@@ -19,6 +19,7 @@ pub mod PageFault
 pub mod Views
 pub mod Sheet
 pub mod Frames
+pub mod Heads
 pub mod Accepted
 pub mod Judging
 pub mod Refusal

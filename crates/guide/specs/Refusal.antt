@@ -3,7 +3,7 @@
 use Prim.Native.Nat.{ℕ, suc}
 use mathlib.Core.Path.{_≡_}
 use mathlib.Core.Bool.{true, false}
-use mathlib.Core.List.{List, [], _∷_, _++_}
+use mathlib.Core.List.{List, [], _∷_, _++_, List·Memᴰ}
 use lib.ListN.{length}
 use lib.Dec.{T}
 use Rattle.cut.specs.declared.service.Syntax.{Syntax}
@@ -17,11 +17,11 @@ use Rattle.guide.specs.Nodes.{Guide}
 use Rattle.guide.specs.Page.{Page}
 use Rattle.guide.specs.Content.{text, Holds}
 use Rattle.guide.specs.FirstFault.{First}
-use Rattle.guide.specs.Tree.{assigned, Beginning}
+use Rattle.guide.specs.Tree.{Kids, Given, giving, assigned, Beginning}
 use Rattle.guide.specs.Answers.{placed, refused}
 use Rattle.guide.specs.Meaning.{Outcome}
-use Rattle.guide.specs.Sheet.{isTag, withTag}
-use Rattle.guide.specs.Accepted.{Clean, seen, segmentsOf, lastOf}
+use Rattle.guide.specs.Sheet.{Position, isTag, withTag, positionsIn}
+use Rattle.guide.specs.Accepted.{Clean, seen, segmentsOf, lastOf, Agree, Distinct, Compared, Proper}
 
 -- "the reference in UNH", the first of a message's segments
 abbrev pub referenceIn : Syntax → List Segment → List ℕ
@@ -76,3 +76,30 @@ module _ (y : Syntax) (g : Guide) (pages : ℕ → Page) where
     at-end :
         FaultFree (segmentsOf m) → (seen y (lastOf (m .first) (m .rest)) .tag ≡ bytesOf "UNT" → ⊥) →
         Refused m 24 (suc (length (segmentsOf m))) (closeOf m) 0
+
+module _ (y : Syntax) (g : Guide) where
+  -- "the first LIN that agrees with an earlier one" is segment i, begins at the place a and is given node n
+  pub record Repeated (tree : Kids Segment) (i a n : ℕ) : Type 0 where
+    -- no two of the positions before it agree, and one of them agrees with it
+    pub before : List Position
+    pub repeats : Position
+    pub after : List Position
+    pub positions : positionsIn g tree ≡ before ++ (repeats ∷ after)
+    pub distinct : Distinct y before
+    pub earlier : Position
+    pub among : List·Memᴰ earlier before
+    pub agrees : Agree y earlier repeats
+    -- among the message's segments its LIN is the one that has as many LINs in front of it as there are positions before it
+    pub front : List (Given Segment)
+    pub back : List (Given Segment)
+    pub segments : assigned tree ≡ front ++ (giving n (repeats .lin) ∷ back)
+    pub line : T (isTag g (bytesOf "LIN") n)
+    pub lines : length (withTag g (bytesOf "LIN") front) ≡ length before
+    pub number : i ≡ suc (length front)
+    pub place : a ≡ repeats .lin .start
+
+  -- "23 comes only when all else holds; it names the first LIN that agrees with an earlier one": segment i, at the place a, with node n
+  pub record Repeats (pages : ℕ → Page) (m : Message) (i a n : ℕ) : Type 0 where
+    pub proper : Proper y g pages m
+    pub compared : Compared y (withTag g (bytesOf "BGM") (assigned (proper .sheet .tree)))
+    pub repeated : Repeated (proper .sheet .tree) i a n
