@@ -103,3 +103,10 @@ module _ (y : Syntax) (g : Guide) where
     pub proper : Proper y g pages m
     pub compared : Compared y (withTag g (bytesOf "BGM") (assigned (proper .sheet .tree)))
     pub repeated : Repeated (proper .sheet .tree) i a n
+
+module _ (y : Syntax) (g : Guide) (pages : ℕ → Page) where
+  -- the message is refused with number, segment, place and node: for a fault of a segment or of its end, or else, where "all else holds", for
+  -- agreeing positions
+  pub data Refusal (m : Message) : ℕ → ℕ → ℕ → ℕ → Type 0 where
+    for-fault : {k i a n : ℕ} → Refused y g pages m k i a n → Refusal m k i a n
+    for-agreement : {i a n : ℕ} → Repeats y g pages m i a n → Refusal m 23 i a n

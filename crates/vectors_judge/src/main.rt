@@ -87,16 +87,34 @@ fn read_lines() {
 
 pub fn main() {
     read_lines();
-    show(1, b"UNH+1+PRICAT:D:20B:UN:2.0d'BGM+Z32+A1'UNT+3+1'UNH+2+PRICAT:D:20B:UN:2.0d'");
+    show(
+        1,
+        b"UNH+1+PRICAT:D:20B:UN:2.0d'BGM+Z32+A1'UNT+3+1'UNH+2+PRICAT:D:20B:UN:2.0d'",
+    );
     show(2, b"");
     show(3, b"UNH'UNH");
-    show(4, b"UNH+1+PRICAT:D:20B:UN:2.0d'BGM+Z32+A1'DTM+137:1:303'RFF+Z13:27002'NAD+MR+1::9'NAD+MS+2::9'UNT+7+1?'");
-    show(5, b"UNH+1+PRICAT:D:20B:UN:2.0d'BGM+Z32+A1'DTM+137:1:303'RFF+Z13:27002'NAD+MR+1::9'NAD+MS+2::9'UNT+7+1'UNH+2");
+    show(
+        4,
+        b"UNH+1+PRICAT:D:20B:UN:2.0d'BGM+Z32+A1'DTM+137:1:303'RFF+Z13:27002'NAD+MR+1::9'NAD+MS+2::9'UNT+7+1?'",
+    );
+    show(
+        5,
+        b"UNH+1+PRICAT:D:20B:UN:2.0d'BGM+Z32+A1'DTM+137:1:303'RFF+Z13:27002'NAD+MR+1::9'NAD+MS+2::9'UNT+7+1'UNH+2",
+    );
     show(6, b"UNH+1+PRICAT:D:20B:UN:2.0d'BGM+Z32+A1'NA\x00");
-    show(7, b"UNH+1+PRICAT:D:20B:UN:2.0d'BGM+Z32+A1'DTM+137:1:303'RFF+Z13:27002'NAD+MR+1::9'NAD+MS+2::9'UNZ");
-    show(8, b"UNA:+.? 'UNH+1+PRICAT:D:20B:UN:2.0d'BGM+Z32+A1'DTM+137:1:303'RFF+Z13:27002'NAD+MR+1::9'NAD+MS+2::9'PGI+9'LIN+1++A:Z01'PRI+CAL:1.5'UNT+10+1'UNZ+1+1'");
+    show(
+        7,
+        b"UNH+1+PRICAT:D:20B:UN:2.0d'BGM+Z32+A1'DTM+137:1:303'RFF+Z13:27002'NAD+MR+1::9'NAD+MS+2::9'UNZ",
+    );
+    show(
+        8,
+        b"UNA:+.? 'UNH+1+PRICAT:D:20B:UN:2.0d'BGM+Z32+A1'DTM+137:1:303'RFF+Z13:27002'NAD+MR+1::9'NAD+MS+2::9'PGI+9'LIN+1++A:Z01'PRI+CAL:1.5'UNT+10+1'UNZ+1+1'",
+    );
     show(9, b"UNA:+.? '");
     show(10, b"UNA:+,? 'UNH+1+PRICAT:D:20B:UN:2.0d'");
     show(11, b"UNA:+.?");
-    show(12, b"UNH+1+PRICAT:D:20B:UN:2.0d'BGM+Z32+A1'DTM+137:1:303'RFF+Z13:27002'NAD+MR+1::9'NAD+MS+2::9'UNT+7+1'?");
+    show(
+        12,
+        b"UNH+1+PRICAT:D:20B:UN:2.0d'BGM+Z32+A1'DTM+137:1:303'RFF+Z13:27002'NAD+MR+1::9'NAD+MS+2::9'UNT+7+1'?",
+    );
 }

@@ -5,3 +5,6 @@ pub mod Answering
 pub mod NodeSought
 pub mod Ends
 pub mod Judging
+pub mod Intervals
+pub mod Accepting
+pub mod Refusing
