@@ -5,3 +5,5 @@ pub mod Answering
 pub mod NodeSought
 pub mod Ends
 pub mod Judging
+pub mod Moved
+pub mod Face
