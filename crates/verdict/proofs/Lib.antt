@@ -8,3 +8,5 @@ pub mod Judging
 pub mod Intervals
 pub mod Accepting
 pub mod Refusing
+pub mod Moved
+pub mod Face

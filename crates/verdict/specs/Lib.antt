@@ -1,3 +1,4 @@
 pub mod Verdicts
 pub mod Answers
 pub mod Workers
+pub mod Moves
