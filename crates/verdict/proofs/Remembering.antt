@@ -27,6 +27,9 @@ module _ (n : ℕ) (own before : List ℕ) (u : Bool) (unh : u ≡ isTag pricat2
   pub reference-stays : u ≡ false → before ≡ pickBytes (isTag pricat20d (bytesOf "UNH") n) own before
   reference-stays h = rw (← unh, h)
 
+pub already : (z x : Bool) → z ≡ true → true ≡ z || x
+already z x h = rw h
+
 module _ (n : ℕ) (own : List ℕ) (z : Bool) (so-far : z ≡ false) (b : Bool) (bgm : b ≡ isTag pricat20d (bytesOf "BGM") n) where
   abbrev Intervals : Bool → Type 0
   Intervals r = r ≡ z || (isTag pricat20d (bytesOf "BGM") n && same own (bytesOf "Z04"))

@@ -1,13 +1,13 @@
 -- `verdict::kept::intervals_after` meets its contract.
 use borrow.Author.Tests.{not-true, not-false}
 use Rattle.verdict.proofs.Texts.{decoded-text}
-use Rattle.verdict.proofs.Remembering.{no-document, document}
+use Rattle.verdict.proofs.Remembering.{already, no-document, document}
 use borrow.Author.Needs.{needs}
 use Rattle.verdict.proofs.kept.intervals_after.Statement.{statement}
 use Rattle.verdict.proofs.kept.intervals_after.Tie as tie
 
 returns : tie.Need-returns
-returns c = search needs
+returns c = already _ _ (c .if1 .taken)
 
 has-tag-requires : tie.Need-has-tag-requires
 has-tag-requires c κs = search needs
