@@ -5,3 +5,5 @@ pub mod PricePuts
 pub mod PriceRuns
 pub mod PriceWalk
 pub mod PriceArticles
+pub mod PriceLies
+pub mod PriceParted

@@ -92,15 +92,15 @@ pub numbers-made
     → place ≡ articlePlace base a → v ≡ amountOf n → ds ≡ decimalsOf n → u ≡ unitRank y (part start end d) → pri ≡ pos (start - base)
     → rng ≡ placeOfFirst base (rngIn d next)
     → record {
-        position = toZ w64 (p .number);
-        article = place;
-        length = toZ w64 (a .end - a .start);
-        amount = v;
-        decimals = ds;
-        unit = u;
-        pri = pri;
-        rng = rng;
-      }
+      position = toZ w64 (p .number);
+      article = place;
+      length = toZ w64 (a .end - a .start);
+      amount = v;
+      decimals = ds;
+      unit = u;
+      pri = pri;
+      rng = rng;
+    }
     ≡ numbersOf y base (listedIn d p start end next)
 unfolding numbersOf articleIn componentAt articleLength
 numbers-made y d base p start end next a n place v ds u pri rng f l h k e₁ e₂ e₃ e₄ e₅ e₆ =

@@ -20,7 +20,7 @@ use Rattle.price.specs.declared.spots.Spot.the-variants.{At, Nothing}
 use Rattle.price.specs.declared.spots.Held.{Held}
 use Rattle.price.specs.PriceNumbers.{Listed}
 use Rattle.price.specs.PriceList.{kindOf, rngNext, numberBy, linBy, priceBy, pricesFrom, noLin, pricesOf}
-use Rattle.price.specs.PriceParts.{segmentsAt, headSpot, addBy, movedBy, reachedBy, Holding, HeldFirst}
+use Rattle.price.specs.PriceParts.{segmentsAt, headSpot, addBy, movedBy, reachedBy, Holding, HeldFirst, HeldAt}
 use Rattle.price.proofs.PriceSpots.{Spotted, spotted, spot-nothing}
 use Rattle.price.proofs.PriceWalk.{prices-next, Moved, moved}
 
@@ -47,8 +47,11 @@ ends-by Rng p s e at h l = omega arith
 ends-by Other p s e at h l = omega arith
 
 module _ (y : Syntax) (d : List ℕ) (start k : ℕ) where
+  abbrev all : List Listed
+  all = pricesOf start (segmentsAt y d start)
+
   abbrev wanted : List Listed
-  wanted = drop k (pricesOf start (segmentsAt y d start))
+  wanted = drop k all
 
   -- the walk has come to the place `at`, in the position p, and is to pass `left` prices more
   pub record Seeking (at left : ℕ) (p : Held) : Type 0 where
@@ -74,8 +77,8 @@ module _ (y : Syntax) (d : List ℕ) (start k : ℕ) where
       }
 
   module _ (at left : ℕ) (p : Held) (i : Seeking at left p) (spot : Spot) (here : spot ≡ headSpot (segmentsAt y d at)) where
-    pub seeking-none : spot ≡ Nothing → HeldFirst start d wanted (record { number = 0; start = start; end = start })
-    unfolding pricesFrom HeldFirst
+    pub seeking-none : spot ≡ Nothing → HeldAt start d k all (record { number = 0; start = start; end = start })
+    unfolding pricesFrom HeldFirst HeldAt
     seeking-none h =
         let n : segmentsAt y d at ≡ [] = spot-nothing y d at (sym h ∙ here) in
         let w : [] ≡ wanted = sym (drop-nil left) ∙ rw n at (i .same) in
@@ -106,8 +109,8 @@ module _ (y : Syntax) (d : List ℕ) (start k : ℕ) where
           ap (pricesFrom (p .number) (i .lin)) (q .list) ∙ prices-next (p .number) (i .lin) this (segmentsAt y d e) kind f
 
       module _ (b : Bool) (found : b ≡ reachedBy kind left) where
-        pub seeking-found : b ≡ true → HeldFirst start d wanted p
-        unfolding HeldFirst
+        pub seeking-found : b ≡ true → HeldAt start d k all p
+        unfolding HeldFirst HeldAt
         seeking-found t =
             let q = took .cuts in
             let w : price ∷ rest ≡ wanted = sym (finds kind left price rest (sym found ∙ t)) ∙ rw step at (i .same) in

@@ -178,7 +178,7 @@ module _ (y : Syntax) (d : List ℕ) (start k : ℕ) where
         let n : segmentsAt y d (i .at) ≡ [] = spot-nothing y d (i .at) (sym h ∙ i .here) in
         let t : seen ≡ length all = sym (add-zero seen) ∙ rw n at (i .total) in
         let w : min (length row / 8) (seen - k) ≡ length (take (length row₀ / 8) (map (numbersOf y start) (drop k all))) =
-          rw (length-take, length-map, length-drop, ← t, i .size) in
+        rw (length-take, length-map, length-drop, ← t, i .size) in
         (c ∙ (λ j. record { written = w j; total = t j }), sym (put-none y start row (seen - k) (k - seen)) ∙ rw n at (i .filled) ∙ put-all wanted row₀)
 
     module _ (s : ℕ) (kind : Kind) (e : ℕ) (is : spot ≡ At s kind e) where

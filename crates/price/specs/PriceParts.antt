@@ -97,6 +97,10 @@ unfoldable pub HeldFirst : ℕ → List ℕ → List Listed → Held → Type 0
 HeldFirst start d [] p = p ≡ record { number = 0; start = start; end = start }
 HeldFirst start d (q ∷ qs) p = Holding d p (q .lin) × (p .end ≤ length d)
 
+-- ... of the k-th
+unfoldable pub HeldAt : ℕ → List ℕ → ℕ → List Listed → Held → Type 0
+HeldAt start d k qs p = HeldFirst start d (drop k qs) p
+
 -- a segment of this kind is the price before which `left` are to be passed
 abbrev pub reachedBy : Kind → ℕ → Bool
 reachedBy Pri left = eqb left 0

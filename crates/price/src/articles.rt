@@ -11,8 +11,7 @@ use element::component_at;
 ghost use mathlib.Core.Path.{_≡_};
 ghost use Rattle.price.specs.PriceCalls.{articleAt, IsPart, pricesIn};
 ghost use Rattle.price.specs.PriceList.{pricesOf};
-ghost use Rattle.price.specs.PriceParts.{segmentsAt, HeldFirst, reachedBy};
-ghost use lib.ListN.{drop};
+ghost use Rattle.price.specs.PriceParts.{segmentsAt, HeldAt, reachedBy};
 
 // The article of the k-th price of the message from `start` to `end`; an absent one, and that of a price that is not there, is the empty
 // part at `start`.
@@ -45,7 +44,7 @@ pub fn article_at(y: Syntax, d: &[u8], start: usize, end: usize, k: usize) -> Sp
 
 // Where the LIN of the k-th price stands; an empty part, if there is no such price.
 fn lin_of(y: Syntax, d: &[u8], start: usize, end: usize, k: usize) -> Held
-    ensures { λ r. ⌜ HeldFirst start (now (d .entry)) (drop k (pricesIn y (now (d .entry)) start end)) r ⌝ }
+    ensures { λ r. ⌜ HeldAt start (now (d .entry)) k (pricesIn y (now (d .entry)) start end) r ⌝ }
 {
     if d.len() <= end {
         return lin_from(y, d, start, k);
@@ -55,7 +54,7 @@ fn lin_of(y: Syntax, d: &[u8], start: usize, end: usize, k: usize) -> Held
 
 // The same for all segments from `start` on.
 fn lin_from(y: Syntax, d: &[u8], start: usize, k: usize) -> Held
-    ensures { λ r. ⌜ HeldFirst start (now (d .entry)) (drop k (pricesOf start (segmentsAt y (now (d .entry)) start))) r ⌝ }
+    ensures { λ r. ⌜ HeldAt start (now (d .entry)) k (pricesOf start (segmentsAt y (now (d .entry)) start)) r ⌝ }
 {
     let mut at = start;
     let mut left = k;

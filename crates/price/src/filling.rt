@@ -25,14 +25,7 @@ pub struct Filled {
 }
 
 // The prices of the message from `start` to `end`, from the k-th on: eight numbers to a price, as many as fit whole.
-pub fn fill(
-    y: Syntax,
-    d: &[u8],
-    start: usize,
-    end: usize,
-    k: usize,
-    row: &mut [i64],
-) -> Filled
+pub fn fill(y: Syntax, d: &[u8], start: usize, end: usize, k: usize, row: &mut [i64]) -> Filled
     ensures { λ r. ⌜ r ≡ filledOf (now (row .entry)) (numbersFrom y start k (pricesIn y (now (d .entry)) start end)) (pricesIn y (now (d .entry)) start end) ⌝ }
     ensures { λ _. ⌜ now (row .exit) ≡ filledRow (numbersFrom y start k (pricesIn y (now (d .entry)) start end)) (now (row .entry)) ⌝ }
 {

@@ -41,7 +41,9 @@ sub-left : tie.Need-sub-left Inv-loop μ-loop
 sub-left c = seeking-less _ _ _ _ _ _ _ (c .before .before .before .before .before .before .before .loop .inv) _ (c .before .before .before .before .before .before .spot-at .ensures) _ _ _ (c .before .before .before .before .s .given .1) _ (c .before .before .reached .ensures) (c .before .if1 .left) _ (c .added .ensures)
 
 moved-requires : tie.Need-moved-requires Inv-loop μ-loop
-moved-requires c κs = ?
+moved-requires c κs =
+    let q = seeking-some _ _ _ _ _ _ _ (c .before .before .before .before .before .before .before .loop .inv) _ (c .before .before .before .before .before .before .spot-at .ensures) _ _ _ (c .before .before .before .before .s .given .1) in
+    omega (arith, q .0, q .1, c .before .before .before .before .before .before .before .loop .inv .number)
 
 loop-less : tie.Need-loop-less Inv-loop μ-loop
 loop-less c =
