@@ -7,3 +7,5 @@ pub mod PriceWalk
 pub mod PriceArticles
 pub mod PriceLies
 pub mod PriceParted
+pub mod PriceTables
+pub mod PriceTree

@@ -4,3 +4,4 @@ pub mod PriceList
 pub mod PriceRows
 pub mod PriceCalls
 pub mod PriceParts
+pub mod PriceTable
