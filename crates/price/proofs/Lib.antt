@@ -1,0 +1,11 @@
+pub mod PriceKinds
+pub mod PriceAnswers
+pub mod PriceSpots
+pub mod PricePuts
+pub mod PriceRuns
+pub mod PriceWalk
+pub mod PriceArticles
+pub mod PriceLies
+pub mod PriceParted
+pub mod PriceTables
+pub mod PriceTree

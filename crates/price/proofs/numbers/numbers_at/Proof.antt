@@ -1,0 +1,79 @@
+-- `price::numbers::numbers_at` meets its contract.
+use Prim.Native.Nat.{_-_, _^_, _<_}
+use mathlib.Core.Path.{_∙_}
+use native.Mathlib.Omega.{arith}
+use mir.Facts.{toZ-ofZ}
+use Rattle.price.proofs.PriceAnswers.{component-bounds, numbers-made}
+use borrow.Author.Needs.{needs}
+use Rattle.price.proofs.numbers.numbers_at.Statement.{statement}
+use Rattle.price.proofs.numbers.numbers_at.Tie as tie
+
+component-at-requires : tie.Need-component-at-requires
+component-at-requires c κs = search needs
+
+price-in-requires : tie.Need-price-in-requires
+price-in-requires c κs = search needs
+
+cast-t10 : tie.Need-cast-t10
+cast-t10 c = search needs
+
+article-place-requires : tie.Need-article-place-requires
+article-place-requires c κs =
+    let w = component-bounds _ _ _ _ _ _ _ (c .before .before .component-at .ensures) in
+    let p = c .before .before .before .before .pre .0 in
+    (omega (arith, w .from, p .from), omega (arith, w .ordered, w .to, p .to))
+
+sub-t12 : tie.Need-sub-t12
+sub-t12 c = component-bounds _ _ _ _ _ _ _ (c .before .before .before .before .component-at .ensures) .ordered
+
+cast-t13 : tie.Need-cast-t13
+cast-t13 c =
+    let w = component-bounds _ _ _ _ _ _ _ (c .before .before .before .before .component-at .ensures) in
+    let p = c .before .before .before .before .before .before .pre .0 in
+    record { sfits = omega (arith, w .from, w .ordered, w .to, p .to) }
+
+amount-in-requires : tie.Need-amount-in-requires
+amount-in-requires c κs = search needs
+
+decimals-in-requires : tie.Need-decimals-in-requires
+decimals-in-requires c κs = search needs
+
+unit-in-requires : tie.Need-unit-in-requires
+unit-in-requires c κs = search needs
+
+from-start-requires : tie.Need-from-start-requires
+from-start-requires c κs = search needs
+
+rng-place-requires : tie.Need-rng-place-requires
+rng-place-requires c κs = search needs
+
+returns : tie.Need-returns
+returns c =
+    let w = component-bounds _ _ _ _ _ _ _ (c .before .before .before .before .before .before .before .before .before .component-at .ensures) in
+    let p = c .before .before .before .before .before .before .before .before .before .before .before .pre .0 in
+    let f : c .before .before .before .before .before .before .before .before .before .before .before .args .p .number < 2 ^ 63 = omega (arith, p .number) in
+    let l : c .before .before .before .before .before .before .before .before .before .component-at .result .end - c .before .before .before .before .before .before .before .before .before .component-at .result .start < 2 ^ 63 = omega (arith, w .from, w .ordered, w .to, p .to) in
+    numbers-made _ _ _ _ _ _ _ _ _ _ _ _ _ _ _ f l (c .before .before .before .before .before .before .before .before .before .component-at .ensures) (c .before .before .before .before .before .before .before .before .price-in .ensures)
+    (toZ-ofZ (record { sfits = c .before .before .before .before .before .before .article-place .ok }) ∙ c .before .before .before .before .before .before .article-place .ensures)
+    (toZ-ofZ (record { sfits = c .before .before .before .before .amount-in .ok }) ∙ c .before .before .before .before .amount-in .ensures)
+    (toZ-ofZ (record { sfits = c .before .before .before .decimals-in .ok }) ∙ c .before .before .before .decimals-in .ensures)
+    (toZ-ofZ (record { sfits = c .before .before .unit-in .ok }) ∙ c .before .before .unit-in .ensures)
+    (toZ-ofZ (record { sfits = c .before .from-start .ok }) ∙ c .before .from-start .ensures)
+    (toZ-ofZ (record { sfits = c .rng-place .ok }) ∙ c .rng-place .ensures)
+
+pub numbers-at-spec : {M : Type 1} → statement M
+numbers-at-spec =
+    tie.close
+    (tie.spec
+    component-at-requires
+    price-in-requires
+    cast-t10
+    article-place-requires
+    sub-t12
+    cast-t13
+    amount-in-requires
+    decimals-in-requires
+    unit-in-requires
+    from-start-requires
+    rng-place-requires
+    returns)

@@ -1,0 +1,49 @@
+-- What each public call answers, for every delivery, place and number.
+use Prim.Native.Nat.{ℕ, min}
+use mathlib.Core.Path.{_≡_}
+use mathlib.Core.Bool.{false, cond}
+use mathlib.Core.List.{List, [], _∷_, map}
+use lib.Dec.{ltb}
+use lib.ListN.{length, drop}
+use lib.IntN.{ℤ}
+use denote.Ref.{RefT, now, ptr}
+use Prim.Native.Nat.{_+_}
+use Rattle.cut.specs.declared.service.Syntax.{Syntax}
+use Rattle.cut.specs.Bytes.{part}
+use Rattle.cut.specs.Segments.{segmentsFrom}
+use Rattle.element.specs.declared.components.Span.{Span}
+use Rattle.price.specs.declared.numbers.Numbers.{Numbers}
+use Rattle.price.specs.declared.filling.Filled.{Filled}
+use Rattle.price.specs.PriceNumbers.{Listed, articleIn, numbersOf}
+use Rattle.price.specs.PriceList.{pricesOf}
+use Rattle.price.specs.PriceRows.{fitting}
+
+-- the prices of the message from start to end
+unfoldable pub pricesIn : Syntax → List ℕ → ℕ → ℕ → List Listed
+pricesIn y d start end = pricesOf start (segmentsFrom y start false (part start end d))
+
+-- "from the k-th on (k from 0)": the numbers of these prices
+unfoldable pub numbersFrom : Syntax → ℕ → ℕ → List Listed → List Numbers
+numbersFrom y start k qs = map (numbersOf y start) (drop k qs)
+
+-- "how many were written and how many the message has"
+unfoldable pub filledOf : List ℤ → List Numbers → List Listed → Filled
+filledOf row ps qs = record { written = length (fitting row ps); total = length qs }
+
+-- the article of the first of these prices; an absent one, and that of no price, is the empty part at the place m
+unfoldable pub firstArticle : Syntax → ℕ → List Listed → Span
+firstArticle y m [] = record { start = m; end = m }
+firstArticle y m (q ∷ qs) =
+    cond (ltb (articleIn y (q .lin .start) (q .lin .bytes) .start) (articleIn y (q .lin .start) (q .lin .bytes) .end))
+    (articleIn y (q .lin .start) (q .lin .bytes))
+    (record { start = m; end = m })
+
+-- the article of the k-th price: "an absent one is the empty part at the message's start", which counts as the delivery's end where it is past that
+unfoldable pub articleAt : Syntax → List ℕ → ℕ → ℕ → ℕ → Span
+articleAt y d start end k = firstArticle y (min start (length d)) (drop k (pricesIn y d start end))
+
+-- r is the part of s from a to e itself: its bytes, in the same block, at that place
+pub record IsPart (s r : RefT (List ℕ)) (a e : ℕ) : Type 0 where
+  pub bytes : now r ≡ part a e (now s)
+  pub block : ptr r .0 ≡ ptr s .0
+  pub offset : ptr r .1 ≡ ptr s .1 + a

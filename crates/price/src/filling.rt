@@ -1,0 +1,117 @@
+// Prices into a lent row, in one walk over the message's segments.
+use crate::kinds::Kind;
+use crate::kinds::is_pri;
+use crate::numbers::numbers_at;
+use crate::rows::put_row;
+use crate::spots::Held;
+use crate::spots::Spot;
+use crate::spots::added;
+use crate::spots::moved;
+use crate::spots::spot_at;
+use cut::Syntax;
+ghost use Prim.Native.Nat.{_≤_};
+ghost use mathlib.Core.Path.{_≡_};
+ghost use lib.ListN.{length};
+ghost use Rattle.price.specs.PriceNumbers.{numbersOf};
+ghost use Rattle.price.specs.PriceList.{pricesOf};
+ghost use Rattle.price.specs.PriceRows.{filledRow};
+ghost use Rattle.price.specs.PriceCalls.{pricesIn, numbersFrom, filledOf};
+ghost use Rattle.price.specs.PriceParts.{segmentsAt, listedIn, putFound, countedOf, Within, NextWithin};
+
+// How many prices were written, and how many the message has.
+pub struct Filled {
+    pub written: usize,
+    pub total: usize,
+}
+
+// The prices of the message from `start` to `end`, from the k-th on: eight numbers to a price, as many as fit whole.
+pub fn fill(y: Syntax, d: &[u8], start: usize, end: usize, k: usize, row: &mut [i64]) -> Filled
+    ensures { λ r. ⌜ r ≡ filledOf (now (row .entry)) (numbersFrom y start k (pricesIn y (now (d .entry)) start end)) (pricesIn y (now (d .entry)) start end) ⌝ }
+    ensures { λ _. ⌜ now (row .exit) ≡ filledRow (numbersFrom y start k (pricesIn y (now (d .entry)) start end)) (now (row .entry)) ⌝ }
+{
+    if d.len() <= end {
+        return fill_from(y, d, start, k, row);
+    }
+    fill_from(y, &d[0..end], start, k, row)
+}
+
+// The same for all segments from `start` on.
+fn fill_from(y: Syntax, d: &[u8], start: usize, k: usize, row: &mut [i64]) -> Filled
+    ensures { λ r. ⌜ r ≡ filledOf (now (row .entry)) (numbersFrom y start k (pricesOf start (segmentsAt y (now (d .entry)) start))) (pricesOf start (segmentsAt y (now (d .entry)) start)) ⌝ }
+    ensures { λ _. ⌜ now (row .exit) ≡ filledRow (numbersFrom y start k (pricesOf start (segmentsAt y (now (d .entry)) start))) (now (row .entry)) ⌝ }
+{
+    let mut seen = 0;
+    let mut p = Held {
+        number: 0,
+        start,
+        end: start,
+    };
+    let mut spot = spot_at(y, d, start);
+    loop {
+        let Spot::At {
+            start: place,
+            kind,
+            end,
+        } = spot
+        else {
+            return counted(seen, k, row.len());
+        };
+        let next = spot_at(y, d, end);
+        put_found(y, d, start, p, place, kind, end, next, k, seen, row);
+        seen += added(kind);
+        p = moved(p, kind, place, end);
+        spot = next;
+    }
+}
+
+// The answer where `seen` prices are there and those from the k-th on go into a row of n numbers.
+fn counted(seen: usize, k: usize, n: usize) -> Filled
+    ensures { λ r. ⌜ r ≡ countedOf seen k n ⌝ }
+{
+    if seen <= k {
+        return Filled {
+            written: 0,
+            total: seen,
+        };
+    }
+    if n / 8 < seen - k {
+        return Filled {
+            written: n / 8,
+            total: seen,
+        };
+    }
+    Filled {
+        written: seen - k,
+        total: seen,
+    }
+}
+
+// Writes the price of the segment from `place` to `end`, if it is a PRI, one from the k-th on, and fits whole.
+fn put_found(
+    y: Syntax,
+    d: &[u8],
+    base: usize,
+    p: Held,
+    place: usize,
+    kind: Kind,
+    end: usize,
+    next: Spot,
+    k: usize,
+    seen: usize,
+    row: &mut [i64],
+)
+    requires { ⌜ (Within base p (now d)) × (base ≤ place) × (place ≤ length (now d)) × (NextWithin base next) ⌝ }
+    ensures { λ _. ⌜ now (row .exit) ≡ putFound kind k seen (numbersOf y base (listedIn (now (d .entry)) p place end next)) (now (row .entry)) ⌝ }
+{
+    if !is_pri(kind) {
+        return;
+    }
+    if seen < k {
+        return;
+    }
+    let n = seen - k;
+    if row.len() / 8 <= n {
+        return;
+    }
+    put_row(row, n, numbers_at(y, d, base, p, place, end, next));
+}
