@@ -1,0 +1,37 @@
+// The verdict of the message that begins at a place.
+use cut::Found;
+use cut::base::syntax;
+use verdict::Verdict;
+use verdict::verdict_of;
+ghost use mathlib.Core.Path.{_≡_};
+ghost use Rattle.cut.specs.Base.{edifact};
+ghost use Rattle.verdict.specs.Answers.{declared};
+ghost use Rattle.schaumtruhe.specs.Calls.{nowhere, verdictAt};
+
+// A refusal of the delivery or of the place, which names no segment.
+fn refused(number: u32) -> Verdict
+    ensures { λ r. ⌜ r ≡ declared (nowhere number) ⌝ }
+{
+    Verdict::Refused {
+        number,
+        segment: 0,
+        place: 0,
+        node: 0,
+    }
+}
+
+// 1 or 2; 31 if no message begins there; else the message's verdict.
+pub fn judge_at(d: &[u8], at: usize) -> Verdict
+    ensures { λ r. ⌜ r ≡ declared (verdictAt edifact (now (d .entry)) at) ⌝ }
+{
+    let y = syntax();
+    let refusal = cut::admission(y, d);
+    if refusal != 0 {
+        return refused(refusal);
+    }
+    let m = cut::message_at(y, d, at);
+    let Found::Message { start, end } = m else {
+        return refused(31);
+    };
+    verdict_of(y, d, start, end)
+}
