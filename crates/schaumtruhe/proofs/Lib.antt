@@ -1,1 +1,5 @@
-
+pub mod Found
+pub mod Verdicts
+pub mod PricesAt
+pub mod ArticlesAt
+pub mod Surveying

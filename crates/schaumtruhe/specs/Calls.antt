@@ -45,6 +45,33 @@ pub data Sheet : Type 0 where
   stands : Message → Sheet
   missing : ℕ → Sheet
 
+abbrev pub onlyAccepted : Verdict → Message → List Message
+onlyAccepted (accepts n e) m = m ∷ []
+onlyAccepted (refuses k i p n) m = []
+
+abbrev pub surveyUnless : ℕ → Surveyed → Surveyed
+surveyUnless zero s = s
+surveyUnless (suc n) s = surveyed.Refused (suc n)
+
+-- 30, "prices or article asked of a refused message"
+abbrev pub sheetBy : Verdict → Message → Sheet
+sheetBy (accepts n e) m = stands m
+sheetBy (refuses k i p n) m = missing 30
+
+abbrev pub sheetUnless : ℕ → Sheet → Sheet
+sheetUnless zero s = s
+sheetUnless (suc n) s = missing (suc n)
+
+abbrev pub written : Filled → Priced
+written f = priced.Written (f .written) (f .total)
+
+abbrev pub atStart : Span
+atStart = record { start = 0; end = 0 }
+
+abbrev pub articleUnless : ℕ → Span → Span
+articleUnless zero s = s
+articleUnless (suc n) s = atStart
+
 module _ (y : Syntax) where
   -- the verdict of a message, by the guide PRICAT 2.0d
   abbrev pub judged : Message → Verdict
@@ -59,18 +86,10 @@ module _ (y : Syntax) where
   unfoldable pub verdictAt : List ℕ → ℕ → Verdict
   verdictAt d at = unlessRefused (admissionOf y d) (verdictIn (beginningAt at (messages y d)))
 
-  abbrev pub onlyAccepted : Verdict → Message → List Message
-  onlyAccepted (accepts n e) m = m ∷ []
-  onlyAccepted (refuses k i p n) m = []
-
   -- those of some messages that are accepted
   unfoldable pub accepted : List Message → List Message
   accepted [] = []
   accepted (m ∷ ms) = onlyAccepted (judged m) m ++ accepted ms
-
-  abbrev pub surveyUnless : ℕ → Surveyed → Surveyed
-  surveyUnless zero s = s
-  surveyUnless (suc n) s = surveyed.Refused (suc n)
 
   -- survey: "messages found, accepted, and segments outside"
   unfoldable pub surveyOf : List ℕ → Surveyed
@@ -78,18 +97,9 @@ module _ (y : Syntax) where
       surveyUnless (admissionOf y d)
       (surveyed.Counted (length (messages y d)) (length (accepted (messages y d))) (length (outside y d)))
 
-  -- 30, "prices or article asked of a refused message"
-  abbrev pub sheetBy : Verdict → Message → Sheet
-  sheetBy (accepts n e) m = stands m
-  sheetBy (refuses k i p n) m = missing 30
-
   abbrev pub sheetIn : List Message → Sheet
   sheetIn [] = missing 31
   sheetIn (m ∷ ms) = sheetBy (judged m) m
-
-  abbrev pub sheetUnless : ℕ → Sheet → Sheet
-  sheetUnless zero s = s
-  sheetUnless (suc n) s = missing (suc n)
 
   -- "Calls about prices: 1, 2, 31, 30"
   unfoldable pub sheetAt : List ℕ → ℕ → Sheet
@@ -98,9 +108,6 @@ module _ (y : Syntax) where
   -- the prices of a message
   abbrev pub listed : Message → List Listed
   listed m = pricesOf (startOf m) (segmentsOf m)
-
-  abbrev pub written : Filled → Priced
-  written f = priced.Written (f .written) (f .total)
 
   abbrev pub pricedBy : Sheet → ℕ → List ℤ → Priced
   pricedBy (stands m) k row = written (filledOf row (numbersFrom y (startOf m) k (listed m)) (listed m))
@@ -125,13 +132,6 @@ module _ (y : Syntax) where
   -- article_refusal
   unfoldable pub articleRefusal : List ℕ → ℕ → ℕ → ℕ
   articleRefusal d at k = articleRefusalBy (sheetAt d at) k
-
-  abbrev pub atStart : Span
-  atStart = record { start = 0; end = 0 }
-
-  abbrev pub articleUnless : ℕ → Span → Span
-  articleUnless zero s = s
-  articleUnless (suc n) s = atStart
 
   abbrev pub articleBy : Sheet → ℕ → Span
   articleBy (stands m) k = firstArticle y (startOf m) (drop k (listed m))

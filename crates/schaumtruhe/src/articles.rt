@@ -1,14 +1,12 @@
-// The article of a price, as the part of the delivery itself.
+// Where the article of a price stands.
 use crate::sheets::Standing;
 use crate::sheets::sheet_at;
 use cut::Syntax;
-use cut::base::syntax;
 use element::Span;
 use price::fill;
 ghost use mathlib.Core.Path.{_≡_};
 ghost use lib.ListN.{length};
-ghost use Rattle.cut.specs.Base.{edifact};
-ghost use Rattle.price.specs.PriceCalls.{IsPart, pricesIn};
+ghost use Rattle.price.specs.PriceCalls.{pricesIn};
 ghost use Rattle.schaumtruhe.specs.Calls.{articleRefusal, articleAt};
 ghost use Rattle.schaumtruhe.specs.Workers.{refusalBy};
 
@@ -26,31 +24,21 @@ fn refusal_by(y: Syntax, d: &[u8], sheet: Standing, k: usize) -> u32
     ensures { λ r. ⌜ r ≡ refusalBy y (now (d .entry)) sheet k ⌝ }
 {
     match sheet {
-        Standing::Accepted { start, end } => {
-            if k < total(y, d, start, end) {
-                0
-            } else {
-                32
-            }
-        }
+        Standing::Accepted { start, end } => { if k < total(y, d, start, end) { 0 } else { 32 } }
         Standing::Refused { number } => number,
     }
 }
 
-// Why the article is refused: 1, 2, 31, 30, 32, in this order; 0 if it is not.
-pub fn article_refusal(d: &[u8], at: usize, k: usize) -> u32
-    ensures { λ r. ⌜ r ≡ articleRefusal edifact (now (d .entry)) at k ⌝ }
+pub(crate) fn article_refused(y: Syntax, d: &[u8], at: usize, k: usize) -> u32
+    ensures { λ r. ⌜ r ≡ articleRefusal y (now (d .entry)) at k ⌝ }
 {
-    let y = syntax();
     refusal_by(y, d, sheet_at(y, d, at), k)
 }
 
-// Where the article of price k stands: an absent one is the empty part at the message's start, that of a refused call the empty part at the
-// delivery's start.
-pub fn article_at(d: &[u8], at: usize, k: usize) -> Span
-    ensures { λ r. ⌜ r ≡ articleAt edifact (now (d .entry)) at k ⌝ }
+// A refused call has the empty part at the delivery's start.
+pub(crate) fn article_in(y: Syntax, d: &[u8], at: usize, k: usize) -> Span
+    ensures { λ r. ⌜ r ≡ articleAt y (now (d .entry)) at k ⌝ }
 {
-    let y = syntax();
     let sheet = sheet_at(y, d, at);
     let refused = refusal_by(y, d, sheet, k);
     let Standing::Accepted { start, end } = sheet else {
@@ -60,14 +48,4 @@ pub fn article_at(d: &[u8], at: usize, k: usize) -> Span
         return Span { start: 0, end: 0 };
     }
     price::article_at(y, d, start, end, k)
-}
-
-// The article itself.
-pub fn article(d: &[u8], at: usize, k: usize) -> &[u8]
-    ensures { λ r. ⌜ IsPart (d .entry) r (articleAt edifact (now (d .entry)) at k .start) (articleAt edifact (now (d .entry)) at k .end) ⌝ }
-{
-    let s = article_at(d, at, k);
-    let a = s.start;
-    let e = s.end;
-    &d[a..e]
 }

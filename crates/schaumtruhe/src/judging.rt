@@ -1,10 +1,9 @@
 // The verdict of the message that begins at a place.
 use cut::Found;
-use cut::base::syntax;
+use cut::Syntax;
 use verdict::Verdict;
 use verdict::verdict_of;
 ghost use mathlib.Core.Path.{_≡_};
-ghost use Rattle.cut.specs.Base.{edifact};
 ghost use Rattle.verdict.specs.Answers.{declared};
 ghost use Rattle.schaumtruhe.specs.Calls.{nowhere, verdictAt};
 
@@ -21,10 +20,9 @@ fn refused(number: u32) -> Verdict
 }
 
 // 1 or 2; 31 if no message begins there; else the message's verdict.
-pub fn judge_at(d: &[u8], at: usize) -> Verdict
-    ensures { λ r. ⌜ r ≡ declared (verdictAt edifact (now (d .entry)) at) ⌝ }
+pub(crate) fn verdict_at(y: Syntax, d: &[u8], at: usize) -> Verdict
+    ensures { λ r. ⌜ r ≡ declared (verdictAt y (now (d .entry)) at) ⌝ }
 {
-    let y = syntax();
     let refusal = cut::admission(y, d);
     if refusal != 0 {
         return refused(refusal);

@@ -1,10 +1,9 @@
 // The prices of the message that begins at a place, into a lent row.
 use crate::sheets::Standing;
 use crate::sheets::sheet_at;
-use cut::base::syntax;
+use cut::Syntax;
 use price::fill;
 ghost use mathlib.Core.Path.{_≡_};
-ghost use Rattle.cut.specs.Base.{edifact};
 ghost use Rattle.schaumtruhe.specs.Calls.{pricedAt, rowAt};
 
 // How many prices were written and how many the message has; or 1, 2, 31 or 30.
@@ -13,12 +12,11 @@ pub enum Priced {
     Refused { number: u32 },
 }
 
-// The prices from the k-th on, eight numbers to a price, as many as fit whole; a refusal writes nothing.
-pub fn prices(d: &[u8], at: usize, k: usize, row: &mut [i64]) -> Priced
-    ensures { λ r. ⌜ r ≡ pricedAt edifact (now (d .entry)) at k (now (row .entry)) ⌝ }
-    ensures { λ _. ⌜ now (row .exit) ≡ rowAt edifact (now (d .entry)) at k (now (row .entry)) ⌝ }
+// The prices from the k-th on; a refusal writes nothing.
+pub(crate) fn fill_at(y: Syntax, d: &[u8], at: usize, k: usize, row: &mut [i64]) -> Priced
+    ensures { λ r. ⌜ r ≡ pricedAt y (now (d .entry)) at k (now (row .entry)) ⌝ }
+    ensures { λ _. ⌜ now (row .exit) ≡ rowAt y (now (d .entry)) at k (now (row .entry)) ⌝ }
 {
-    let y = syntax();
     let sheet = sheet_at(y, d, at);
     match sheet {
         Standing::Accepted { start, end } => {

@@ -1,12 +1,10 @@
 // The whole delivery: messages found, accepted, and segments outside.
 use cut::Found;
 use cut::Syntax;
-use cut::base::syntax;
 use verdict::Verdict;
 use verdict::verdict_of;
 ghost use mathlib.Core.Path.{_≡_};
 ghost use lib.ListN.{length};
-ghost use Rattle.cut.specs.Base.{edifact};
 ghost use Rattle.cut.specs.Messages.{messages};
 ghost use Rattle.schaumtruhe.specs.Calls.{accepted, surveyOf};
 ghost use Rattle.schaumtruhe.specs.Workers.{oneIf};
@@ -23,10 +21,9 @@ pub enum Surveyed {
     },
 }
 
-pub fn survey(d: &[u8]) -> Surveyed
-    ensures { λ r. ⌜ r ≡ surveyOf edifact (now (d .entry)) ⌝ }
+pub(crate) fn counted(y: Syntax, d: &[u8]) -> Surveyed
+    ensures { λ r. ⌜ r ≡ surveyOf y (now (d .entry)) ⌝ }
 {
-    let y = syntax();
     let refusal = cut::admission(y, d);
     if refusal != 0 {
         return Surveyed::Refused { number: refusal };

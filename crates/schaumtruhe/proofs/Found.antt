@@ -1,0 +1,80 @@
+-- The message that begins at a place, as the search finds it and as the definitions name it.
+use Prim.Native.Nat.{ℕ, _≤_, _<_}
+use mathlib.Core.Path.{_≡_, refl, sym, _∙_, ap}
+use mathlib.Core.Bool.{Bool, true, false}
+use mathlib.Core.List.{List, [], _∷_, head-eq-of-cons-eq, nil≢cons}
+use native.Mathlib.Omega.{arith}
+use lib.Dec.{eqb, leb}
+use lib.ListN.{length}
+use borrow.Author.Tests.{eq-eqb, ne-eqb, eqb-true, leb-false}
+use Rattle.cut.specs.declared.service.Syntax.{Syntax}
+use Rattle.cut.specs.declared.message.Found.{Found}
+use Rattle.cut.specs.declared.message.Found.the-variants as found
+use Rattle.cut.specs.Bytes.{part}
+use Rattle.cut.specs.Segments.{segmentsFrom}
+use Rattle.cut.specs.Messages.{Message, startOf, closeOf, messages}
+use Rattle.cut.specs.Calls.{pickFound, asFound, foundAt, messageAt}
+use Rattle.cut.proofs.Face.{keepMessage, messagesFrom, Next, next-message, message-at}
+use Rattle.guide.specs.Accepted.{segmentsOf}
+use Rattle.guide.specs.Sheet.{pickList}
+use Rattle.schaumtruhe.specs.Calls.{beginningAt}
+
+module _ (at : ℕ) where
+  -- the first of those that begin at the place or later, if it begins there
+  from-one : (ms : List Message) (m : Message) (rest : List Message) → messagesFrom at ms ≡ m ∷ rest → startOf m ≡ at → beginningAt at ms ≡ m ∷ []
+  unfolding messagesFrom beginningAt
+  from-one [] m rest h s = absurd (nil≢cons h)
+  from-one (n ∷ ns) m rest h s = go (leb at (startOf n)) refl h (from-one ns m rest)
+    where
+      go
+          : (b : Bool) → leb at (startOf n) ≡ b → keepMessage b n (messagesFrom at ns) ≡ m ∷ rest
+          → (messagesFrom at ns ≡ m ∷ rest → startOf m ≡ at → beginningAt at ns ≡ m ∷ []) → pickList (eqb at (startOf n)) (n ∷ []) (beginningAt at ns) ≡ m ∷ []
+      go true l k ih =
+          let e : n ≡ m = head-eq-of-cons-eq k in
+          let q : at ≡ startOf n = sym s ∙ ap startOf (sym e) in
+          rw (eq-eqb at (startOf n) q) (ap (λ (x : Message). x ∷ []) e)
+      go false l k ih =
+          let lt = leb-false at (startOf n) l in
+          rw (ne-eqb at (startOf n) (λ (q : at ≡ startOf n). omega arith)) (ih k s)
+
+  found-none : (ms : List Message) → foundAt at ms ≡ found.Nothing → beginningAt at ms ≡ []
+  unfolding foundAt beginningAt
+  found-none [] h = refl
+  found-none (n ∷ ns) h = go (eqb at (startOf n)) refl h (found-none ns)
+    where
+      go
+          : (b : Bool) → eqb at (startOf n) ≡ b → pickFound b (asFound n) (foundAt at ns) ≡ found.Nothing
+          → (foundAt at ns ≡ found.Nothing → beginningAt at ns ≡ []) → pickList b (n ∷ []) (beginningAt at ns) ≡ []
+      go true e k ih =
+          let z : _≡_ {A = ℕ} 0 1 = cc in
+          absurd (omega arith)
+      go false e k ih = ih k
+
+-- the message that stands from s to e
+pub record Here (y : Syntax) (d : List ℕ) (at s e : ℕ) : Type 0 where
+  pub message : Message
+  pub only : beginningAt at (messages y d) ≡ message ∷ []
+  pub starts : startOf message ≡ s
+  pub closes : closeOf message ≡ e
+  pub alone : segmentsFrom y s false (part s e d) ≡ segmentsOf message
+  pub some : s < e
+  pub fits : e ≤ length d
+
+module _ (y : Syntax) (d : List ℕ) (at : ℕ) where
+  pub here : (s e : ℕ) → messageAt y d at ≡ found.Message s e → Here y d at s e
+  here s e h =
+      let w = message-at y d at s e h in
+      let n = next-message y d at s e (w .1) in
+      record {
+        message = n .message;
+        only = from-one at (messages y d) (n .message) _ (n .next) (n .starts ∙ w .0);
+        starts = n .starts;
+        closes = n .closes;
+        alone = n .alone;
+        some = n .some;
+        fits = n .fits;
+      }
+
+  pub nowhere-here : messageAt y d at ≡ found.Nothing → beginningAt at (messages y d) ≡ []
+  unfolding messageAt
+  nowhere-here h = found-none at (messages y d) h

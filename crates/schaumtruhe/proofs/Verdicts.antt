@@ -1,0 +1,137 @@
+-- The verdict at a place and the accepted message there: one law for each answer of the workers.
+use Prim.Native.Nat.{ℕ, zero, suc, _≤_, _<_}
+use mathlib.Core.Path.{_≡_, refl, sym, _∙_, ap, ap₂}
+use mathlib.Core.Bool.{false}
+use mathlib.Core.List.{List}
+use native.Mathlib.Omega.{arith}
+use lib.ListN.{length}
+use Rattle.cut.specs.declared.service.Syntax.{Syntax}
+use Rattle.cut.specs.declared.message.Found.{Found}
+use Rattle.cut.specs.declared.message.Found.the-variants as found
+use Rattle.cut.specs.Admission.{admissionOf}
+use Rattle.cut.specs.Bytes.{part}
+use Rattle.cut.specs.Segments.{segmentsFrom}
+use Rattle.cut.specs.Messages.{Message, startOf, closeOf, messages}
+use Rattle.cut.specs.Calls.{messageAt}
+use Rattle.guide.specs.Accepted.{segmentsOf}
+use Rattle.guide.specs.Judging.{accepts, refuses, Verdict as Judged}
+use Rattle.guide.specs.Pages20d.{pageOf}
+use Rattle.guide.specs.Pricat.{pricat20d}
+use Rattle.verdict.specs.Answers.{declared}
+use Rattle.verdict.specs.Verdicts.{verdictFrom, verdictOf}
+use Rattle.verdict.specs.declared.answers.Verdict.{Verdict}
+use Rattle.verdict.specs.declared.answers.Verdict.the-variants as verdict
+use Rattle.schaumtruhe.specs.Calls.{beginningAt, nowhere, unlessRefused, verdictIn, verdictAt, judged, Sheet, stands, missing, sheetBy, sheetIn, sheetUnless, sheetAt}
+use Rattle.schaumtruhe.specs.Workers.{standingOf, standingBy}
+use Rattle.schaumtruhe.specs.declared.sheets.Standing.{Standing}
+use Rattle.schaumtruhe.specs.declared.sheets.Standing.the-variants.{Accepted, Refused}
+use Rattle.schaumtruhe.proofs.Found.{Here, here, nowhere-here}
+
+refuses-more : (a : ℕ) (v : Judged) → (a ≡ 0 → ⊥) → nowhere a ≡ unlessRefused a v
+refuses-more zero v h = absurd (h refl)
+refuses-more (suc a) v h = refl
+
+sheet-more : (a : ℕ) (s : Sheet) → (a ≡ 0 → ⊥) → missing a ≡ sheetUnless a s
+sheet-more zero s h = absurd (h refl)
+sheet-more (suc a) s h = refl
+
+pub by-accepted : (v : Verdict) (n c s e : ℕ) → v ≡ verdict.Accepted n c → Accepted s e ≡ standingBy v s e
+by-accepted v n c s e h = rw h
+
+-- the verdict of the message that was found
+here-judged
+    : (y : Syntax) (d : List ℕ) (at s e : ℕ) (h : Here y d at s e)
+    → verdictFrom y pricat20d pageOf s (segmentsFrom y s false (part s e d)) ≡ judged y (h .message)
+unfolding verdictOf
+here-judged y d at s e h = rw (h .alone, h .starts)
+
+standing-same : (m : Message) (v : Judged) → standingBy (declared v) (startOf m) (closeOf m) ≡ standingOf (sheetBy v m)
+standing-same m (accepts n e) = refl
+standing-same m (refuses k i p n) = refl
+
+module _ (y : Syntax) (d : List ℕ) (at : ℕ) (a : ℕ) (admits : a ≡ admissionOf y d) where
+  -- the delivery is refused
+  module _ (refused : a ≡ 0 → ⊥) where
+    pub delivery-refused : (r : Verdict) → r ≡ declared (nowhere a) → r ≡ declared (verdictAt y d at)
+    unfolding verdictAt
+    delivery-refused r h = rw (← admits) (h ∙ ap declared (refuses-more a _ refused))
+
+    pub delivery-missing : Refused a ≡ standingOf (sheetAt y d at)
+    unfolding sheetAt
+    delivery-missing = rw (← admits) (ap standingOf (sheet-more a _ refused))
+
+  module _ (admitted : a ≡ 0) (f : Found) (finds : f ≡ messageAt y d at) where
+    is-admitted : admissionOf y d ≡ 0
+    is-admitted = sym admits ∙ admitted
+
+    -- no message begins there
+    module _ (none : f ≡ found.Nothing) where
+      pub place-refused : (r : Verdict) → r ≡ declared (nowhere 31) → r ≡ declared (verdictAt y d at)
+      unfolding verdictAt
+      place-refused r h = rw (is-admitted, nowhere-here y d at (sym finds ∙ none)) h
+
+      pub place-missing : Refused 31 ≡ standingOf (sheetAt y d at)
+      unfolding sheetAt
+      place-missing = rw (is-admitted, nowhere-here y d at (sym finds ∙ none))
+
+    -- one does
+    module _ (s e : ℕ) (some : f ≡ found.Message s e) (v : Verdict)
+        (judges : v ≡ declared (verdictFrom y pricat20d pageOf s (segmentsFrom y s false (part s e d)))) where
+      abbrev h : Here y d at s e
+      h = here y d at s e (sym finds ∙ some)
+
+      is-judged : v ≡ declared (judged y (h .message))
+      is-judged = judges ∙ ap declared (here-judged y d at s e h)
+
+      pub message-judged : v ≡ declared (verdictAt y d at)
+      unfolding verdictAt
+      message-judged = rw (is-admitted, h .only) is-judged
+
+      pub message-stands : (r : Standing) → r ≡ standingBy v s e → r ≡ standingOf (sheetAt y d at)
+      unfolding sheetAt
+      message-stands r k =
+          let w = declared (judged y (h .message)) in
+          let z : standingBy v s e ≡ standingBy w (startOf (h .message)) (closeOf (h .message)) =
+          ap (λ (x : Verdict). standingBy x s e) is-judged ∙ ap₂ (standingBy w) (sym (h .starts)) (sym (h .closes)) in
+          rw (is-admitted, h .only) (k ∙ z ∙ standing-same (h .message) (judged y (h .message)))
+
+-- where a message stands at the place, it stands there by itself
+pub record Stands (y : Syntax) (d : List ℕ) (m : Message) : Type 0 where
+  pub alone : segmentsFrom y (startOf m) false (part (startOf m) (closeOf m) d) ≡ segmentsOf m
+  pub some : startOf m < closeOf m
+  pub fits : closeOf m ≤ length d
+
+module _ (y : Syntax) (d : List ℕ) (at : ℕ) (m : Message) where
+  by-sheet : (v : Judged) (n : Message) → sheetBy v n ≡ stands m → n ≡ m
+  by-sheet (accepts k e) n h = cc
+  by-sheet (refuses k i p o) n h =
+      let z : _≡_ {A = ℕ} 0 1 = cc in
+      absurd (omega arith)
+
+  in-sheet : (s e : ℕ) → Here y d at s e → sheetIn y (beginningAt at (messages y d)) ≡ stands m → Stands y d m
+  in-sheet s e k h =
+      let q : k .message ≡ m = by-sheet (judged y (k .message)) (k .message) (rw (k .only) at h) in
+      let a : startOf m ≡ s = ap startOf (sym q) ∙ k .starts in
+      let b : closeOf m ≡ e = ap closeOf (sym q) ∙ k .closes in
+      record {
+        alone = ap₂ (λ (i j : ℕ). segmentsFrom y i false (part i j d)) a b ∙ (k .alone ∙ ap segmentsOf q);
+        some = omega (arith, a, b, k .some);
+        fits = omega (arith, b, k .fits);
+      }
+
+  by-found : (f : Found) → messageAt y d at ≡ f → sheetIn y (beginningAt at (messages y d)) ≡ stands m → Stands y d m
+  by-found found.Nothing e k =
+      let w : missing 31 ≡ stands m = rw (nowhere-here y d at e) at k in
+      let z : _≡_ {A = ℕ} 0 1 = cc in
+      absurd (omega arith)
+  by-found (found.Message s c) e k = in-sheet s c (here y d at s c e) k
+
+  by-admission : (a : ℕ) → sheetUnless a (sheetIn y (beginningAt at (messages y d))) ≡ stands m → Stands y d m
+  by-admission zero h = by-found (messageAt y d at) refl h
+  by-admission (suc a) h =
+      let z : _≡_ {A = ℕ} 0 1 = cc in
+      absurd (omega arith)
+
+  pub stands-alone : sheetAt y d at ≡ stands m → Stands y d m
+  unfolding sheetAt
+  stands-alone h = by-admission (admissionOf y d) h
