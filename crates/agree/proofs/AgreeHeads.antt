@@ -15,9 +15,10 @@ use Rattle.cut.proofs.First.{Cutting, nothing}
 use Rattle.cut.proofs.Parts.{part-next, length-part}
 use Rattle.cut.proofs.Words.{begins-short}
 use Rattle.element.specs.declared.components.Span.{Span}
-use Rattle.agree.specs.Agreement.{agreeBut, agreeIn, Heading, agree}
+use Rattle.agree.specs.Agreement.{agreeBut, agreeIn, agree}
 use Rattle.agree.specs.AgreePositions.{nextIf, behindIf, headingFrom}
 use Rattle.agree.specs.AgreeParts.{segmentsAt, partIn, headingIn, Optional}
+use Rattle.agree.specs.declared.agree_headings.Head.{Head}
 
 -- the first three bytes of the segment from s to e
 module _ (d : List ℕ) (s e a b c : ℕ) (fits : e ≤ length d) where
@@ -103,16 +104,23 @@ module _ (y : Syntax) (d : List ℕ) (s t : Span) where
   both-stand h k = rw (lt-leb _ _ h, lt-leb _ _ k) (and-true _)
 
 -- two positions: LIN decides if it differs, then PIA, and then IMD
-module _ (y : Syntax) (p q : Heading) where
-  pub lin-differs : (a : Bool) → a ≡ agreeBut y 1 (p .lin) (q .lin) → a ≡ false → false ≡ agree y p q
-  unfolding agree
+module _ (y : Syntax) (d : List ℕ) (p q : Head) where
+  abbrev LinSays : Bool → Type 0
+  LinSays a = a ≡ agreeBut y 1 (part (p .lin .start) (p .lin .end) d) (part (q .lin .start) (q .lin .end) d)
+
+  abbrev Same : Bool → Type 0
+  Same r = r ≡ agree y (headingIn p d) (headingIn q d)
+
+  pub lin-differs : (a : Bool) → LinSays a → a ≡ false → Same false
+  unfolding agree headingIn
   lin-differs a h f = rw (sym h ∙ f)
 
-  module _ (a : Bool) (h : a ≡ agreeBut y 1 (p .lin) (q .lin)) (t : a ≡ true) where
-    pub pia-differs : (b : Bool) → b ≡ agreeIn y (p .pia) (q .pia) → b ≡ false → false ≡ agree y p q
-    unfolding agree
+  module _ (a : Bool) (h : LinSays a) (t : a ≡ true) where
+    pub pia-differs : (b : Bool) → b ≡ agreeIn y (partIn (p .pia) d) (partIn (q .pia) d) → b ≡ false → Same false
+    unfolding agree headingIn
     pia-differs b k f = rw (sym h ∙ t, sym k ∙ f)
 
-    pub imd-decides : (b c : Bool) → b ≡ agreeIn y (p .pia) (q .pia) → b ≡ true → c ≡ agreeIn y (p .imd) (q .imd) → c ≡ agree y p q
-    unfolding agree
+    pub imd-decides
+        : (b c : Bool) → b ≡ agreeIn y (partIn (p .pia) d) (partIn (q .pia) d) → b ≡ true → c ≡ agreeIn y (partIn (p .imd) d) (partIn (q .imd) d) → Same c
+    unfolding agree headingIn
     imd-decides b c k u l = rw (sym h ∙ t, sym k ∙ u) l

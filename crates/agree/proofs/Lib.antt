@@ -9,3 +9,4 @@ pub mod AgreeLines
 pub mod AgreeFirst
 pub mod AgreeRepeated
 pub mod AgreeRefusal
+pub mod AgreeSamples

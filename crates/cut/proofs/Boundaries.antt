@@ -7,6 +7,7 @@ use native.Mathlib.Nat.{le-refl}
 use native.Mathlib.Omega.{arith}
 use lib.ListN.{length, getD, drop}
 use lib.Seq.{drop-cons}
+use lib.Dec.{eqb}
 use borrow.Author.Tests.{eq-eqb, ne-eqb}
 use Rattle.cut.specs.declared.service.Syntax.{Syntax}
 use Rattle.cut.specs.Bytes.{part}
@@ -23,6 +24,15 @@ pub after-append : (y : Syntax) (r : Bool) (xs ys : List ℕ) → after y r (xs 
 unfolding after
 after-append y r [] ys = refl
 after-append y r (x ∷ xs) ys = after-append y (frees y r x) xs ys
+
+-- whether a byte releases, by its two tests
+pub frees-ended : (y : Syntax) (x : ℕ) → x ≡ y .terminator → frees y false x ≡ false
+unfolding frees
+frees-ended y x h = rw (eq-eqb _ _ h)
+
+pub frees-told : (y : Syntax) (x : ℕ) → (x ≡ y .terminator → ⊥) → frees y false x ≡ eqb x (y .release)
+unfolding frees
+frees-told y x h = rw (ne-eqb _ _ h)
 
 -- a release character releases the next byte exactly if it is not released itself
 pub frees-turns : (y : Syntax) (r : Bool) (x : ℕ) → frees y false x ≡ true → frees y r x ≡ not r

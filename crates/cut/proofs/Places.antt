@@ -74,6 +74,12 @@ module _ (y : Syntax) (d : List ℕ) where
     unfolding beginsSegment
     begins-at p e o h k = rw (admitted e, ← o) (begins-told y d p at h (omega arith) k)
 
+    -- the same of an answer
+    pub begins-answered
+        : (p : ℕ) (r : Bool) → admissionOf y d ≡ 0 → p ≡ openingOf d → p ≤ at → at < length d
+        → r ≡ whole (segmentsFrom y p false (part p at d)) → r ≡ beginsSegment y d at
+    begins-answered p r e o h k w = w ∙ sym (begins-at p e o h k)
+
   module _ (p from : ℕ) where
     pub since-opening : from ≤ p → since from (segmentsFrom y p false (drop p d)) ≡ segmentsFrom y p false (drop p d)
     since-opening h = since-all from _ (rising-weaken from p _ h (segments-rising y p false (drop p d)))

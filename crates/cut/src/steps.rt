@@ -42,7 +42,8 @@ impl Cursor {
         if admission(y, d) != 0 {
             return Step::Nothing;
         }
-        let c = segment_at(y, d, later(at, opening(d)));
+        let first = opening(d);
+        let c = segment_at(y, d, later(at, first));
         match c {
             Cut::Segment { start, end, piece } => Step::Segment {
                 start,

@@ -1,6 +1,6 @@
 -- Laws of parts: an end past the delivery counts as the delivery's end; the first bytes of a part are a part, and so are the others; no part is longer
 -- than the delivery.
-use Prim.Native.Nat.{ℕ, _+_, _-_, _≤_, min}
+use Prim.Native.Nat.{ℕ, _+_, _-_, _≤_, _<_, min}
 use mathlib.Core.Path.{_≡_, sym, ap, _∙_}
 use mathlib.Core.List.{List}
 use native.Mathlib.Decide.{decLe}
@@ -9,6 +9,13 @@ use lib.ListN.{length, take, drop, length-take, length-drop}
 use lib.Seq.{take-all, take-take}
 use Rattle.cut.specs.Bytes.{part}
 use Rattle.cut.proofs.Parts.{part-part, length-part}
+
+-- the end of a part, in a delivery of n bytes
+pub end-past : (n e : ℕ) → n < e → n ≡ min e n
+end-past n e h = omega arith
+
+pub end-within : (n e : ℕ) → e ≤ n → e ≡ min e n
+end-within n e h = omega arith
 
 -- with the delivery's end, and with any place past it, a part runs to the last byte
 part-out : (d : List ℕ) (a e : ℕ) → length d ≤ e → part a e d ≡ drop a d

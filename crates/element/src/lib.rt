@@ -23,6 +23,7 @@ pub use cursor::Cursor;
 pub use cursor::Visit;
 pub use formats::Format;
 pub use formats::fits;
+pub use limit::limit_of;
 pub use plain::copy_plain;
 pub use plain::is_code;
 pub use plain::plain_length;

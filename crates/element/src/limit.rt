@@ -3,7 +3,8 @@ ghost use mathlib.Core.Path.{_≡_};
 ghost use Prim.Native.Nat.{min};
 ghost use lib.ListN.{length};
 
-pub(crate) fn limit_of(d: &[u8], e: usize) -> usize
+// The end of a part that is to end at e.
+pub fn limit_of(d: &[u8], e: usize) -> usize
     ensures { λ r. ⌜ r ≡ min e (length (now (d .entry))) ⌝ }
 {
     if d.len() < e {

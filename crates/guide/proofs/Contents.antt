@@ -13,7 +13,7 @@ use Rattle.guide.specs.Page.{Status, must, Row, used, unused, Page, any,
 use Rattle.guide.specs.Composites.{C212, C509}
 use Rattle.guide.specs.Pages20d.{LIN, PRI}
 use Rattle.guide.specs.Content.{text, Empty, Filled, by-status, Holds}
-use Rattle.guide.specs.PageFault.{among}
+use Rattle.guide.specs.Nodes.{among}
 use Rattle.guide.proofs.Listing.{begun, among-member, member-among}
 
 module _ (y : Syntax) (page : Page) (s : List ℕ) (h : Holds y page s) (e c : ℕ) (l : 1 ≤ e) where
@@ -44,9 +44,9 @@ module _ (y : Syntax) (page : Page) (s : List ℕ) (h : Holds y page s) (e c : �
     -- and one of its codes, where there are any
     pub holds-code : (cs ≡ [] → ⊥) → List·Memᴰ (text y s e c) cs
     unfolding Holds
-    holds-code q = go (among cs (text y s e c)) refl
+    holds-code q = go (among (text y s e c) cs) refl
       where
-        go : (b : Bool) → among cs (text y s e c) ≡ b → List·Memᴰ (text y s e c) cs
+        go : (b : Bool) → among (text y s e c) cs ≡ b → List·Memᴰ (text y s e c) cs
         go true p = among-member cs (text y s e c) p
         go false p =
             absurd

@@ -10,7 +10,8 @@ use Rattle.cut.specs.declared.service.Syntax.{Syntax}
 use Rattle.element.specs.Plain.{plain, same}
 use Rattle.element.specs.Numeral.{some}
 use Rattle.element.proofs.ValueFace.{same-refl, same-true}
-use Rattle.guide.specs.PageFault.{among, onList, anyFilled}
+use Rattle.guide.specs.Nodes.{among, chosen}
+use Rattle.guide.specs.PageFault.{anyFilled}
 
 -- of two tests, one holds
 pub or-cases : (a b : Bool) → a || b ≡ true → (a ≡ true) ⊎ (b ≡ true)
@@ -22,40 +23,40 @@ or-right true b h = refl
 or-right false b h = h
 
 -- `among` is membership
-pub among-member : (cs : List (List ℕ)) (t : List ℕ) → among cs t ≡ true → List·Memᴰ t cs
+pub among-member : (cs : List (List ℕ)) (t : List ℕ) → among t cs ≡ true → List·Memᴰ t cs
 unfolding among
 among-member [] t h = absurd (true≢false (sym h))
-among-member (c ∷ cs) t h = go (among-member cs t) (or-cases (same t c) (among cs t) h)
+among-member (c ∷ cs) t h = go (among-member cs t) (or-cases (same t c) (among t cs) h)
   where
-    go : (among cs t ≡ true → List·Memᴰ t cs) → (same t c ≡ true) ⊎ (among cs t ≡ true) → List·Memᴰ t (c ∷ cs)
+    go : (among t cs ≡ true → List·Memᴰ t cs) → (same t c ≡ true) ⊎ (among t cs ≡ true) → List·Memᴰ t (c ∷ cs)
     go more (inl e) = List·Memᴰ·head (same-true t c e)
     go more (inr e) = List·Memᴰ·tail (more e)
 
-pub member-among : (cs : List (List ℕ)) (t : List ℕ) → List·Memᴰ t cs → among cs t ≡ true
+pub member-among : (cs : List (List ℕ)) (t : List ℕ) → List·Memᴰ t cs → among t cs ≡ true
 unfolding among
 member-among [] t m = absurd (List·Memᴰ·not-nil m)
 member-among (c ∷ cs) t m = go (member-among cs t) (List·Memᴰ·cases-cons m)
   where
-    go : (List·Memᴰ t cs → among cs t ≡ true) → (t ≡ c) ⊎ List·Memᴰ t cs → same t c || among cs t ≡ true
+    go : (List·Memᴰ t cs → among t cs ≡ true) → (t ≡ c) ⊎ List·Memᴰ t cs → same t c || among t cs ≡ true
     go more (inl e) = rw (e, same-refl c)
-    go more (inr k) = or-right (same t c) (among cs t) (more k)
+    go more (inr k) = or-right (same t c) (among t cs) (more k)
 
 -- a text that is not on the list: there are codes, and it is none of them
-pub off-coded : (cs : List (List ℕ)) (t : List ℕ) → onList cs t ≡ false → cs ≡ [] → ⊥
-unfolding onList
-off-coded cs t h e = true≢false (sym (ap (λ (z : List (List ℕ)). onList z t) e) ∙ h)
+pub off-coded : (cs : List (List ℕ)) (t : List ℕ) → chosen cs t ≡ false → cs ≡ [] → ⊥
+unfolding chosen
+off-coded cs t h e = true≢false (sym (ap (λ (z : List (List ℕ)). chosen z t) e) ∙ h)
 
-pub off-other : (cs : List (List ℕ)) (t : List ℕ) → onList cs t ≡ false → List·Memᴰ t cs → ⊥
-unfolding onList
+pub off-other : (cs : List (List ℕ)) (t : List ℕ) → chosen cs t ≡ false → List·Memᴰ t cs → ⊥
+unfolding chosen
 off-other [] t h m = true≢false h
 off-other (c ∷ cs) t h m = true≢false (sym (member-among (c ∷ cs) t m) ∙ h)
 
-pub off-list : (cs : List (List ℕ)) (t : List ℕ) → (cs ≡ [] → ⊥) → (List·Memᴰ t cs → ⊥) → onList cs t ≡ false
-unfolding onList
+pub off-list : (cs : List (List ℕ)) (t : List ℕ) → (cs ≡ [] → ⊥) → (List·Memᴰ t cs → ⊥) → chosen cs t ≡ false
+unfolding chosen
 off-list [] t coded other = absurd (coded refl)
-off-list (c ∷ cs) t coded other = go (among (c ∷ cs) t) refl
+off-list (c ∷ cs) t coded other = go (among t (c ∷ cs)) refl
   where
-    go : (b : Bool) → among (c ∷ cs) t ≡ b → among (c ∷ cs) t ≡ false
+    go : (b : Bool) → among t (c ∷ cs) ≡ b → among t (c ∷ cs) ≡ false
     go true e = absurd (other (among-member (c ∷ cs) t e))
     go false e = e
 

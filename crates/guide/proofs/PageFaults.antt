@@ -14,7 +14,8 @@ use Rattle.element.specs.declared.formats.Format.{Format}
 use Rattle.guide.specs.Page.{Status, must, may, Row, used, unused, Page, elementOf, rowOf}
 use Rattle.guide.specs.Content.{text, Asked, by-status, by-content, Sound}
 use Rattle.guide.specs.FirstFault.{Fault, not-used, missing, wrong-format, wrong-code}
-use Rattle.guide.specs.PageFault.{onList, notUsed, missing as isMissing, wrongFormat, wrongCode, textFault, anyFilled}
+use Rattle.guide.specs.Nodes.{chosen}
+use Rattle.guide.specs.PageFault.{notUsed, missing as isMissing, wrongFormat, wrongCode, textFault, anyFilled}
 use Rattle.guide.specs.Choices.{pickℕ}
 use Rattle.guide.proofs.Listing.{begun, or-cases, or-right, off-coded, off-other, off-list, filled-found, found-filled}
 
@@ -32,7 +33,7 @@ must-empty y f cs = refl
 -- and of a text on a row in use: that of its format, or that of its code, or none
 pub used-filled
     : (y : Syntax) (asked : Bool) (k : Status) (f : Format) (cs : List (List ℕ)) (t : List ℕ) → (t ≡ [] → ⊥)
-    → textFault y asked (used k f cs) t ≡ pickℕ (not (fitsFormat y f t)) 19 (pickℕ (not (onList cs t)) 20 0)
+    → textFault y asked (used k f cs) t ≡ pickℕ (not (fitsFormat y f t)) 19 (pickℕ (not (chosen cs t)) 20 0)
 unfolding textFault notUsed isMissing wrongFormat wrongCode some none
 used-filled y asked k f cs [] h = absurd (h refl)
 used-filled y asked must f cs (x ∷ xs) h = refl
@@ -69,7 +70,7 @@ module _ (y : Syntax) (page : Page) (s : List ℕ) (e : ℕ) where
       where
         inside
             : (k : Status) (f : Format) (cs : List (List ℕ)) → rowOf page e c ≡ used k f cs → (x : ℕ) (xs : List ℕ) → text y s e c ≡ x ∷ xs
-            → (a b : Bool) → fitsFormat y f (x ∷ xs) ≡ a → onList cs (x ∷ xs) ≡ b → pickℕ (not a) 19 (pickℕ (not b) 20 0) ≡ suc n
+            → (a b : Bool) → fitsFormat y f (x ∷ xs) ≡ a → chosen cs (x ∷ xs) ≡ b → pickℕ (not a) 19 (pickℕ (not b) 20 0) ≡ suc n
             → Fault y page s (suc n) e c
         inside k f cs q x xs p false b i j h =
             wrong-format (sym h) record { status = k; format = f; codes = cs; row = q; filled = begun p; outside = rw p i }
@@ -97,7 +98,7 @@ module _ (y : Syntax) (page : Page) (s : List ℕ) (e : ℕ) where
         go (used must f cs) q [] p false b h = absurd (omega arith)
         go (used may f cs) q [] p a b h = absurd (omega arith)
         go (used k f cs) q (x ∷ xs) p a b h =
-            inside k f cs q x xs p (fitsFormat y f (x ∷ xs)) (onList cs (x ∷ xs)) refl refl (sym (used-filled y a k f cs (x ∷ xs) (begun refl)) ∙ h)
+            inside k f cs q x xs p (fitsFormat y f (x ∷ xs)) (chosen cs (x ∷ xs)) refl refl (sym (used-filled y a k f cs (x ∷ xs) (begun refl)) ∙ h)
 
     -- and a fault is found
     pub fault-found : (n : ℕ) → Fault y page s n e c → found ≡ n

@@ -13,13 +13,14 @@ use Rattle.guide.specs.Page.{must, Page, codes, optional, simple}
 use Rattle.cut.specs.Bytes.{bytesOf}
 use Rattle.guide.specs.Composites.{C273}
 use Rattle.guide.specs.Pages20d.{pages20d, pageOf}
-use Rattle.guide.specs.PageFault.{firstOf, among, onList, notUsed, missing, wrongFormat, wrongCode, textFault, componentFault, anyFilled, elementFault, pageFault}
+use Rattle.guide.specs.Nodes.{among, chosen}
+use Rattle.guide.specs.PageFault.{firstOf, notUsed, missing, wrongFormat, wrongCode, textFault, componentFault, anyFilled, elementFault, pageFault}
 
 -- the fault of a segment on a page, with the base's service characters
 faultOn : Page → String → ℕ
 unfolding
     frees endingOf stays releases before splitFrom elements unlessMark plain same some none isDigit digitsAhead behindDigits minus unsigned
-    whole fraction digits isTail isNumber fitsFormat codes simple firstOf among onList notUsed missing wrongFormat wrongCode
+    whole fraction digits isTail isNumber fitsFormat codes simple firstOf among chosen notUsed missing wrongFormat wrongCode
     textFault componentFault anyFilled elementFault pageFault
 faultOn page segment = pageFault edifact page (bytesOf segment)
 

@@ -3,10 +3,12 @@ use mathlib.Core.Path.{_≡_, refl, _∙_, ap}
 use Prim.Native.Nat.{ℕ}
 use mathlib.Core.List.{List, [], _∷_, _++_, map}
 use native.Mathlib.Omega.{arith}
+use lib.ListN.{replicate}
 use Rattle.guide.specs.Nodes.{View, Guide, capacity, among, chosen, matches, required, over}
 use Rattle.element.specs.Plain.{same}
 use Rattle.guide.specs.Pricat.{pricat20d}
 use Rattle.guide.specs.Tree.{Whole}
+use Rattle.guide.specs.Answers.{Answer, placed, refused}
 use Rattle.guide.specs.Placing.{
   lowest,
   levels,
@@ -28,6 +30,16 @@ use Rattle.guide.specs.Placing.{
 use Rattle.guide.specs.Checks.{Passes}
 use Rattle.guide.specs.Sheets.{bare, with, Said, fitting, refusal, said, Sheet, H, H4, a-to-l, saidOf, expectedOf, Means, AllMean}
 use Rattle.guide.proofs.Editions.{pricat20d-passes, whole-iff, beginning-iff, fault-iff}
+
+-- what comes of a COM behind a COM, where k have come under the open CTA and each node before it once
+comAfter : ℕ → Answer
+unfolding matches same among chosen required over pricat20d lowest levels fitsIn seek lacking missing place
+comAfter k = place pricat20d (bare "COM") 13 (replicate 13 1 ++ (k ∷ []))
+
+-- the step that decides row i, on both sides of the limit
+sixth-com : (comAfter 4 ≡ placed 13) × (comAfter 5 ≡ refused 15 13)
+unfolding comAfter
+sixth-com = (refl, refl)
 
 -- The twelve rows.
 pub sheets-hold : saidOf pricat20d a-to-l ≡ expectedOf a-to-l

@@ -64,7 +64,7 @@ unfoldable pub among : List ℕ → List (List ℕ) → Bool
 among k [] = false
 among k (c ∷ cs) = same k c || among k cs
 
--- "by the code ..; the others by tag alone"
+-- "by the code ..; the others by tag alone"; on a page: "code not on its page". Where there are no codes, any will do
 unfoldable pub chosen : List (List ℕ) → List ℕ → Bool
 chosen [] k = true
 chosen (c ∷ cs) k = among k (c ∷ cs)

@@ -5,10 +5,11 @@ use mathlib.Core.List.{List, [], _∷_}
 use lib.ListN.{drop}
 use Rattle.cut.specs.declared.service.Syntax.{Syntax}
 use Rattle.element.specs.Elements.{elements}
-use Rattle.element.specs.Plain.{plain, same}
+use Rattle.element.specs.Plain.{plain}
 use Rattle.element.specs.Numeral.{some, none}
 use Rattle.element.specs.Format.{fitsFormat}
 use Rattle.guide.specs.Choices.{pickℕ, orElse}
+use Rattle.guide.specs.Nodes.{chosen}
 use Rattle.guide.specs.Page.{must, may, Row, used, unused, Composite, Page, beyond}
 
 -- two rows side by side, the shorter one filled up: the first fault f of a pair
@@ -18,15 +19,6 @@ module _ {A B : Type 0} (f : A → B → ℕ) (a : A) (b : B) where
   firstOf [] (t ∷ ts) = orElse (f a t) (firstOf [] ts)
   firstOf (r ∷ rs) [] = orElse (f r b) (firstOf rs [])
   firstOf (r ∷ rs) (t ∷ ts) = orElse (f r t) (firstOf rs ts)
-
--- whether the text is one of the codes; a row without codes takes any
-unfoldable pub among : List (List ℕ) → List ℕ → Bool
-among [] t = false
-among (c ∷ cs) t = same t c || among cs t
-
-unfoldable pub onList : List (List ℕ) → List ℕ → Bool
-onList [] t = true
-onList (c ∷ cs) t = among (c ∷ cs) t
 
 -- 18, "component not used"
 unfoldable pub notUsed : Row → List ℕ → Bool
@@ -46,7 +38,7 @@ wrongFormat y unused t = false
 
 -- 20, "code not on its page"
 unfoldable pub wrongCode : Row → List ℕ → Bool
-wrongCode (used s f cs) t = some t && not (onList cs t)
+wrongCode (used s f cs) t = some t && not (chosen cs t)
 wrongCode unused t = false
 
 -- "18, 17, 19, 20 at each"

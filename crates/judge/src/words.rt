@@ -1,6 +1,6 @@
 // Tags and codes as numbers.
 use cut::Syntax;
-ghost use Prim.Native.Nat.{_+_, _<_, _≤_, min};
+ghost use Prim.Native.Nat.{_+_, _<_, _≤_};
 ghost use mathlib.Core.Path.{_≡_};
 ghost use lib.ListN.{length, take};
 ghost use Rattle.cut.specs.Bytes.{part};
@@ -34,20 +34,11 @@ pub(crate) fn pack(d: &[u8], a: usize, e: usize) -> u32
     first + 256 * (second + 256 * (third + 256))
 }
 
-fn end_within(d: &[u8], e: usize) -> usize
-    ensures { λ r. ⌜ r ≡ min e (length (now (d .entry))) ⌝ }
-{
-    if d.len() < e {
-        return d.len();
-    }
-    e
-}
-
 // The tag of the segment from start up to end: its first three bytes, or fewer where it is shorter.
 pub(crate) fn tag_number(d: &[u8], start: usize, end: usize) -> u32
     ensures { λ r. ⌜ r ≡ packed (take 3 (part start end (now (d .entry)))) ⌝ }
 {
-    let limit = end_within(d, end);
+    let limit = element::limit_of(d, end);
     if limit <= start {
         return 1;
     }

@@ -8,7 +8,7 @@ use lib.ListN.{length, getD, drop, drop-of-length-le}
 use lib.Seq.{drop-cons}
 use Rattle.element.specs.Plain.{same}
 use Rattle.guide.specs.Page.{unused}
-use Rattle.guide.specs.PageFault.{among, onList}
+use Rattle.guide.specs.Nodes.{among, chosen}
 use Rattle.page.specs.PageColumns.{codesOf, allRows, allCodes, codeStarts}
 use Rattle.page.proofs.Joined.{Begins, member-at}
 use Rattle.page.proofs.PageCells.{codes-count, codeLists, code-begins, codes-at}
@@ -17,7 +17,7 @@ use Rattle.page.proofs.PageCells.{codes-count, codeLists, code-begins, 
 pub record Left (row from next : ℕ) (t : List ℕ) (n : ℕ) : Type 0 where
   pub from-on : from ≤ n
   pub up-to : n ≤ next
-  pub decides : among (drop (n - from) (codesOf (getD allRows row unused))) t ≡ onList (codesOf (getD allRows row unused)) t
+  pub decides : among t (drop (n - from) (codesOf (getD allRows row unused))) ≡ chosen (codesOf (getD allRows row unused)) t
 
 module _ (row from next : ℕ) (t : List ℕ) (h : row < 84) (p : from ≡ getD codeStarts row 0) (q : next ≡ getD codeStarts (row + 1) 0) where
   abbrev cs : List (List ℕ)
@@ -29,22 +29,22 @@ module _ (row from next : ℕ) (t : List ℕ) (h : row < 84) (p : from ≡ getD 
   count : next ≡ from + length cs
   count = here .ends ∙ ap (λ (l : List (List ℕ)). from + length l) (codes-at row)
 
-  pub no-codes : from ≡ next → true ≡ onList cs t
-  unfolding onList
+  pub no-codes : from ≡ next → true ≡ chosen cs t
+  unfolding chosen
   no-codes e = go cs (omega (arith, count))
     where
-      go : (l : List (List ℕ)) → length l ≡ 0 → true ≡ onList l t
+      go : (l : List (List ℕ)) → length l ≡ 0 → true ≡ chosen l t
       go [] z = refl
       go (k ∷ ks) z = absurd (omega arith)
 
   pub codes-start : (from ≡ next → ⊥) → Left row from next t from
-  unfolding onList
+  unfolding chosen
   codes-start e = record { from-on = omega arith; up-to = omega (arith, count); decides = rw z (go cs (λ l. e (omega (arith, count)))) }
     where
       z : from - from ≡ 0
       z = omega arith
 
-      go : (l : List (List ℕ)) → (length l ≡ 0 → ⊥) → among l t ≡ onList l t
+      go : (l : List (List ℕ)) → (length l ≡ 0 → ⊥) → among t l ≡ chosen l t
       go [] w = absurd (w refl)
       go (k ∷ ks) w = refl
 
@@ -59,7 +59,7 @@ module _ (row from next : ℕ) (t : List ℕ) (h : row < 84) (p : from ≡ getD 
         rw (drop-cons cs (n - from) [] (omega (arith, count)), s, m)
 
     module _ (w : Bool) (r : w ≡ same t (getD allCodes n [])) where
-      pub code-found : w ≡ true → true ≡ onList cs t
+      pub code-found : w ≡ true → true ≡ chosen cs t
       unfolding among
       code-found e = sym (sym (l .decides) ∙ rw (next-code, sym r ∙ e))
 
@@ -67,10 +67,10 @@ module _ (row from next : ℕ) (t : List ℕ) (h : row < 84) (p : from ≡ getD 
       unfolding among
       code-next e =
           let o = l .from-on in
-          let d : among (drop (n - from) cs) t ≡ among (drop (n + 1 - from) cs) t = rw (next-code, sym r ∙ e) in
+          let d : among t (drop (n - from) cs) ≡ among t (drop (n + 1 - from) cs) = rw (next-code, sym r ∙ e) in
           record { from-on = omega arith; up-to = omega arith; decides = sym d ∙ l .decides }
 
-  pub codes-out : (n : ℕ) → Left row from next t n → next ≤ n → false ≡ onList cs t
+  pub codes-out : (n : ℕ) → Left row from next t n → next ≤ n → false ≡ chosen cs t
   unfolding among
   codes-out n l b =
       let z : drop (n - from) cs ≡ [] = drop-of-length-le cs {i = n - from} (omega (arith, count)) in

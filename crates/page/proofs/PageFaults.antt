@@ -11,7 +11,8 @@ use Rattle.element.specs.Format.{fitsFormat}
 use Rattle.element.specs.declared.formats.Format.{Format}
 use Rattle.element.specs.declared.formats.Format.the-variants.{AnUpTo, An, NUpTo, N}
 use Rattle.guide.specs.Page.{must, may, Row, used, unused}
-use Rattle.guide.specs.PageFault.{onList, textFault}
+use Rattle.guide.specs.Nodes.{chosen}
+use Rattle.guide.specs.PageFault.{textFault}
 use Rattle.guide.specs.Choices.{pickℕ}
 use Rattle.guide.proofs.PageFace.{isMust, unused-filled, used-filled, empty-fault, filled-fault}
 use Rattle.page.specs.PageColumns.{codesOf, statusOf, formatOf, kindOf, sizeOf, allRows}
@@ -77,11 +78,11 @@ module _ (y : Syntax) (r : Row) (t : List ℕ) (h : 0 < length t) where
       go unused z e = filled-none e
 
   -- on a row in use
-  pub filled-used : (statusOf r ≡ 0 → ⊥) → textFault y false r t ≡ pickℕ (not (fitsFormat y (formatOf r) t)) 19 (pickℕ (not (onList (codesOf r) t)) 20 0)
+  pub filled-used : (statusOf r ≡ 0 → ⊥) → textFault y false r t ≡ pickℕ (not (fitsFormat y (formatOf r) t)) 19 (pickℕ (not (chosen (codesOf r) t)) 20 0)
   unfolding statusOf formatOf codesOf
   filled-used z = go r z refl
     where
-      go : (q : Row) → (statusOf q ≡ 0 → ⊥) → r ≡ q → textFault y false r t ≡ pickℕ (not (fitsFormat y (formatOf r) t)) 19 (pickℕ (not (onList (codesOf r) t)) 20 0)
+      go : (q : Row) → (statusOf q ≡ 0 → ⊥) → r ≡ q → textFault y false r t ≡ pickℕ (not (fitsFormat y (formatOf r) t)) 19 (pickℕ (not (chosen (codesOf r) t)) 20 0)
       go (used k f cs) z e = rw e (used-filled y false k f cs t (filled t h))
       go unused z e = absurd (z refl)
 
@@ -92,7 +93,7 @@ module _ (y : Syntax) (r : Row) (t : List ℕ) (h : 0 < length t) where
     pub filled-format : w ≡ false → 19 ≡ textFault y false r t
     filled-format k = sym (filled-used z ∙ rw (sym fitting ∙ k))
 
-    module _ (k : w ≡ true) (v : Bool) (q : v ≡ onList (codesOf r) t) where
+    module _ (k : w ≡ true) (v : Bool) (q : v ≡ chosen (codesOf r) t) where
       pub filled-code : v ≡ false → 20 ≡ textFault y false r t
       filled-code g = sym (filled-used z ∙ rw (sym fitting ∙ k, sym q ∙ g))
 

@@ -24,6 +24,9 @@ pub or-second : (f x : ℕ) → f ≤ 0 → x ≡ orElse f x
 or-second zero x h = refl
 or-second (suc f) x h = absurd (omega arith)
 
+pub no-fault : (f : ℕ) → f ≤ 0 → f ≡ 0
+no-fault f h = omega arith
+
 -- the first of two faults, by the test of the first
 pub first-told : (f g x : ℕ) → f ≡ g → 0 < f → f ≡ orElse g x
 first-told f g x e h = or-first f x h ∙ rw e

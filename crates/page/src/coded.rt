@@ -9,7 +9,7 @@ ghost use mathlib.Core.List.{[]};
 ghost use lib.ListN.{getD};
 ghost use Rattle.element.specs.Plain.{decoded, same};
 ghost use Rattle.guide.specs.Page.{unused};
-ghost use Rattle.guide.specs.PageFault.{onList};
+ghost use Rattle.guide.specs.Nodes.{chosen};
 ghost use Rattle.page.specs.PageColumns.{allRows, allCodes, allBytes, codesOf};
 
 // Whether it is the code at a place of the columns, where text has the bytes of all codes.
@@ -40,7 +40,7 @@ fn is_code_at(y: Syntax, d: &[u8], a: usize, b: usize, n: usize) -> bool
 // A row without codes takes any text.
 pub(crate) fn listed(y: Syntax, d: &[u8], a: usize, b: usize, row: usize) -> bool
     requires { ⌜ row < 84 ⌝ }
-    ensures { λ r. ⌜ r ≡ onList (codesOf (getD allRows row unused)) (decoded y a b (now (d .entry))) ⌝ }
+    ensures { λ r. ⌜ r ≡ chosen (codesOf (getD allRows row unused)) (decoded y a b (now (d .entry))) ⌝ }
 {
     let from = code_start(row);
     let next = code_start(row + 1);

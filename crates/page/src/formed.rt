@@ -56,10 +56,12 @@ fn filled_fault(y: Syntax, d: &[u8], a: usize, b: usize, row: usize) -> u32
     if status(row) == 0 {
         return 18;
     }
-    if !fits(y, d, a, b, format_of(row)) {
+    let fitting = fits(y, d, a, b, format_of(row));
+    let known = listed(y, d, a, b, row);
+    if !fitting {
         return 19;
     }
-    if !listed(y, d, a, b, row) {
+    if !known {
         return 20;
     }
     0

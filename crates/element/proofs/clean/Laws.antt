@@ -4,9 +4,9 @@ use mathlib.Core.Path.{_≡_, refl, sym}
 use mathlib.Core.Bool.{Bool, true, false, _&&_, and-true, and-false}
 use mathlib.Core.List.{List, [], _∷_}
 use native.Mathlib.Omega.{arith}
-use borrow.Author.Tests.{le-leb, lt-leb}
+use borrow.Author.Tests.{eq-eqb, ne-eqb, le-leb, lt-leb}
 use lib.ListN.{length, getD}
-use lib.Dec.{leb}
+use lib.Dec.{eqb, leb}
 use Rattle.cut.specs.Bytes.{part}
 use Rattle.cut.specs.declared.service.Syntax.{Syntax}
 use Rattle.cut.proofs.Parts.{part-none, part-next, length-part}
@@ -42,6 +42,15 @@ module _ (d : List ℕ) (i e : ℕ) where
   pub allowed-next : i < e → e ≤ length d → allowedByte (getD d i 0) ≡ true → allowedBytes (part i e d) ≡ allowedBytes (part (i + 1) e d)
   unfolding allowedBytes
   allowed-next h k t = rw (part-next d i e h k, allowedBytes, t)
+
+module _ (y : Syntax) (x : ℕ) where
+  pub ends-element : x ≡ y .element → true ≡ endsTag y x
+  unfolding endsTag
+  ends-element h = rw (eq-eqb _ _ h)
+
+  pub ends-other : (x ≡ y .element → ⊥) → eqb x (y .terminator) ≡ endsTag y x
+  unfolding endsTag
+  ends-other h = rw (ne-eqb _ _ h)
 
 -- fewer bytes than letters and the byte after them
 lettered-short : (y : Syntax) (n : ℕ) (s : List ℕ) → length s ≤ n → lettered y n s ≡ false

@@ -35,7 +35,9 @@ both-ended-requires : tie.Need-both-ended-requires Inv-loop μ-loop
 both-ended-requires c κs = search needs
 
 returns : tie.Need-returns Inv-loop μ-loop
-returns c = sym (walk-ended _ _ _ _ _ (sym (c .before .both-ended .ensures) ∙ c .if1 .taken)) ∙ c .before .before .loop .inv
+returns c =
+    let l = c .before .before .loop in
+    sym (walk-ended _ _ _ (l .u) (l .v) (sym (c .before .both-ended .ensures) ∙ c .if1 .taken)) ∙ l .inv
 
 shown-requires : tie.Need-shown-requires Inv-loop μ-loop
 shown-requires c κs = search needs

@@ -1,7 +1,7 @@
 -- `cut::begins::begins_segment` meets its contract.
 use mathlib.Core.Path.{sym, _∙_}
 use borrow.Author.Needs.{needs}
-use Rattle.cut.proofs.Places.{begins-refused, begins-beyond, begins-before, begins-at}
+use Rattle.cut.proofs.Places.{begins-refused, begins-beyond, begins-before, begins-answered}
 use Rattle.cut.proofs.begins.begins_segment.Statement.{statement}
 use Rattle.cut.proofs.begins.begins_segment.Tie as tie
 
@@ -29,11 +29,9 @@ follows-end-requires c κs = search needs
 
 returns-4 : tie.Need-returns-4
 returns-4 c =
-    c .follows-end .ensures
-    ∙ sym
-    (begins-at _ _ _ _
+    begins-answered _ _ _ _ _
     (sym (c .before .before .before .before .before .admission .ensures) ∙ c .before .before .before .before .if1 .left)
-    (c .before .before .opening .ensures) (c .before .if3 .left) (c .before .before .before .if2 .left))
+    (c .before .before .opening .ensures) (c .before .if3 .left) (c .before .before .before .if2 .left) (c .follows-end .ensures)
 
 pub begins-segment-spec : {M : Type 1} → statement M
 begins-segment-spec =

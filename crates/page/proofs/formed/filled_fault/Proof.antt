@@ -21,28 +21,28 @@ format-of-requires c κs = search needs
 fits-requires : tie.Need-fits-requires
 fits-requires c κs = search needs
 
-returns-3 : tie.Need-returns-3
-returns-3 c =
-    let t = c .before .before in
-    filled-format _ _ _ (c .before .before .before .before .before .before .before .pre)
-    (λ z. t .before .if2 .left (t .before .before .status .ensures ∙ z)) _ (t .format-of .ensures) _ (c .before .fits2 .ensures) (not-true _ (c .if3 .taken))
-
 listed-requires : tie.Need-listed-requires
 listed-requires c κs = search needs
+
+returns-3 : tie.Need-returns-3
+returns-3 c =
+    let t = c .before .before .before in
+    filled-format _ _ _ (t .before .before .before .before .before .pre)
+    (λ z. t .before .if2 .left (t .before .before .status .ensures ∙ z)) _ (t .format-of .ensures) _ (c .before .before .fits2 .ensures) (not-true _ (c .if3 .taken))
 
 returns-4 : tie.Need-returns-4
 returns-4 c =
     let t = c .before .before .before .before in
     filled-code _ _ _ (t .before .before .before .before .before .pre)
-    (λ z. t .before .if2 .left (t .before .before .status .ensures ∙ z)) _ (t .format-of .ensures) _ (c .before .before .before .fits2 .ensures) (not-false _ (c .before .before .if3 .left))
-    _ (c .before .listed .ensures) (not-true _ (c .if4 .taken))
+    (λ z. t .before .if2 .left (t .before .before .status .ensures ∙ z)) _ (t .format-of .ensures) _ (c .before .before .before .fits2 .ensures) (not-false _ (c .before .if3 .left))
+    _ (c .before .before .listed .ensures) (not-true _ (c .if4 .taken))
 
 returns-5 : tie.Need-returns-5
 returns-5 c =
     let t = c .before .before .before .before in
     filled-right _ _ _ (t .before .before .before .before .before .pre)
-    (λ z. t .before .if2 .left (t .before .before .status .ensures ∙ z)) _ (t .format-of .ensures) _ (c .before .before .before .fits2 .ensures) (not-false _ (c .before .before .if3 .left))
-    _ (c .before .listed .ensures) (not-false _ (c .if4 .left))
+    (λ z. t .before .if2 .left (t .before .before .status .ensures ∙ z)) _ (t .format-of .ensures) _ (c .before .before .before .fits2 .ensures) (not-false _ (c .before .if3 .left))
+    _ (c .before .before .listed .ensures) (not-false _ (c .if4 .left))
 
 pub filled-fault-spec : {M : Type 1} → statement M
 filled-fault-spec =
@@ -53,7 +53,7 @@ filled-fault-spec =
     returns-2
     format-of-requires
     fits-requires
-    returns-3
     listed-requires
+    returns-3
     returns-4
     returns-5)

@@ -11,7 +11,7 @@ use Rattle.guide.specs.Pages20d.{pageOf}
 use Rattle.guide.specs.PageFault.{pageFault}
 use Rattle.guide.proofs.PageFace.{walkFault}
 use Rattle.page.specs.PageWalk.{moodOf}
-use Rattle.page.proofs.PageSteps.{passed-all, passed-none, pass-stops, pass-goes}
+use Rattle.page.proofs.PageSteps.{no-fault, passed-all, passed-none, pass-stops, pass-goes}
 use Rattle.page.proofs.pages.page_fault.Statement.{statement}
 use Rattle.page.proofs.pages.page_fault.Tie as tie
 
@@ -59,7 +59,7 @@ pass-component-requires c κs = c .before .before .before .before .loop .inv .0
 returns-2 : tie.Need-returns-2 Inv-loop μ-loop
 returns-2 c =
     let t = c .before .before .before in
-    sym (pass-stops _ _ _ _ (c .before .before .before .before .before .before .before .loop .at .mood) _ _ _ (c .before .before .pass-component .result .mood) _ _ _ (c .before .before .pass-component .ensures) (took t .list) (c .if1 .taken)) ∙ c .before .before .before .before .before .before .before .loop .inv .1
+    sym (pass-stops _ _ _ _ (c .before .before .before .before .before .before .before .loop .at .mood) _ _ _ (c .before .before .pass-component .result .mood) _ _ _ (c .before .before .pass-component .ensures) (took t .list) (omega arith)) ∙ c .before .before .before .before .before .before .before .loop .inv .1
 
 loop-less : tie.Need-loop-less Inv-loop μ-loop
 loop-less c = step-less _ _ _ _ _ _ _ _ (took (c .before .before .before))
@@ -67,7 +67,7 @@ loop-less c = step-less _ _ _ _ _ _ _ _ (took (c .before .before .before))
 loop-again : tie.Need-loop-again Inv-loop μ-loop
 loop-again c =
     let t = c .before .before .before in
-    (omega arith, sym (pass-goes _ _ _ _ (c .before .before .before .before .before .before .before .loop .at .mood) _ _ _ (c .before .before .pass-component .result .mood) _ _ _ (c .before .before .pass-component .ensures) (took t .list) (c .if1 .left)) ∙ c .before .before .before .before .before .before .before .loop .inv .1)
+    (no-fault _ (c .if1 .left), sym (pass-goes _ _ _ _ (c .before .before .before .before .before .before .before .loop .at .mood) _ _ _ (c .before .before .pass-component .result .mood) _ _ _ (c .before .before .pass-component .ensures) (took t .list) (c .if1 .left)) ∙ c .before .before .before .before .before .before .before .loop .inv .1)
 
 pub page-fault-spec : {M : Type 1} → statement M
 page-fault-spec =
