@@ -8,4 +8,9 @@ pub mod PriceArticles
 pub mod PriceLies
 pub mod PriceParted
 pub mod PriceTables
+pub mod PriceTags
 pub mod PriceTree
+pub mod PriceCounted
+pub mod PricePlaces
+pub mod PriceComes
+pub mod PriceProper
