@@ -3,6 +3,7 @@ pub mod PriceAnswers
 pub mod PriceSpots
 pub mod PricePuts
 pub mod PriceRuns
+pub mod PriceSteps
 pub mod PriceWalk
 pub mod PriceArticles
 pub mod PriceLies

@@ -16,7 +16,7 @@ use Rattle.price.specs.declared.kinds.Kind.the-variants.{Lin, Pri, Rng, 
 use Rattle.price.specs.PriceNumbers.{Listed}
 use Rattle.price.specs.PriceList.{kindOf, rngNext, numberBy, linBy, priceBy, pricesFrom, noLin, pricesOf}
 use Rattle.price.specs.PriceParts.{addBy}
-use Rattle.price.proofs.PriceWalk.{prices-next}
+use Rattle.price.proofs.PriceSteps.{prices-next}
 use Rattle.price.proofs.PriceTags.{Is, is-lin, is-pri, is-rng, is-other, kind-node}
 
 -- how many of the segments are PRI

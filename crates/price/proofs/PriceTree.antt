@@ -24,7 +24,7 @@ use Rattle.price.specs.declared.kinds.Kind.the-variants.{Lin, Pri, Rng, 
 use Rattle.price.specs.PriceNumbers.{Listed}
 use Rattle.price.specs.PriceSheet.{pricesAt, pricesOfAll, pricesInTree}
 use Rattle.price.specs.PriceList.{kindOf, rngNext, pricesFrom, noLin, pricesOf}
-use Rattle.price.proofs.PriceWalk.{prices-next}
+use Rattle.price.proofs.PriceSteps.{prices-next}
 use Rattle.price.proofs.PriceTags.{Is, is-lin, is-pri, is-rng, is-other, tag-apart, kind-node}
 use Rattle.price.specs.PriceTable.{isLin, isPri, isRng, inLin, Priced}
 
