@@ -15,3 +15,4 @@ pub mod PriceCounted
 pub mod PricePlaces
 pub mod PriceComes
 pub mod PriceProper
+pub mod PriceFace

@@ -1,11 +1,9 @@
 -- What the workers of the eight numbers answer, case by case.
 use Prim.Native.Nat.{ℕ, _-_, _^_, _≤_, _<_, min, max}
-use mathlib.Core.Path.{_≡_, refl, sym, ap, subst, _∙_}
+use mathlib.Core.Path.{_≡_, sym, ap, subst, _∙_}
 use mathlib.Core.Bool.{Bool, true, false, cond}
-use mathlib.Core.List.{List, [], _∷_}
-use native.Mathlib.Omega.{arith}
+use mathlib.Core.List.{List, []}
 use lib.ListN.{length}
-use lib.Dec.{ltb}
 use lib.IntN.{ℤ, pos, negsuc}
 use borrow.Author.Tests.{lt-ltb, le-ltb}
 use mir.Syntax.{w64}
@@ -28,7 +26,6 @@ use Rattle.price.specs.declared.kinds.Kind.the-variants.{Rng}
 use Rattle.price.specs.declared.spots.Spot.{Spot}
 use Rattle.price.specs.declared.spots.Spot.the-variants.{At, Nothing}
 use Rattle.price.specs.declared.spots.Held.{Held}
-use Rattle.price.specs.declared.numbers.Numbers.{Numbers}
 use Rattle.price.specs.PriceNumbers.{articleIn, articlePlace, articleLength, priceIn, amountOf, decimalsOf, unitRank, placeOfFirst, numbersOf}
 use Rattle.price.specs.PriceList.{rngBy}
 use Rattle.price.specs.PriceParts.{rngIn, listedIn, Within}

@@ -1,6 +1,6 @@
 -- How many prices a message has: as many as its tree has PRI segments.
 use Prim.Native.Nat.{ℕ, _+_}
-use mathlib.Core.Path.{_≡_, refl, sym, ap, ap₂, _∙_}
+use mathlib.Core.Path.{_≡_, refl, sym, ap, _∙_}
 use mathlib.Core.List.{List, [], _∷_, _++_}
 use native.Mathlib.Omega.{arith}
 use lib.ListN.{length, length-append}
@@ -14,9 +14,8 @@ use Rattle.guide.specs.Accepted.{seen}
 use Rattle.price.specs.declared.kinds.Kind.{Kind}
 use Rattle.price.specs.declared.kinds.Kind.the-variants.{Lin, Pri, Rng, Other}
 use Rattle.price.specs.PriceNumbers.{Listed}
-use Rattle.price.specs.PriceList.{kindOf, rngNext, numberBy, linBy, priceBy, pricesFrom, noLin, pricesOf}
+use Rattle.price.specs.PriceList.{kindOf, numberBy, linBy, priceBy, pricesFrom, noLin, pricesOf}
 use Rattle.price.specs.PriceParts.{addBy}
-use Rattle.price.proofs.PriceSteps.{prices-next}
 use Rattle.price.proofs.PriceTags.{Is, is-lin, is-pri, is-rng, is-other, kind-node}
 
 -- how many of the segments are PRI

@@ -1,6 +1,6 @@
 -- The answers for a part of the delivery, from those for all that follows its start.
-use Prim.Native.Nat.{ℕ, zero, suc, _+_, _-_, _≤_, _<_, min, max}
-use mathlib.Core.Path.{_≡_, refl, sym, ap, subst, _∙_}
+use Prim.Native.Nat.{ℕ, zero, suc, _+_, _-_, _≤_, _<_, min}
+use mathlib.Core.Path.{_≡_, sym, ap, subst, _∙_}
 use mathlib.Core.Bool.{Bool, true, false, cond}
 use mathlib.Core.List.{List, [], _∷_}
 use native.Mathlib.Omega.{arith}
@@ -24,7 +24,7 @@ use Rattle.price.specs.PriceNumbers.{Listed, articleIn}
 use Rattle.price.specs.PriceList.{pricesFrom, pricesOf}
 use Rattle.price.specs.PriceRows.{filledRow}
 use Rattle.price.specs.PriceCalls.{pricesIn, numbersFrom, filledOf, firstArticle, articleAt}
-use Rattle.price.specs.PriceParts.{segmentsAt, Holding, HeldFirst, HeldAt}
+use Rattle.price.specs.PriceParts.{segmentsAt, HeldFirst, HeldAt}
 use Rattle.price.proofs.PriceAnswers.{component-bounds}
 use Rattle.price.proofs.PriceLies.{PriceLies, prices-in-lie, article-lies}
 

@@ -2,7 +2,7 @@
 use Prim.Native.Nat.{ℕ, _+_, _-_, _≤_, _<_, min}
 use mathlib.Core.Path.{_≡_, refl, _∙_}
 use mathlib.Core.Bool.{Bool, true, false, cond}
-use mathlib.Core.List.{List, [], _∷_, map}
+use mathlib.Core.List.{List, [], _∷_}
 use mathlib.Core.Logic.{_⊎_, inl, inr}
 use native.Mathlib.Omega.{arith}
 use lib.ListN.{length}
@@ -10,7 +10,7 @@ use lib.Dec.{ltb}
 use lib.IntN.{pos, negsuc}
 use borrow.Author.Tests.{ltb-true, ltb-false}
 use Rattle.cut.specs.declared.service.Syntax.{Syntax}
-use Rattle.cut.specs.Segments.{Segment, endOf}
+use Rattle.cut.specs.Segments.{Segment}
 use Rattle.element.specs.declared.components.Span.{Span}
 use Rattle.element.proofs.ComponentFace as face
 use Rattle.guide.specs.Accepted.{Each}

@@ -1,17 +1,17 @@
 -- The prices of a proper message of PRICAT 2.0d: no article is absent, and each amount is exact.
-use Prim.Native.Nat.{ℕ, suc, _+_, _-_, _≤_, _<_, min}
+use Prim.Native.Nat.{ℕ, _-_, _≤_, _<_, min}
 use mathlib.Core.Path.{_≡_, refl, sym, ap, subst, _∙_}
-use mathlib.Core.Bool.{Bool, true, false, cond, _||_}
-use mathlib.Core.List.{List, [], _∷_, _++_, map}
+use mathlib.Core.Bool.{Bool, true, false, _||_}
+use mathlib.Core.List.{List, [], _∷_}
 use native.Mathlib.Decide.{decLe}
 use native.Mathlib.Omega.{arith}
 use lib.ListN.{length, List·getD-eq-default}
-use lib.Dec.{T, eqb, ltb, eqb→eq}
-use lib.IntN.{ℤ, pos}
+use lib.Dec.{T, eqb, eqb→eq}
+use lib.IntN.{pos}
 use Prim.Native.String.{String}
 use borrow.Author.Tests.{lt-ltb}
 use Rattle.cut.specs.declared.service.Syntax.{Syntax}
-use Rattle.cut.specs.Bytes.{bytesOf, part}
+use Rattle.cut.specs.Bytes.{part}
 use Rattle.cut.specs.Segments.{Segment, endOf, segmentsFrom}
 use Rattle.cut.specs.Messages.{Message}
 use Rattle.cut.proofs.Parts.{part-none}
@@ -20,7 +20,7 @@ use Rattle.element.specs.Components.{componentAt, spanIn}
 use Rattle.element.specs.Plain.{plain, same}
 use Rattle.element.specs.declared.components.Span.{Span}
 use Rattle.element.specs.Numeral.{minus, fraction, digits, isNumber, decimal}
-use Rattle.element.specs.Number.{signed, numberOf}
+use Rattle.element.specs.Number.{signed}
 use Rattle.element.proofs.ComponentFace.{component-bytes}
 use Rattle.element.proofs.ValueFace.{n-up-to-fits, fits-amount}
 use Rattle.guide.specs.Nodes.{Guide, node, message}
@@ -32,7 +32,7 @@ use Rattle.guide.specs.Content.{text, Filled, Holds}
 use Rattle.guide.specs.Checks.{every, implies}
 use Rattle.guide.specs.Sheet.{isTag}
 use Rattle.guide.specs.Accepted.{Each, segmentsOf, Proper}
-use Rattle.guide.proofs.Basics.{T-true, and-left, and-right, or-cases, implied, every-at}
+use Rattle.guide.proofs.Basics.{or-cases, implied, every-at}
 use Rattle.guide.proofs.Contents.{price-format, article-stands}
 use Rattle.price.specs.PriceNumbers.{Listed, articleIn, articlePlace, articleLength, priceIn, amountOf, decimalsOf, numbersOf}
 use Rattle.price.specs.PriceSheet.{pricesInTree}
@@ -41,7 +41,7 @@ use Rattle.price.specs.PriceCalls.{pricesIn}
 use Rattle.price.specs.PriceTable.{isLin, isPri}
 use Rattle.price.proofs.PriceTables.{pricat20d-priced}
 use Rattle.price.proofs.PriceTree.{prices-tree}
-use Rattle.price.proofs.PriceComes.{Given-as, Comes, tree-come}
+use Rattle.price.proofs.PriceComes.{Comes, tree-come}
 use Rattle.price.proofs.PriceLies.{Lies, PriceLies, prices-in-lie}
 
 -- a node with a tag stands in the table

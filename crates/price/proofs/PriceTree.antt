@@ -1,29 +1,28 @@
 -- The prices by the first three bytes of each segment are those read off the tree, for every table that passes.
-use Prim.Native.Nat.{ℕ, _+_, _≤_, _<_}
+use Prim.Native.Nat.{ℕ, _+_, _<_}
 use mathlib.Core.Path.{_≡_, refl, sym, ap, ap₂, _∙_, subst}
-use mathlib.Core.Bool.{Bool, true, false, cond, _&&_, true≢false, false≢true}
+use mathlib.Core.Bool.{Bool, true, false, true≢false, false≢true}
 use mathlib.Core.List.{List, [], _∷_, _++_, map, append-assoc, append-nil}
 use native.Mathlib.Nat.{add-zero}
 use native.Mathlib.Omega.{arith}
-use lib.ListN.{length, take, length-append}
-use lib.Dec.{T, eqb, ltb}
+use lib.ListN.{length, length-append}
+use lib.Dec.{T, eqb}
 use borrow.Author.Tests.{eq-eqb, eqb-false}
 use Rattle.cut.specs.declared.service.Syntax.{Syntax}
-use Rattle.cut.specs.Bytes.{bytesOf, begins}
+use Rattle.cut.specs.Bytes.{bytesOf}
 use Rattle.cut.specs.Segments.{Segment}
 use Rattle.element.specs.Plain.{same}
-use Rattle.guide.specs.Nodes.{View, Guide, node, matches, takes}
-use Rattle.guide.specs.Views.{viewOf}
-use Rattle.guide.specs.Tree.{Kids, none, then, one, segs, count, top, Limits, Next, Closed, Whole}
-use Rattle.guide.specs.Sheet.{Price, Position, onlyIf, pickList, isTag, childrenWith, pricesOf as pricesUnder, position, positionsIn}
+use Rattle.guide.specs.Nodes.{Guide, node, takes}
+use Rattle.guide.specs.Tree.{Kids, none, then, one, segs, Limits, Next, Closed, Whole}
+use Rattle.guide.specs.Sheet.{Price, Position, onlyIf, pickList, childrenWith, pricesOf as pricesUnder, position, positionsIn}
 use Rattle.guide.specs.Accepted.{seen}
-use Rattle.guide.proofs.Basics.{T-true, true-T, and-left, and-right, or-cases, same-eq, map-append}
-use Rattle.guide.proofs.Tables.{takes-matches, takes-limit}
+use Rattle.guide.proofs.Basics.{T-true, true-T, or-cases, map-append}
+use Rattle.guide.proofs.Tables.{takes-limit}
 use Rattle.price.specs.declared.kinds.Kind.{Kind}
 use Rattle.price.specs.declared.kinds.Kind.the-variants.{Lin, Pri, Rng, Other}
 use Rattle.price.specs.PriceNumbers.{Listed}
 use Rattle.price.specs.PriceSheet.{pricesAt, pricesOfAll, pricesInTree}
-use Rattle.price.specs.PriceList.{kindOf, rngNext, pricesFrom, noLin, pricesOf}
+use Rattle.price.specs.PriceList.{kindOf, rngBy, rngNext, pricesFrom, noLin, pricesOf}
 use Rattle.price.proofs.PriceSteps.{prices-next}
 use Rattle.price.proofs.PriceTags.{Is, is-lin, is-pri, is-rng, is-other, tag-apart, kind-node}
 use Rattle.price.specs.PriceTable.{isLin, isPri, isRng, inLin, Priced}
@@ -37,12 +36,9 @@ skip : (n : ℕ) (lin s : Segment) (ss : List Segment) (k : Kind) → kindOf (s 
 skip n lin s ss Rng e quiet-rng = prices-next n lin s ss Rng e
 skip n lin s ss Other e quiet-other = prices-next n lin s ss Other e
 
-no-rng : (s : Segment) (ss : List Segment) (k : Kind) → kindOf (s .bytes) ≡ k → (k ≡ Rng → ⊥) → rngNext (s ∷ ss) ≡ []
+no-rng : (s : Segment) (ss : List Segment) (k : Kind) → kindOf (s .bytes) ≡ k → rngBy k s ≡ [] → rngNext (s ∷ ss) ≡ []
 unfolding rngNext
-no-rng s ss Rng e d = absurd (d refl)
-no-rng s ss Lin e d = rw e
-no-rng s ss Pri e d = rw e
-no-rng s ss Other e d = rw e
+no-rng s ss k e d = rw e d
 
 rng-here : (s : Segment) (ss : List Segment) → kindOf (s .bytes) ≡ Rng → rngNext (s ∷ ss) ≡ s ∷ []
 unfolding rngNext
@@ -124,9 +120,9 @@ module _ (y : Syntax) (g : Guide) (t : Priced g) where
       go
           : (w : Kind) → kindOf (s .bytes) ≡ w → Is g m w → ((us : List Segment) → rngNext us ≡ [] → rngNext (segs b ++ us) ≡ childrenWith g (bytesOf "RNG") b)
           → rngNext (segs b ++ rest) ≡ childrenWith g (bytesOf "RNG") b ++ onlyIf (isRng g m) s
-      go Lin a (is-lin l p r) ih = ih rest (no-rng s (segs k ++ ts) Lin a (λ q. let z : _≡_ {A = ℕ} 0 1 = cc in omega arith)) ∙ rw r (sym (append-nil _))
-      go Pri a (is-pri l p r) ih = ih rest (no-rng s (segs k ++ ts) Pri a (λ q. let z : _≡_ {A = ℕ} 0 1 = cc in omega arith)) ∙ rw r (sym (append-nil _))
-      go Other a (is-other l p r) ih = ih rest (no-rng s (segs k ++ ts) Other a (λ q. let z : _≡_ {A = ℕ} 0 1 = cc in omega arith)) ∙ rw r (sym (append-nil _))
+      go Lin a (is-lin l p r) ih = ih rest (no-rng s (segs k ++ ts) Lin a refl) ∙ rw r (sym (append-nil _))
+      go Pri a (is-pri l p r) ih = ih rest (no-rng s (segs k ++ ts) Pri a refl) ∙ rw r (sym (append-nil _))
+      go Other a (is-other l p r) ih = ih rest (no-rng s (segs k ++ ts) Other a refl) ∙ rw r (sym (append-nil _))
       go Rng a (is-rng l p r) ih =
           let o = only-first z b m s k c h r in
           rw (o, r) (rng-here s (segs k ++ ts) a)
@@ -164,12 +160,12 @@ module _ (y : Syntax) (g : Guide) (t : Priced g) where
       go Rng a (is-rng d p r) ih =
           absurd (true≢false (sym (true-T _ (t .rng-under m lm (T-true r))) ∙ tag-apart g (node g m .parent) (bytesOf "LIN") (bytesOf "PRI") refl (rw up (true-T _ l))))
       go Other a (is-other d p r) ih =
-          ih rest (no-rng s (segs k ++ ts) Other a (λ q. let z : _≡_ {A = ℕ} 0 1 = cc in omega arith))
+          ih rest (no-rng s (segs k ++ ts) Other a refl)
           ∙ ap (λ (qs : List Listed). map (listed n lin) (pricesUnder g b) ++ qs)
           (skip n lin s (segs k ++ ts) Other a quiet-other ∙ deep m k (c .2) (under d) n lin ts)
           ∙ rw (p, append-nil (pricesUnder g b))
       go Pri a (is-pri d p r) ih =
-          ih rest (no-rng s (segs k ++ ts) Pri a (λ q. let z : _≡_ {A = ℕ} 0 1 = cc in omega arith))
+          ih rest (no-rng s (segs k ++ ts) Pri a refl)
           ∙ ap (λ (qs : List Listed). map (listed n lin) (pricesUnder g b) ++ qs)
           (prices-next n lin s (segs k ++ ts) Pri a
           ∙ ap₂ _∷_ (ap (λ (rs : List Segment). listed n lin (record { pri = s; rng = rs })) (rng-children m k (c .2) (c .3) ts e)) (deep m k (c .2) (under d) n lin ts))
@@ -244,14 +240,14 @@ module _ (y : Syntax) (g : Guide) (t : Priced g) where
       go Pri a (is-pri d q r) ih jh = absurd (o .no-lin (subst (λ (i : ℕ). T (isLin g i)) up (t .pri-under m lm (T-true q))))
       go Rng a (is-rng d q r) ih jh = absurd (o .no-pri (subst (λ (i : ℕ). T (isPri g i)) up (t .rng-under m lm (T-true r))))
       go Lin a (is-lin d q r) ih jh =
-          ih rest (no-rng s (segs k ++ ts) Lin a (λ q. let z : _≡_ {A = ℕ} 0 1 = cc in omega arith))
+          ih rest (no-rng s (segs k ++ ts) Lin a refl)
           ∙ rw d
           (after-append n lin (positionsIn g b) (position g s k ∷ []) ts rest
           (prices-next n′ lin′ s (segs k ++ ts) Lin a
           ∙ below-lin y g t m k (c .2) (T-true d) (t .lin-in m lm (T-true d)) (n′ + 1) s ts e
           ∙ ap (λ (qs : List Listed). qs ++ pricesFrom (n′ + 1) s ts) (sym (append-nil (pricesAt (n′ + 1) (position g s k))))))
       go Other a (is-other d q r) ih jh =
-          ih rest (no-rng s (segs k ++ ts) Other a (λ q. let z : _≡_ {A = ℕ} 0 1 = cc in omega arith))
+          ih rest (no-rng s (segs k ++ ts) Other a refl)
           ∙ rw d (after-append n lin (positionsIn g b) (positionsIn g k) ts rest (skip n′ lin′ s (segs k ++ ts) Other a quiet-other ∙ jh still n′ lin′ ts e))
         where
           still : Outer m

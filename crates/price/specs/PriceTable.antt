@@ -1,7 +1,7 @@
 -- Where prices stand in a guide: the computed test of a table, and the properties that it gives (proofs/PriceTables).
 use Prim.Native.Nat.{ℕ, zero, suc, _<_}
 use mathlib.Core.Path.{_≡_}
-use mathlib.Core.Bool.{Bool, true, false, not, _&&_, _||_}
+use mathlib.Core.Bool.{Bool, false, not, _&&_, _||_}
 use lib.ListN.{length}
 use lib.Dec.{T, eqb, ltb}
 use Rattle.cut.specs.Bytes.{bytesOf}
