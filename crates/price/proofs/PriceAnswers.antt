@@ -7,8 +7,8 @@ use lib.ListN.{length}
 use lib.IntN.{ℤ, pos, negsuc}
 use borrow.Author.Tests.{lt-ltb, le-ltb}
 use mir.Syntax.{w64}
-use mir.Val.{toZ}
-use mir.Facts.{toZ-pos}
+use mir.Val.{SFits, toZ, ofZ}
+use mir.Facts.{toZ-pos, toZ-ofZ}
 use Rattle.cut.specs.declared.service.Syntax.{Syntax}
 use Rattle.cut.specs.Bytes.{part, bytesOf}
 use Rattle.cut.specs.Segments.{Segment}
@@ -38,6 +38,10 @@ article-stands base a z h e = rw (lt-ltb _ _ h) e
 pub article-absent : (base : ℕ) (a : Span) → a .end ≤ a .start → negsuc 0 ≡ articlePlace base a
 unfolding articlePlace
 article-absent base a h = rw (le-ltb _ _ h)
+
+-- a signed number comes back from its bits as it was
+pub kept : (z v : ℤ) → SFits w64 z → z ≡ v → toZ w64 (ofZ w64 z) ≡ v
+kept z v f h = toZ-ofZ f ∙ h
 
 pub amount-is : (n : Number) (v : ℤ) (k : ℕ) → n ≡ number.Amount v k → v ≡ amountOf n
 amount-is n v k h = rw h

@@ -7,6 +7,7 @@ use native.Mathlib.Nat.{sub-zero}
 use native.Mathlib.Omega.{arith}
 use lib.ListN.{length, drop}
 use lib.Seq.{drop-nil}
+use lib.Dec.{eqb}
 use borrow.Author.Tests.{eqb-true, eqb-false}
 use Rattle.cut.specs.declared.service.Syntax.{Syntax}
 use Rattle.cut.specs.Segments.{Segment}
@@ -20,6 +21,9 @@ use Rattle.price.specs.PriceList.{linBy, priceBy, pricesFrom, noLin, pri
 use Rattle.price.specs.PriceParts.{segmentsAt, headSpot, addBy, movedBy, reachedBy, HeldFirst, HeldAt}
 use Rattle.price.proofs.PriceSpots.{Spotted, spotted, spot-nothing}
 use Rattle.price.proofs.PriceSteps.{Standing, firstHeld, standing-first, standing-on, this, price, behind, step}
+
+pub reached-pri : (k : Kind) (left : ℕ) → k ≡ Pri → eqb left 0 ≡ reachedBy k left
+reached-pri k left h = rw h
 
 -- a segment that is not the price that is looked for
 passes : (k : Kind) (left : ℕ) (q : Listed) (qs : List Listed) → reachedBy k left ≡ false → (addBy k ≤ left) × (drop left (priceBy k q qs) ≡ drop (left - addBy k) qs)
