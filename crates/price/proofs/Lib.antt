@@ -16,3 +16,4 @@ pub mod PricePlaces
 pub mod PriceComes
 pub mod PriceProper
 pub mod PriceFace
+pub mod PriceMoved

@@ -13,7 +13,7 @@ use Rattle.guide.specs.Accepted.{Each}
 use Rattle.guide.proofs.Basics.{T-true}
 use Rattle.price.specs.PriceNumbers.{Listed}
 use Rattle.price.specs.PriceSheet.{pricesAt, pricesOfAll, pricesInTree}
-use Rattle.price.specs.PriceTable.{isLin, isPri}
+use Rattle.price.specs.PriceTable.{linNode, priNode}
 
 module _ {A : Type 0} (P : A → Type 0) where
   each-more : (xs ys : List A) → Each P xs → Each P ys → Each P (xs ++ ys)
@@ -57,9 +57,9 @@ module _ (g : Guide) (P : ℕ → Segment → Type 0) where
   unfolding Each pricesUnder
   prices-come none e = tt
   prices-come (then b n s k) e =
-      each-more ComesPrice (pricesUnder g b) _ (prices-come b (each-front Has (assigned b) (giving n s ∷ assigned k) e)) (here (isPri g n) refl)
+      each-more ComesPrice (pricesUnder g b) _ (prices-come b (each-front Has (assigned b) (giving n s ∷ assigned k) e)) (here (priNode g n) refl)
     where
-      here : (t : Bool) → isPri g n ≡ t → Each ComesPrice (onlyIf t (record { pri = s; rng = childrenWith g (bytesOf "RNG") k }))
+      here : (t : Bool) → priNode g n ≡ t → Each ComesPrice (onlyIf t (record { pri = s; rng = childrenWith g (bytesOf "RNG") k }))
       here true h = (record { node = n; tagged = T-true h; holds = each-back Has (assigned b) (giving n s ∷ assigned k) e .0 }, tt)
       here false h = tt
 
@@ -68,12 +68,12 @@ module _ (g : Guide) (P : ℕ → Segment → Type 0) where
   positions-come none e = tt
   positions-come (then b n s k) e =
       each-more ComesPosition (positionsIn g b) _ (positions-come b (each-front Has (assigned b) (giving n s ∷ assigned k) e))
-      (here (isLin g n) refl (positions-come k (each-back Has (assigned b) (giving n s ∷ assigned k) e .1)))
+      (here (linNode g n) refl (positions-come k (each-back Has (assigned b) (giving n s ∷ assigned k) e .1)))
     where
       rest : Each Has (giving n s ∷ assigned k)
       rest = each-back Has (assigned b) (giving n s ∷ assigned k) e
 
-      here : (t : Bool) → isLin g n ≡ t → Each ComesPosition (positionsIn g k) → Each ComesPosition (pickList t (position g s k ∷ []) (positionsIn g k))
+      here : (t : Bool) → linNode g n ≡ t → Each ComesPosition (positionsIn g k) → Each ComesPosition (pickList t (position g s k ∷ []) (positionsIn g k))
       here true h ih = (record { lin = record { node = n; tagged = T-true h; holds = rest .0 }; prices = prices-come k (rest .1) }, tt)
       here false h ih = ih
 

@@ -19,6 +19,8 @@ pub use Rattle.price.proofs.PriceCounted.{prices-counted}
 pub use Rattle.price.proofs.PriceLies.{Lies, Stands, PriceLies, prices-in-lie, article-lies}
 pub use Rattle.price.proofs.PriceParted.{article-in}
 pub use Rattle.price.proofs.PricePlaces.{ArticleIn, absent, stands, InMessage, prices-in-message}
+-- a message of the same bytes further on in another delivery fills a row alike
+pub use Rattle.price.proofs.PriceMoved.{laterPrice, numbers-moved, prices-moved, prices-later, numbers-later, count-later}
 -- in a proper message of PRICAT 2.0d no article is absent and each amount is exact
 pub use Rattle.price.proofs.PriceProper.{Exact, proper-exact}
 

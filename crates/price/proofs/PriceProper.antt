@@ -38,7 +38,7 @@ use Rattle.price.specs.PriceNumbers.{Listed, articleIn, articlePlace, ar
 use Rattle.price.specs.PriceSheet.{pricesInTree}
 use Rattle.price.specs.PriceList.{pricesOf}
 use Rattle.price.specs.PriceCalls.{pricesIn}
-use Rattle.price.specs.PriceTable.{isLin, isPri}
+use Rattle.price.specs.PriceTable.{linNode, priNode}
 use Rattle.price.proofs.PriceTables.{pricat20d-priced}
 use Rattle.price.proofs.PriceTree.{prices-tree}
 use Rattle.price.proofs.PriceComes.{Comes, tree-come}
@@ -59,15 +59,15 @@ either test a b n h l t f k =
     or-cases (eqb n a) (eqb n b) (λ e. f (eqb→eq n a e)) (λ e. k (eqb→eq n b e))
     (implied (test n) (eqb n a || eqb n b) (every-at (λ m. implies (test m) (eqb m a || eqb m b)) 27 n h l) t)
 
-lin-page : (n : ℕ) → T (isLin pricat20d n) → (kinds : List String) × (pageOf n ≡ LIN kinds)
+lin-page : (n : ℕ) → T (linNode pricat20d n) → (kinds : List String) × (pageOf n ≡ LIN kinds)
 unfolding pricat20d every isTag same pageOf pages20d LIN
 lin-page n t =
-    either (isLin pricat20d) 16 23 n tt (tagged-in pricat20d 76 (73 ∷ 78 ∷ []) n t) t (λ e. ("Z01" ∷ "Z09" ∷ [], ap pageOf e)) (λ e. ("Z09" ∷ [], ap pageOf e))
+    either (linNode pricat20d) 16 23 n tt (tagged-in pricat20d 76 (73 ∷ 78 ∷ []) n t) t (λ e. ("Z01" ∷ "Z09" ∷ [], ap pageOf e)) (λ e. ("Z09" ∷ [], ap pageOf e))
 
-pri-page : (n : ℕ) → T (isPri pricat20d n) → (rows : List Row) × (pageOf n ≡ PRI rows)
+pri-page : (n : ℕ) → T (priNode pricat20d n) → (rows : List Row) × (pageOf n ≡ PRI rows)
 unfolding pricat20d every isTag same pageOf pages20d PRI
 pri-page n t =
-    either (isPri pricat20d) 19 24 n tt (tagged-in pricat20d 80 (82 ∷ 73 ∷ []) n t) t (λ e. (basis, ap pageOf e)) (λ e. ([], ap pageOf e))
+    either (priNode pricat20d) 19 24 n tt (tagged-in pricat20d 80 (82 ∷ 73 ∷ []) n t) t (λ e. (basis, ap pageOf e)) (λ e. ([], ap pageOf e))
 
 -- what the numbers of a price say in an accepted message
 pub record Exact (y : Syntax) (base : ℕ) (q : Listed) : Type 0 where

@@ -18,7 +18,7 @@ use Rattle.guide.proofs.Tables.{takes-matches}
 use Rattle.price.specs.declared.kinds.Kind.{Kind}
 use Rattle.price.specs.declared.kinds.Kind.the-variants.{Lin, Pri, Rng, Other}
 use Rattle.price.specs.PriceList.{kindOf}
-use Rattle.price.specs.PriceTable.{isLin, isPri, isRng}
+use Rattle.price.specs.PriceTable.{linNode, priNode, rngNode}
 
 -- the raw tag is the node's
 begins-same : (w b : List ℕ) → begins w b ≡ same (take (length w) b) w
@@ -29,10 +29,10 @@ begins-same (x ∷ w) (c ∷ b) = ap (λ (q : Bool). eqb c x && q) (begins-same 
 
 -- a node is of one kind
 pub data Is (g : Guide) (n : ℕ) : Kind → Type 0 where
-  is-lin : isLin g n ≡ true → isPri g n ≡ false → isRng g n ≡ false → Is g n Lin
-  is-pri : isLin g n ≡ false → isPri g n ≡ true → isRng g n ≡ false → Is g n Pri
-  is-rng : isLin g n ≡ false → isPri g n ≡ false → isRng g n ≡ true → Is g n Rng
-  is-other : isLin g n ≡ false → isPri g n ≡ false → isRng g n ≡ false → Is g n Other
+  is-lin : linNode g n ≡ true → priNode g n ≡ false → rngNode g n ≡ false → Is g n Lin
+  is-pri : linNode g n ≡ false → priNode g n ≡ true → rngNode g n ≡ false → Is g n Pri
+  is-rng : linNode g n ≡ false → priNode g n ≡ false → rngNode g n ≡ true → Is g n Rng
+  is-other : linNode g n ≡ false → priNode g n ≡ false → rngNode g n ≡ false → Is g n Other
 
 -- two different tags are not both a node's
 pub tag-apart : (g : Guide) (n : ℕ) (t u : List ℕ) → same t u ≡ false → isTag g t n ≡ true → isTag g u n ≡ false
@@ -55,9 +55,9 @@ module _ (y : Syntax) (g : Guide) where
   -- the kind of a segment is its node's
   pub kind-node : (n : ℕ) (s : Segment) → T (takes g n (seen y s)) → Is g n (kindOf (s .bytes))
   unfolding kindOf same
-  kind-node n s t = rw (begins-tag n s 76 73 78 t, begins-tag n s 80 82 73 t, begins-tag n s 82 78 71 t) (go (isLin g n) refl (isPri g n) refl (isRng g n) refl)
+  kind-node n s t = rw (begins-tag n s 76 73 78 t, begins-tag n s 80 82 73 t, begins-tag n s 82 78 71 t) (go (linNode g n) refl (priNode g n) refl (rngNode g n) refl)
     where
-      go : (l : Bool) → isLin g n ≡ l → (p : Bool) → isPri g n ≡ p → (r : Bool) → isRng g n ≡ r → Is g n (cond l Lin (cond p Pri (cond r Rng Other)))
+      go : (l : Bool) → linNode g n ≡ l → (p : Bool) → priNode g n ≡ p → (r : Bool) → rngNode g n ≡ r → Is g n (cond l Lin (cond p Pri (cond r Rng Other)))
       go true a p b r c = is-lin a (tag-apart g n (bytesOf "LIN") (bytesOf "PRI") refl a) (tag-apart g n (bytesOf "LIN") (bytesOf "RNG") refl a)
       go false a true b r c = is-pri a b (tag-apart g n (bytesOf "PRI") (bytesOf "RNG") refl b)
       go false a false b true c = is-rng a b c

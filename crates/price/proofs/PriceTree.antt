@@ -25,7 +25,7 @@ use Rattle.price.specs.PriceSheet.{pricesAt, pricesOfAll, pricesInTree}
 use Rattle.price.specs.PriceList.{kindOf, rngBy, rngNext, pricesFrom, noLin, pricesOf}
 use Rattle.price.proofs.PriceSteps.{prices-next}
 use Rattle.price.proofs.PriceTags.{Is, is-lin, is-pri, is-rng, is-other, tag-apart, kind-node}
-use Rattle.price.specs.PriceTable.{isLin, isPri, isRng, inLin, Priced}
+use Rattle.price.specs.PriceTable.{linNode, priNode, rngNode, inLin, Priced}
 
 -- a segment that neither begins a position nor gives a price
 data Quiet : Kind → Type 0 where
@@ -55,7 +55,7 @@ module _ (y : Syntax) (g : Guide) (t : Priced g) where
   -- below a LIN, but not right below it
   record Deep (p : ℕ) : Type 0 where
     inside : T (inLin g p)
-    no-lin : isLin g p ≡ false
+    no-lin : linNode g p ≡ false
 
   deep-quiet : (p m : ℕ) (k : Kind) → Deep p → node g m .parent ≡ p → 0 < node g m .limit → Is g m k → Quiet k × Deep m
   deep-quiet p m Lin d e l (is-lin a b c) = absurd (t .lin-out m l (T-true a) (rw e (d .inside)))
@@ -76,7 +76,7 @@ module _ (y : Syntax) (g : Guide) (t : Priced g) where
 
   -- the RNG of a price stands right behind its PRI
   only-first
-      : (z : ℕ) (b : Kids Segment) (m : ℕ) (s : Segment) (k : Kids Segment) → Kid z (then b m s k) → Limits g z (then b m s k) → isRng g m ≡ true → b ≡ none
+      : (z : ℕ) (b : Kids Segment) (m : ℕ) (s : Segment) (k : Kids Segment) → Kid z (then b m s k) → Limits g z (then b m s k) → rngNode g m ≡ true → b ≡ none
   unfolding Closed
   only-first z none m s k c h r = refl
   only-first z (then b u w j) m s k c h r = absurd (go (eqb u m) refl)
@@ -119,7 +119,7 @@ module _ (y : Syntax) (g : Guide) (t : Priced g) where
 
       go
           : (w : Kind) → kindOf (s .bytes) ≡ w → Is g m w → ((us : List Segment) → rngNext us ≡ [] → rngNext (segs b ++ us) ≡ childrenWith g (bytesOf "RNG") b)
-          → rngNext (segs b ++ rest) ≡ childrenWith g (bytesOf "RNG") b ++ onlyIf (isRng g m) s
+          → rngNext (segs b ++ rest) ≡ childrenWith g (bytesOf "RNG") b ++ onlyIf (rngNode g m) s
       go Lin a (is-lin l p r) ih = ih rest (no-rng s (segs k ++ ts) Lin a refl) ∙ rw r (sym (append-nil _))
       go Pri a (is-pri l p r) ih = ih rest (no-rng s (segs k ++ ts) Pri a refl) ∙ rw r (sym (append-nil _))
       go Other a (is-other l p r) ih = ih rest (no-rng s (segs k ++ ts) Other a refl) ∙ rw r (sym (append-nil _))
@@ -132,7 +132,7 @@ module _ (y : Syntax) (g : Guide) (t : Priced g) where
   listed n lin q = record { position = n; lin = lin; price = q }
 
   below-lin
-      : (x : ℕ) (f : Kids Segment) → Kid x f → T (isLin g x) → T (inLin g x) → (n : ℕ) (lin : Segment) (ts : List Segment) → rngNext ts ≡ []
+      : (x : ℕ) (f : Kids Segment) → Kid x f → T (linNode g x) → T (inLin g x) → (n : ℕ) (lin : Segment) (ts : List Segment) → rngNext ts ≡ []
       → pricesFrom n lin (segs f ++ ts) ≡ map (listed n lin) (pricesUnder g f) ++ pricesFrom n lin ts
   unfolding Closed pricesUnder same
   below-lin x none c l i n lin ts e = refl
@@ -148,14 +148,14 @@ module _ (y : Syntax) (g : Guide) (t : Priced g) where
       up : node g m .parent ≡ x
       up = c .1 .under
 
-      under : isLin g m ≡ false → Deep m
+      under : linNode g m ≡ false → Deep m
       under a = record { inside = t .below-in m lm (rw up i); no-lin = a }
 
       go
           : (w : Kind) → kindOf (s .bytes) ≡ w → Is g m w
           → ((us : List Segment) → rngNext us ≡ [] → pricesFrom n lin (segs b ++ us) ≡ map (listed n lin) (pricesUnder g b) ++ pricesFrom n lin us)
           → pricesFrom n lin (segs b ++ rest)
-          ≡ map (listed n lin) (pricesUnder g b ++ onlyIf (isPri g m) (record { pri = s; rng = childrenWith g (bytesOf "RNG") k })) ++ pricesFrom n lin ts
+          ≡ map (listed n lin) (pricesUnder g b ++ onlyIf (priNode g m) (record { pri = s; rng = childrenWith g (bytesOf "RNG") k })) ++ pricesFrom n lin ts
       go Lin a (is-lin d p r) ih = absurd (t .lin-out m lm (T-true d) (rw up i))
       go Rng a (is-rng d p r) ih =
           absurd (true≢false (sym (true-T _ (t .rng-under m lm (T-true r))) ∙ tag-apart g (node g m .parent) (bytesOf "LIN") (bytesOf "PRI") refl (rw up (true-T _ l))))
@@ -206,8 +206,8 @@ module _ (y : Syntax) (g : Guide) (t : Priced g) where
   -- not below a LIN
   record Outer (p : ℕ) : Type 0 where
     outside : T (inLin g p) → ⊥
-    no-lin : T (isLin g p) → ⊥
-    no-pri : T (isPri g p) → ⊥
+    no-lin : T (linNode g p) → ⊥
+    no-pri : T (priNode g p) → ⊥
 
   outer
       : (p : ℕ) (f : Kids Segment) → Kid y g t p f → Outer p → (n : ℕ) (lin : Segment) (ts : List Segment) → rngNext ts ≡ []
@@ -236,9 +236,9 @@ module _ (y : Syntax) (g : Guide) (t : Priced g) where
       go
           : (w : Kind) → kindOf (s .bytes) ≡ w → Is g m w → ((us : List Segment) → rngNext us ≡ [] → pricesFrom n lin (segs b ++ us) ≡ after n lin (positionsIn g b) us)
           → (Outer m → (i : ℕ) (l : Segment) (us : List Segment) → rngNext us ≡ [] → pricesFrom i l (segs k ++ us) ≡ after i l (positionsIn g k) us)
-          → pricesFrom n lin (segs b ++ rest) ≡ after n lin (positionsIn g b ++ pickList (isLin g m) (position g s k ∷ []) (positionsIn g k)) ts
-      go Pri a (is-pri d q r) ih jh = absurd (o .no-lin (subst (λ (i : ℕ). T (isLin g i)) up (t .pri-under m lm (T-true q))))
-      go Rng a (is-rng d q r) ih jh = absurd (o .no-pri (subst (λ (i : ℕ). T (isPri g i)) up (t .rng-under m lm (T-true r))))
+          → pricesFrom n lin (segs b ++ rest) ≡ after n lin (positionsIn g b ++ pickList (linNode g m) (position g s k ∷ []) (positionsIn g k)) ts
+      go Pri a (is-pri d q r) ih jh = absurd (o .no-lin (subst (λ (i : ℕ). T (linNode g i)) up (t .pri-under m lm (T-true q))))
+      go Rng a (is-rng d q r) ih jh = absurd (o .no-pri (subst (λ (i : ℕ). T (priNode g i)) up (t .rng-under m lm (T-true r))))
       go Lin a (is-lin d q r) ih jh =
           ih rest (no-rng s (segs k ++ ts) Lin a refl)
           ∙ rw d
@@ -254,7 +254,7 @@ module _ (y : Syntax) (g : Guide) (t : Priced g) where
           still =
               record {
                 outside = λ i.
-                    or-cases (isLin g m) (inLin g (node g m .parent)) (λ h. rw d at h) (λ h. o .outside (subst (λ (j : ℕ). T (inLin g j)) up h)) (t .in-above m lm i);
+                    or-cases (linNode g m) (inLin g (node g m .parent)) (λ h. rw d at h) (λ h. o .outside (subst (λ (j : ℕ). T (inLin g j)) up h)) (t .in-above m lm i);
                 no-lin = λ h. rw d at h;
                 no-pri = λ h. rw q at h;
               }
