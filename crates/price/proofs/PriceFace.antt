@@ -21,8 +21,8 @@ pub use Rattle.price.proofs.PriceParted.{article-in}
 pub use Rattle.price.proofs.PricePlaces.{ArticleIn, absent, stands, InMessage, prices-in-message}
 -- a message of the same bytes further on in another delivery fills a row alike
 pub use Rattle.price.proofs.PriceMoved.{laterPrice, numbers-moved, prices-moved, prices-later, numbers-later, count-later}
--- in a proper message of PRICAT 2.0d no article is absent and each amount is exact
-pub use Rattle.price.proofs.PriceProper.{Exact, proper-exact}
+-- in a proper message of PRICAT 2.0d no article is absent, each amount is exact, and the unit is the page's or none
+pub use Rattle.price.proofs.PriceProper.{Rank, no-unit, per-year, Exact, proper-exact}
 
 -- how many prices are written: those from the k-th on, as many as fit
 pub written-count

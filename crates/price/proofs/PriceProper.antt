@@ -1,17 +1,18 @@
--- The prices of a proper message of PRICAT 2.0d: no article is absent, and each amount is exact.
+-- The prices of a proper message of PRICAT 2.0d: no article is absent, each amount is exact, and the unit is the page's or none stands.
 use Prim.Native.Nat.{ℕ, _-_, _≤_, _<_, min}
 use mathlib.Core.Path.{_≡_, refl, sym, ap, subst, _∙_}
 use mathlib.Core.Bool.{Bool, true, false, _||_}
-use mathlib.Core.List.{List, [], _∷_}
+use mathlib.Core.List.{List, [], _∷_, List·Memᴰ·cases-cons, List·Memᴰ·not-nil, nil≢cons}
+use mathlib.Core.Logic.{_⊎_, inl, inr, ⊎-elim}
 use native.Mathlib.Decide.{decLe}
 use native.Mathlib.Omega.{arith}
 use lib.ListN.{length, List·getD-eq-default}
 use lib.Dec.{T, eqb, eqb→eq}
-use lib.IntN.{pos}
+use lib.IntN.{ℤ, pos}
 use Prim.Native.String.{String}
 use borrow.Author.Tests.{lt-ltb}
 use Rattle.cut.specs.declared.service.Syntax.{Syntax}
-use Rattle.cut.specs.Bytes.{part}
+use Rattle.cut.specs.Bytes.{bytesOf, part}
 use Rattle.cut.specs.Segments.{Segment, endOf, segmentsFrom}
 use Rattle.cut.specs.Messages.{Message}
 use Rattle.cut.proofs.Parts.{part-none}
@@ -19,22 +20,23 @@ use Rattle.element.specs.Elements.{component}
 use Rattle.element.specs.Components.{componentAt, spanIn}
 use Rattle.element.specs.Plain.{plain, same}
 use Rattle.element.specs.declared.components.Span.{Span}
+use Rattle.element.specs.declared.formats.Format.the-variants.{AnUpTo}
 use Rattle.element.specs.Numeral.{minus, fraction, digits, isNumber, decimal}
 use Rattle.element.specs.Number.{signed}
 use Rattle.element.proofs.ComponentFace.{component-bytes}
 use Rattle.element.proofs.ValueFace.{n-up-to-fits, fits-amount}
 use Rattle.guide.specs.Nodes.{Guide, node, message}
 use Rattle.guide.specs.Pricat.{pricat20d}
-use Rattle.guide.specs.Page.{Page, Row}
-use Rattle.guide.specs.Composites.{basis}
+use Rattle.guide.specs.Page.{Page, Row, may, codes, elementOf, rowOf}
+use Rattle.guide.specs.Composites.{C509, basis}
 use Rattle.guide.specs.Pages20d.{LIN, PRI, pages20d, pageOf}
 use Rattle.guide.specs.Content.{text, Filled, Holds}
 use Rattle.guide.specs.Checks.{every, implies}
 use Rattle.guide.specs.Sheet.{isTag}
 use Rattle.guide.specs.Accepted.{Each, segmentsOf, Proper}
 use Rattle.guide.proofs.Basics.{or-cases, implied, every-at}
-use Rattle.guide.proofs.Contents.{price-format, article-stands}
-use Rattle.price.specs.PriceNumbers.{Listed, articleIn, articlePlace, articleLength, priceIn, amountOf, decimalsOf, numbersOf}
+use Rattle.guide.proofs.Contents.{holds-unused, holds-code, price-format, article-stands}
+use Rattle.price.specs.PriceNumbers.{Listed, articleIn, articlePlace, articleLength, priceIn, amountOf, decimalsOf, unitRank, numbersOf}
 use Rattle.price.specs.PriceSheet.{pricesInTree}
 use Rattle.price.specs.PriceList.{pricesOf}
 use Rattle.price.specs.PriceCalls.{pricesIn}
@@ -64,10 +66,36 @@ unfolding pricat20d every isTag same pageOf pages20d LIN
 lin-page n t =
     either (linNode pricat20d) 16 23 n tt (tagged-in pricat20d 76 (73 ∷ 78 ∷ []) n t) t (λ e. ("Z01" ∷ "Z09" ∷ [], ap pageOf e)) (λ e. ("Z09" ∷ [], ap pageOf e))
 
-pri-page : (n : ℕ) → T (priNode pricat20d n) → (rows : List Row) × (pageOf n ≡ PRI rows)
+pri-page : (n : ℕ) → T (priNode pricat20d n) → (rows : List Row) × (pageOf n ≡ PRI rows) × ((rows ≡ basis) ⊎ (rows ≡ []))
 unfolding pricat20d every isTag same pageOf pages20d PRI
 pri-page n t =
-    either (priNode pricat20d) 19 24 n tt (tagged-in pricat20d 80 (82 ∷ 73 ∷ []) n t) t (λ e. (basis, ap pageOf e)) (λ e. ([], ap pageOf e))
+    either (priNode pricat20d) 19 24 n tt (tagged-in pricat20d 80 (82 ∷ 73 ∷ []) n t) t (λ e. (basis, ap pageOf e, inl refl)) (λ e. ([], ap pageOf e, inr refl))
+
+-- the unit that a page lets stand
+abbrev Unit-text : Syntax → List ℕ → Type 0
+Unit-text y s = (text y s 1 5 ≡ []) ⊎ (text y s 1 5 ≡ bytesOf "ANN")
+
+unit-known : (y : Syntax) (rows : List Row) (s : List ℕ) → (rows ≡ basis) ⊎ (rows ≡ []) → Holds y (PRI rows) s → Unit-text y s
+unfolding PRI C509 basis codes elementOf rowOf
+unit-known y rows s (inr e) h = inl (holds-unused y (PRI rows) s h 1 5 (omega arith) (rw e))
+unit-known y rows s (inl e) h = go (text y s 1 5) refl
+  where
+    go : (t : List ℕ) → text y s 1 5 ≡ t → Unit-text y s
+    go [] p = inl p
+    go (x ∷ xs) p =
+        let m =
+        holds-code y (PRI rows) s h 1 5 (omega arith) may (AnUpTo 8) (bytesOf "ANN" ∷ []) (rw e) (λ z. nil≢cons (sym z ∙ p)) (λ z. nil≢cons (sym z)) in
+        ⊎-elim (λ q. inr q) (λ q. absurd (List·Memᴰ·not-nil q)) (List·Memᴰ·cases-cons m)
+
+-- its rank on the page, and 0 if there is none
+pub data Rank (y : Syntax) (s : List ℕ) (z : ℤ) : Type 0 where
+  no-unit : text y s 1 5 ≡ [] → z ≡ pos 0 → Rank y s z
+  per-year : text y s 1 5 ≡ bytesOf "ANN" → z ≡ pos 1 → Rank y s z
+
+unit-ranked : (y : Syntax) (s : List ℕ) → Unit-text y s → Rank y s (unitRank y s)
+unfolding unitRank text same
+unit-ranked y s (inl e) = no-unit e (rw e)
+unit-ranked y s (inr e) = per-year e (rw e)
 
 -- what the numbers of a price say in an accepted message
 pub record Exact (y : Syntax) (base : ℕ) (q : Listed) : Type 0 where
@@ -83,6 +111,8 @@ pub record Exact (y : Syntax) (base : ℕ) (q : Listed) : Type 0 where
   pub amount :
       numbersOf y base q .amount ≡ signed (minus (text y (q .price .pri .bytes) 1 1)) (decimal (digits (text y (q .price .pri .bytes) 1 1)))
   pub decimals : numbersOf y base q .decimals ≡ pos (length (fraction (text y (q .price .pri .bytes) 1 1)))
+  -- the unit is the page's, or none stands
+  pub unit : Rank y (q .price .pri .bytes) (numbersOf y base q .unit)
 
 -- an article that stands has a place
 article-some : (y : Syntax) (d : List ℕ) (a z : ℕ) (lin : Segment) → Lies d a z lin → Filled y (lin .bytes) 3 0 → articleIn y (lin .start) (lin .bytes) .start < articleIn y (lin .start) (lin .bytes) .end
@@ -120,6 +150,7 @@ exact y d base z q l c =
       short = m .1;
       amount = ap amountOf n;
       decimals = ap decimalsOf n;
+      unit = unit-ranked y (q .price .pri .bytes) (unit-known y (pri .0) (q .price .pri .bytes) (pri .2) k);
     }
 
 each-exact
