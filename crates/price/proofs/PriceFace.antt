@@ -20,13 +20,13 @@ pub use Rattle.price.proofs.PriceLies.{Lies, Stands, PriceLies, prices-
 pub use Rattle.price.proofs.PriceParted.{article-in}
 pub use Rattle.price.proofs.PricePlaces.{ArticleIn, absent, stands, InMessage, prices-in-message}
 -- a message of the same bytes further on in another delivery fills a row alike
-pub use Rattle.price.proofs.PriceMoved.{laterPrice, numbers-moved, prices-moved, prices-later, numbers-later, count-later}
+pub use Rattle.price.proofs.PriceMoved.{laterPrice, numbers-moved, prices-moved, prices-later, row-later, filled-later}
 -- in a proper message of PRICAT 2.0d no article is absent, each amount is exact, and the unit is the page's or none
 pub use Rattle.price.proofs.PriceProper.{Rank, no-unit, per-year, Exact, proper-exact}
 
 -- how many prices are written: those from the k-th on, as many as fit
 pub written-count
-    : (y : Syntax) (start k : ℕ) (row : List ℤ) (qs : List Listed) → filledOf row (numbersFrom y start k qs) qs .written ≡ min (length row / 8) (length qs - k)
+    : (y : Syntax) (start k : ℕ) (row : List ℤ) (qs : List Listed) → filledOf y start k qs row .written ≡ min (length row / 8) (length qs - k)
 unfolding filledOf fitting numbersFrom
 written-count y start k row qs = rw (length-take, length-map, length-drop)
 

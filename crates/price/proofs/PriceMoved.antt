@@ -8,6 +8,7 @@ use native.Mathlib.Decide.{decLe}
 use native.Mathlib.Omega.{arith}
 use lib.ListN.{length, drop, length-map}
 use lib.Dec.{eqb, ltb}
+use lib.IntN.{ℤ}
 use borrow.Author.Tests.{lt-ltb, le-ltb}
 use Rattle.cut.specs.declared.service.Syntax.{Syntax}
 use Rattle.cut.specs.Bytes.{part}
@@ -22,7 +23,7 @@ use Rattle.price.specs.declared.kinds.Kind.{Kind}
 use Rattle.price.specs.declared.kinds.Kind.the-variants.{Lin, Pri, Rng, Other}
 use Rattle.price.specs.PriceNumbers.{Listed, articleIn, articlePlace, articleLength, placeOfFirst, numbersOf}
 use Rattle.price.specs.PriceList.{kindOf, rngBy, rngNext, numberBy, linBy, priceBy, pricesFrom, noLin, pricesOf}
-use Rattle.price.specs.PriceCalls.{pricesIn, numbersFrom}
+use Rattle.price.specs.PriceCalls.{pricesIn, numbersFrom, filledOf, rowAfter}
 
 -- the same component, part and price k places later
 abbrev laterComponent : ℕ → Component → Component
@@ -153,8 +154,7 @@ module _ (y : Syntax) (d d′ : List ℕ) (k start end : ℕ) (bytes : part (k +
   unfolding pricesIn
   prices-later = rw (bytes, segments-moved y k start false (part start end d)) (prices-moved k start (segmentsFrom y start false (part start end d)))
 
-  -- they fill a row alike, from any price on
-  pub numbers-later : (n : ℕ) → numbersFrom y (k + start) n (pricesIn y d′ (k + start) (k + end)) ≡ numbersFrom y start n (pricesIn y d start end)
+  numbers-later : (n : ℕ) → numbersFrom y (k + start) n (pricesIn y d′ (k + start) (k + end)) ≡ numbersFrom y start n (pricesIn y d start end)
   unfolding numbersFrom
   numbers-later n =
       map-drop (numbersOf y (k + start)) n (pricesIn y d′ (k + start) (k + end))
@@ -163,6 +163,13 @@ module _ (y : Syntax) (d d′ : List ℕ) (k start end : ℕ) (bytes : part (k +
       ∙ map-same (numbersOf y (k + start)) (laterPrice k) (numbersOf y start) (numbers-moved k y start) (pricesIn y d start end))
       ∙ sym (map-drop (numbersOf y start) n (pricesIn y d start end))
 
-  -- and have as many prices
-  pub count-later : length (pricesIn y d′ (k + start) (k + end)) ≡ length (pricesIn y d start end)
-  count-later = ap length prices-later ∙ length-map (pricesIn y d start end) (laterPrice k)
+  -- they fill a row alike, from any price on, and the answer is the same
+  pub row-later : (n : ℕ) (row : List ℤ) → rowAfter y (k + start) n (pricesIn y d′ (k + start) (k + end)) row ≡ rowAfter y start n (pricesIn y d start end) row
+  unfolding rowAfter
+  row-later n row = rw (numbers-later n)
+
+  pub filled-later : (n : ℕ) (row : List ℤ) → filledOf y (k + start) n (pricesIn y d′ (k + start) (k + end)) row ≡ filledOf y start n (pricesIn y d start end) row
+  unfolding filledOf
+  filled-later n row =
+      let c : length (pricesIn y d′ (k + start) (k + end)) ≡ length (pricesIn y d start end) = ap length prices-later ∙ length-map (pricesIn y d start end) (laterPrice k) in
+      rw (numbers-later n, c)

@@ -21,8 +21,8 @@ use Rattle.price.specs.declared.numbers.Numbers.{Numbers}
 use Rattle.price.specs.declared.filling.Filled.{Filled}
 use Rattle.price.specs.PriceNumbers.{Listed, placeOfFirst, numbersOf}
 use Rattle.price.specs.PriceList.{kindOf, rngBy, rngNext, linBy, priceBy, pricesFrom, noLin, pricesOf}
-use Rattle.price.specs.PriceRows.{fitting, filledRow}
-use Rattle.price.specs.PriceCalls.{numbersFrom, filledOf}
+use Rattle.price.specs.PriceRows.{fitting}
+use Rattle.price.specs.PriceCalls.{numbersFrom, filledOf, rowAfter}
 use Rattle.price.specs.PriceParts.{segmentsAt, segmentIn, headSpot, addBy, movedBy, rngIn, listedIn, putFound, countedOf, Within, NextWithin, Holding}
 use Rattle.price.proofs.PriceSpots.{Spotted, spotted, spot-nothing}
 use Rattle.price.proofs.PriceRuns.{putAll, put-all}
@@ -140,8 +140,8 @@ module _ (y : Syntax) (d : List ℕ) (start k : ℕ) where
   module _ (row₀ row : List ℤ) (seen : ℕ) (p : Held) (spot : Spot) (i : Filling row₀ row seen p spot) where
     -- no segment is left
     pub filling-out
-        : (r : Filled) → spot ≡ Nothing → r ≡ countedOf seen k (length row) → (r ≡ filledOf row₀ wanted all) × (row ≡ filledRow wanted row₀)
-    unfolding pricesFrom putAll numbersFrom countedOf filledOf fitting
+        : (r : Filled) → spot ≡ Nothing → r ≡ countedOf seen k (length row) → (r ≡ filledOf y start k all row₀) × (row ≡ rowAfter y start k all row₀)
+    unfolding pricesFrom putAll numbersFrom countedOf filledOf rowAfter fitting
     filling-out r h c =
         let n : segmentsAt y d (i .at) ≡ [] = spot-nothing y d (i .at) (sym h ∙ i .here) in
         let t : seen ≡ length all = sym (add-zero seen) ∙ rw n at (i .total) in
