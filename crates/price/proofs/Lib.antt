@@ -15,5 +15,6 @@ pub mod PriceCounted
 pub mod PricePlaces
 pub mod PriceComes
 pub mod PriceProper
+pub mod PriceNumbered
 pub mod PriceFace
 pub mod PriceMoved

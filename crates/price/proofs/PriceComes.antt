@@ -16,7 +16,7 @@ use Rattle.price.specs.PriceSheet.{pricesAt, pricesOfAll, pricesInTree}
 use Rattle.price.specs.PriceTable.{linNode, priNode}
 
 module _ {A : Type 0} (P : A → Type 0) where
-  each-more : (xs ys : List A) → Each P xs → Each P ys → Each P (xs ++ ys)
+  pub each-more : (xs ys : List A) → Each P xs → Each P ys → Each P (xs ++ ys)
   unfolding Each
   each-more [] ys a b = b
   each-more (x ∷ xs) ys a b = (a .0, each-more xs ys (a .1) b)

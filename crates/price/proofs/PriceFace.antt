@@ -23,6 +23,8 @@ pub use Rattle.price.proofs.PricePlaces.{ArticleIn, absent, stands, InM
 pub use Rattle.price.proofs.PriceMoved.{laterPrice, numbers-moved, prices-moved, prices-later, row-later, filled-later}
 -- in a proper message of PRICAT 2.0d no article is absent, each amount is exact, and the unit is the page's or none
 pub use Rattle.price.proofs.PriceProper.{Rank, no-unit, per-year, Exact, proper-exact}
+-- in a proper message of any such table the position is the number that the LIN itself gives
+pub use Rattle.price.proofs.PriceNumbered.{Placed, proper-placed}
 
 -- how many prices are written: those from the k-th on, as many as fit
 pub written-count
