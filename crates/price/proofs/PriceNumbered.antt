@@ -1,8 +1,8 @@
 -- The position in a price's numbers is its LIN's own number, in every proper message.
-use Prim.Native.Nat.{ℕ, suc, _+_, _<_}
+use Prim.Native.Nat.{ℕ, _+_, _<_}
 use mathlib.Core.Path.{_≡_, refl, sym, ap, subst, _∙_}
 use mathlib.Core.Bool.{Bool, true, false}
-use mathlib.Core.List.{List, [], _∷_, _++_, map, append-nil, append-assoc}
+use mathlib.Core.List.{List, [], _∷_, _++_, map, append-assoc}
 use native.Mathlib.Numerals.{add-one}
 use lib.Dec.{T}
 use Rattle.cut.specs.declared.service.Syntax.{Syntax}
