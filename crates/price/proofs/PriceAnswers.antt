@@ -1,16 +1,14 @@
 -- What the workers of the eight numbers answer, case by case.
 use Prim.Native.Nat.{ℕ, _-_, _^_, _≤_, _<_, min, max}
-use mathlib.Core.Path.{_≡_, refl, sym, ap, subst, _∙_}
+use mathlib.Core.Path.{_≡_, sym, ap, subst, _∙_}
 use mathlib.Core.Bool.{Bool, true, false, cond}
-use mathlib.Core.List.{List, [], _∷_}
-use native.Mathlib.Omega.{arith}
+use mathlib.Core.List.{List, []}
 use lib.ListN.{length}
-use lib.Dec.{ltb}
 use lib.IntN.{ℤ, pos, negsuc}
 use borrow.Author.Tests.{lt-ltb, le-ltb}
 use mir.Syntax.{w64}
-use mir.Val.{toZ}
-use mir.Facts.{toZ-pos}
+use mir.Val.{SFits, toZ, ofZ}
+use mir.Facts.{toZ-pos, toZ-ofZ}
 use Rattle.cut.specs.declared.service.Syntax.{Syntax}
 use Rattle.cut.specs.Bytes.{part, bytesOf}
 use Rattle.cut.specs.Segments.{Segment}
@@ -28,7 +26,6 @@ use Rattle.price.specs.declared.kinds.Kind.the-variants.{Rng}
 use Rattle.price.specs.declared.spots.Spot.{Spot}
 use Rattle.price.specs.declared.spots.Spot.the-variants.{At, Nothing}
 use Rattle.price.specs.declared.spots.Held.{Held}
-use Rattle.price.specs.declared.numbers.Numbers.{Numbers}
 use Rattle.price.specs.PriceNumbers.{articleIn, articlePlace, articleLength, priceIn, amountOf, decimalsOf, unitRank, placeOfFirst, numbersOf}
 use Rattle.price.specs.PriceList.{rngBy}
 use Rattle.price.specs.PriceParts.{rngIn, listedIn, Within}
@@ -41,6 +38,10 @@ article-stands base a z h e = rw (lt-ltb _ _ h) e
 pub article-absent : (base : ℕ) (a : Span) → a .end ≤ a .start → negsuc 0 ≡ articlePlace base a
 unfolding articlePlace
 article-absent base a h = rw (le-ltb _ _ h)
+
+-- a signed number comes back from its bits as it was
+pub kept : (z v : ℤ) → SFits w64 z → z ≡ v → toZ w64 (ofZ w64 z) ≡ v
+kept z v f h = toZ-ofZ f ∙ h
 
 pub amount-is : (n : Number) (v : ℤ) (k : ℕ) → n ≡ number.Amount v k → v ≡ amountOf n
 amount-is n v k h = rw h

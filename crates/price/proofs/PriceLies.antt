@@ -29,6 +29,11 @@ pub record Lies (d : List ℕ) (a z : ℕ) (s : Segment) : Type 0 where
   pub to : endOf s ≤ z
   pub bytes : s .bytes ≡ part (s .start) (endOf s) d
 
+-- one that has bytes
+pub record Stands (d : List ℕ) (a z : ℕ) (s : Segment) : Type 0 where
+  pub lies : Lies d a z s
+  pub some : 0 < length (s .bytes)
+
 lies-first
     : (y : Syntax) (d : List ℕ) (at : ℕ) (r : Bool) (s : Segment) (ss : List Segment) → First y at r (drop at d) s ss → Lies d at (length d) s
 unfolding part
@@ -41,34 +46,34 @@ lies-first y d at r s ss f =
       bytes = rw (k, f .starts) (f .bytes);
     }
 
-each-from : (d : List ℕ) (a b z : ℕ) (ss : List Segment) → a ≤ b → Each (Lies d b z) ss → Each (Lies d a z) ss
+each-from : (d : List ℕ) (a b z : ℕ) (ss : List Segment) → a ≤ b → Each (Stands d b z) ss → Each (Stands d a z) ss
 unfolding Each
 each-from d a b z [] h e = tt
-each-from d a b z (s ∷ ss) h e = (record { from = omega (arith, e .0 .from); to = e .0 .to; bytes = e .0 .bytes }, each-from d a b z ss h (e .1))
+each-from d a b z (s ∷ ss) h e = (record { lies = record { from = omega (arith, e .0 .lies .from); to = e .0 .lies .to; bytes = e .0 .lies .bytes }; some = e .0 .some }, each-from d a b z ss h (e .1))
 
 -- the segments from a place on
-segments-lie : (y : Syntax) (d : List ℕ) (at : ℕ) (r : Bool) (ss : List Segment) → segmentsFrom y at r (drop at d) ≡ ss → Each (Lies d at (length d)) ss
+segments-lie : (y : Syntax) (d : List ℕ) (at : ℕ) (r : Bool) (ss : List Segment) → segmentsFrom y at r (drop at d) ≡ ss → Each (Stands d at (length d)) ss
 unfolding Each
 segments-lie y d at r [] h = tt
 segments-lie y d at r (s ∷ ss) h =
     let f = first y at r (drop at d) s ss h in
     let e : segmentsFrom y (at + length (s .bytes)) false (drop (at + length (s .bytes)) d) ≡ ss = rw (← drop-drop (length (s .bytes)) at d) (sym (f .rest)) in
-    (lies-first y d at r s ss f, each-from d at (at + length (s .bytes)) (length d) ss (omega arith) (segments-lie y d (at + length (s .bytes)) false ss e))
+    (record { lies = lies-first y d at r s ss f; some = f .some }, each-from d at (at + length (s .bytes)) (length d) ss (omega arith) (segments-lie y d (at + length (s .bytes)) false ss e))
 
 -- a price whose segments stand in d between the places a and z
 pub record PriceLies (d : List ℕ) (a z : ℕ) (q : Listed) : Type 0 where
   pub lin : Lies d a z (q .lin)
-  pub pri : Lies d a z (q .price .pri)
-  pub rng : Each (Lies d a z) (q .price .rng)
+  pub pri : Stands d a z (q .price .pri)
+  pub rng : Each (Stands d a z) (q .price .rng)
 
-rng-lies : (d : List ℕ) (a z : ℕ) (k : Kind) (s : Segment) → Lies d a z s → Each (Lies d a z) (rngBy k s)
+rng-lies : (d : List ℕ) (a z : ℕ) (k : Kind) (s : Segment) → Stands d a z s → Each (Stands d a z) (rngBy k s)
 unfolding Each
 rng-lies d a z Rng s l = (l, tt)
 rng-lies d a z Lin s l = tt
 rng-lies d a z Pri s l = tt
 rng-lies d a z Other s l = tt
 
-next-lies : (d : List ℕ) (a z : ℕ) (ss : List Segment) → Each (Lies d a z) ss → Each (Lies d a z) (rngNext ss)
+next-lies : (d : List ℕ) (a z : ℕ) (ss : List Segment) → Each (Stands d a z) ss → Each (Stands d a z) (rngNext ss)
 unfolding Each rngNext
 next-lies d a z [] e = tt
 next-lies d a z (s ∷ ss) e = rng-lies d a z (kindOf (s .bytes)) s (e .0)
@@ -87,12 +92,12 @@ price-lies d a z Rng q qs l e = e
 price-lies d a z Other q qs l e = e
 
 prices-lie
-    : (d : List ℕ) (a z n : ℕ) (lin : Segment) (ss : List Segment) → Lies d a z lin → Each (Lies d a z) ss → Each (PriceLies d a z) (pricesFrom n lin ss)
+    : (d : List ℕ) (a z n : ℕ) (lin : Segment) (ss : List Segment) → Lies d a z lin → Each (Stands d a z) ss → Each (PriceLies d a z) (pricesFrom n lin ss)
 unfolding pricesFrom Each
 prices-lie d a z n lin [] l e = tt
 prices-lie d a z n lin (s ∷ ss) l e =
     price-lies d a z (kindOf (s .bytes)) _ _ (record { lin = l; pri = e .0; rng = next-lies d a z ss (e .1) })
-    (prices-lie d a z (numberBy (kindOf (s .bytes)) n) (linBy (kindOf (s .bytes)) s lin) ss (lin-lies d a z (kindOf (s .bytes)) s lin (e .0) l) (e .1))
+    (prices-lie d a z (numberBy (kindOf (s .bytes)) n) (linBy (kindOf (s .bytes)) s lin) ss (lin-lies d a z (kindOf (s .bytes)) s lin (e .0 .lies) l) (e .1))
 
 -- what stands in a front of d stands in d
 lies-front : (d : List ℕ) (m a : ℕ) (s : Segment) → m ≤ length d → Lies (part 0 m d) a m s → Lies d a m s
@@ -102,23 +107,23 @@ lies-front d m a s h l =
     let w : 0 + endOf s ≡ endOf s = omega arith in
     record { from = l .from; to = l .to; bytes = l .bytes ∙ rw (part-part d 0 m (s .start) (endOf s) k, z, w) }
 
-each-front : (d : List ℕ) (m a : ℕ) (ss : List Segment) → m ≤ length d → Each (Lies (part 0 m d) a m) ss → Each (Lies d a m) ss
+each-front : (d : List ℕ) (m a : ℕ) (ss : List Segment) → m ≤ length d → Each (Stands (part 0 m d) a m) ss → Each (Stands d a m) ss
 unfolding Each
 each-front d m a [] h e = tt
-each-front d m a (s ∷ ss) h e = (lies-front d m a s h (e .0), each-front d m a ss h (e .1))
+each-front d m a (s ∷ ss) h e = (record { lies = lies-front d m a s h (e .0 .lies); some = e .0 .some }, each-front d m a ss h (e .1))
 
 module _ (y : Syntax) (d : List ℕ) (start end : ℕ) where
   -- the place after the message's last byte
   abbrev pub close : ℕ
   close = min end (length d)
 
-  segments-in : start ≤ close → Each (Lies d start close) (segmentsFrom y start false (part start end d))
+  segments-in : start ≤ close → Each (Stands d start close) (segmentsFrom y start false (part start end d))
   segments-in h =
       let l : length (part 0 close d) ≡ close = length-part d 0 close (omega arith) ∙ omega arith in
       let z : 0 + start ≡ start = omega arith in
       let p : drop start (part 0 close d) ≡ part start end d = drop-part d 0 close start (omega arith) (omega arith) ∙ rw z (limited d start end close refl) in
       each-front d close start _ (omega arith)
-      (subst (λ (m : ℕ). Each (Lies (part 0 close d) start m) (segmentsFrom y start false (part start end d))) l
+      (subst (λ (m : ℕ). Each (Stands (part 0 close d) start m) (segmentsFrom y start false (part start end d))) l
       (segments-lie y (part 0 close d) start false _ (rw p)))
 
   -- the prices of a message lie in it

@@ -1,6 +1,6 @@
 -- The answers for a part of the delivery, from those for all that follows its start.
-use Prim.Native.Nat.{ℕ, zero, suc, _+_, _-_, _≤_, _<_, min, max}
-use mathlib.Core.Path.{_≡_, refl, sym, ap, subst, _∙_}
+use Prim.Native.Nat.{ℕ, zero, suc, _+_, _-_, _≤_, _<_, min}
+use mathlib.Core.Path.{_≡_, sym, ap, subst, _∙_}
 use mathlib.Core.Bool.{Bool, true, false, cond}
 use mathlib.Core.List.{List, [], _∷_}
 use native.Mathlib.Omega.{arith}
@@ -22,9 +22,8 @@ use Rattle.price.specs.declared.spots.Held.{Held}
 use Rattle.price.specs.declared.filling.Filled.{Filled}
 use Rattle.price.specs.PriceNumbers.{Listed, articleIn}
 use Rattle.price.specs.PriceList.{pricesFrom, pricesOf}
-use Rattle.price.specs.PriceRows.{filledRow}
-use Rattle.price.specs.PriceCalls.{pricesIn, numbersFrom, filledOf, firstArticle, articleAt}
-use Rattle.price.specs.PriceParts.{segmentsAt, Holding, HeldFirst, HeldAt}
+use Rattle.price.specs.PriceCalls.{pricesIn, filledOf, rowAfter, firstArticle, articleAt}
+use Rattle.price.specs.PriceParts.{segmentsAt, HeldFirst, HeldAt}
 use Rattle.price.proofs.PriceAnswers.{component-bounds}
 use Rattle.price.proofs.PriceLies.{PriceLies, prices-in-lie, article-lies}
 
@@ -64,7 +63,7 @@ module _ (y : Syntax) (d : List ℕ) (start end : ℕ) where
     -- the row and the answer for these prices
     module _ (row row′ : List ℤ) (r : Filled) where
       abbrev Fills : List Listed → Type 0
-      Fills qs = (r ≡ filledOf row (numbersFrom y start k qs) qs) × (row′ ≡ filledRow (numbersFrom y start k qs) row)
+      Fills qs = (r ≡ filledOf y start k qs row) × (row′ ≡ rowAfter y start k qs row)
 
       pub fills-all : length d ≤ end → Fills (pricesOf start (segmentsAt y d start)) → Fills (pricesIn y d start end)
       fills-all h f = subst Fills (all-in h) f

@@ -13,7 +13,6 @@ use Rattle.price.specs.declared.kinds.Kind.{Kind}
 use Rattle.price.specs.declared.kinds.Kind.the-variants.{Lin, Pri, Rng, Other}
 use Rattle.price.specs.declared.numbers.Numbers.{Numbers}
 use Rattle.price.specs.PriceList.{isPri}
-use Rattle.price.specs.PriceRows.{eight}
 use Rattle.price.specs.PriceParts.{putRow, putFound, countedOf}
 
 pub counted-by : (w seen k n : ℕ) → w ≡ min (n / 8) (seen - k) → record { written = w; total = seen } ≡ countedOf seen k n

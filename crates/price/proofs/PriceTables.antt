@@ -1,7 +1,7 @@
 -- What the computed test gives, once for every table that passes it; both editions of PRICAT pass.
 use Prim.Native.Nat.{ℕ, _<_}
-use mathlib.Core.Path.{_≡_, refl}
-use mathlib.Core.Bool.{Bool, true, false, not, _&&_, _||_}
+use mathlib.Core.Path.{_≡_}
+use mathlib.Core.Bool.{Bool, not, _&&_, _||_}
 use lib.ListN.{length}
 use lib.Dec.{T, eqb, ltb, eqb→eq, ltb→lt, T-not}
 use Rattle.element.specs.Plain.{same}
@@ -11,7 +11,7 @@ use Rattle.guide.specs.Checks.{every, implies}
 use Rattle.guide.specs.Sheet.{isTag}
 use Rattle.guide.proofs.Basics.{and-left, and-right, or-left, or-right, or-cases, implied, eq-T, every-at}
 use Rattle.guide.proofs.Tables.{in-table}
-use Rattle.price.specs.PriceTable.{isLin, isPri, isRng, inLinBy, inLin, upRule, linRule, priRule, comesFirst, rngRule, priced, Priced}
+use Rattle.price.specs.PriceTable.{linNode, priNode, rngNode, inLinBy, inLin, upRule, linRule, priRule, comesFirst, rngRule, priced, Priced}
 
 module _ (g : Guide) (test : T (priced g)) where
   abbrev row : ℕ → Bool
@@ -21,7 +21,7 @@ module _ (g : Guide) (test : T (priced g)) where
   above n = inLin g (node g n .parent)
 
   abbrev outmost : Bool
-  outmost = not (isLin g 0) && not (isPri g 0)
+  outmost = not (linNode g 0) && not (priNode g 0)
 
   roots : T (not (inLin g 0) && outmost)
   unfolding priced
@@ -34,11 +34,11 @@ module _ (g : Guide) (test : T (priced g)) where
   up-rule : (n : ℕ) → 0 < node g n .limit → T (upRule g n)
   up-rule n h = and-left (upRule g n) (linRule g n && (priRule g n && rngRule g n)) (rules n h)
 
-  enters : (n : ℕ) → 0 < node g n .limit → T (isLin g n || above n) → T (inLin g n)
-  enters n h t = implied (isLin g n || above n) (inLin g n) (and-left (implies (isLin g n || above n) (inLin g n)) (implies (inLin g n) (isLin g n || above n)) (up-rule n h)) t
+  enters : (n : ℕ) → 0 < node g n .limit → T (linNode g n || above n) → T (inLin g n)
+  enters n h t = implied (linNode g n || above n) (inLin g n) (and-left (implies (linNode g n || above n) (inLin g n)) (implies (inLin g n) (linNode g n || above n)) (up-rule n h)) t
 
-  stays : (n : ℕ) → 0 < node g n .limit → T (inLin g n) → T (isLin g n || above n)
-  stays n h t = implied (inLin g n) (isLin g n || above n) (and-right (implies (isLin g n || above n) (inLin g n)) (implies (inLin g n) (isLin g n || above n)) (up-rule n h)) t
+  stays : (n : ℕ) → 0 < node g n .limit → T (inLin g n) → T (linNode g n || above n)
+  stays n h t = implied (inLin g n) (linNode g n || above n) (and-right (implies (linNode g n || above n) (inLin g n)) (implies (inLin g n) (linNode g n || above n)) (up-rule n h)) t
 
   tags : (n : ℕ) → 0 < node g n .limit → T (linRule g n && (priRule g n && rngRule g n))
   tags n h = and-right (upRule g n) (linRule g n && (priRule g n && rngRule g n)) (rules n h)
@@ -46,14 +46,14 @@ module _ (g : Guide) (test : T (priced g)) where
   pri-rule : (n : ℕ) → 0 < node g n .limit → T (priRule g n)
   pri-rule n h = and-left (priRule g n) (rngRule g n) (and-right (linRule g n) (priRule g n && rngRule g n) (tags n h))
 
-  rng-rule : (n : ℕ) → 0 < node g n .limit → T (isRng g n) → T (isPri g (node g n .parent) && (eqb (node g n .limit) 1 && every (comesFirst g n) (length g)))
-  rng-rule n h t = implied (isRng g n) _ (and-right (priRule g n) (rngRule g n) (and-right (linRule g n) (priRule g n && rngRule g n) (tags n h))) t
+  rng-rule : (n : ℕ) → 0 < node g n .limit → T (rngNode g n) → T (priNode g (node g n .parent) && (eqb (node g n .limit) 1 && every (comesFirst g n) (length g)))
+  rng-rule n h t = implied (rngNode g n) _ (and-right (priRule g n) (rngRule g n) (and-right (linRule g n) (priRule g n && rngRule g n) (tags n h))) t
 
-  rng-more : (n : ℕ) → 0 < node g n .limit → T (isRng g n) → T (eqb (node g n .limit) 1 && every (comesFirst g n) (length g))
-  rng-more n h t = and-right (isPri g (node g n .parent)) _ (rng-rule n h t)
+  rng-more : (n : ℕ) → 0 < node g n .limit → T (rngNode g n) → T (eqb (node g n .limit) 1 && every (comesFirst g n) (length g))
+  rng-more n h t = and-right (priNode g (node g n .parent)) _ (rng-rule n h t)
 
   first
-      : (n m : ℕ) → 0 < node g n .limit → T (isRng g n) → 0 < node g m .limit → node g m .parent ≡ node g n .parent → (m ≡ n → ⊥)
+      : (n m : ℕ) → 0 < node g n .limit → T (rngNode g n) → 0 < node g m .limit → node g m .parent ≡ node g n .parent → (m ≡ n → ⊥)
       → node g n .counter < node g m .counter
   first n m h t k e d =
       let c = every-at (comesFirst g n) (length g) m (and-right (eqb (node g n .limit) 1) _ (rng-more n h t)) (in-table g m k) in
@@ -64,14 +64,14 @@ module _ (g : Guide) (test : T (priced g)) where
   priced-gives =
       record {
         root = T-not (inLin g 0) (and-left (not (inLin g 0)) outmost roots);
-        root-lin = T-not (isLin g 0) (and-left (not (isLin g 0)) (not (isPri g 0)) (and-right (not (inLin g 0)) outmost roots));
-        root-pri = T-not (isPri g 0) (and-right (not (isLin g 0)) (not (isPri g 0)) (and-right (not (inLin g 0)) outmost roots));
-        lin-in = λ n h t. enters n h (or-left (isLin g n) (above n) t);
-        below-in = λ n h t. enters n h (or-right (isLin g n) (above n) t);
+        root-lin = T-not (linNode g 0) (and-left (not (linNode g 0)) (not (priNode g 0)) (and-right (not (inLin g 0)) outmost roots));
+        root-pri = T-not (priNode g 0) (and-right (not (linNode g 0)) (not (priNode g 0)) (and-right (not (inLin g 0)) outmost roots));
+        lin-in = λ n h t. enters n h (or-left (linNode g n) (above n) t);
+        below-in = λ n h t. enters n h (or-right (linNode g n) (above n) t);
         in-above = stays;
-        lin-out = λ n h t. T-not (above n) (implied (isLin g n) (not (above n)) (and-left (linRule g n) (priRule g n && rngRule g n) (tags n h)) t);
-        pri-under = λ n h t. implied (isPri g n) (isLin g (node g n .parent)) (pri-rule n h) t;
-        rng-under = λ n h t. and-left (isPri g (node g n .parent)) _ (rng-rule n h t);
+        lin-out = λ n h t. T-not (above n) (implied (linNode g n) (not (above n)) (and-left (linRule g n) (priRule g n && rngRule g n) (tags n h)) t);
+        pri-under = λ n h t. implied (priNode g n) (linNode g (node g n .parent)) (pri-rule n h) t;
+        rng-under = λ n h t. and-left (priNode g (node g n .parent)) _ (rng-rule n h t);
         rng-once = λ n h t. eqb→eq (node g n .limit) 1 (and-left (eqb (node g n .limit) 1) _ (rng-more n h t));
         rng-first = first;
       }

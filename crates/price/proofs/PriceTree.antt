@@ -1,74 +1,31 @@
 -- The prices by the first three bytes of each segment are those read off the tree, for every table that passes.
-use Prim.Native.Nat.{ℕ, _+_, _≤_, _<_}
+use Prim.Native.Nat.{ℕ, _+_, _<_}
 use mathlib.Core.Path.{_≡_, refl, sym, ap, ap₂, _∙_, subst}
-use mathlib.Core.Bool.{Bool, true, false, cond, _&&_, true≢false, false≢true}
+use mathlib.Core.Bool.{Bool, true, false, true≢false, false≢true}
 use mathlib.Core.List.{List, [], _∷_, _++_, map, append-assoc, append-nil}
 use native.Mathlib.Nat.{add-zero}
 use native.Mathlib.Omega.{arith}
-use lib.ListN.{length, take, length-append}
-use lib.Dec.{T, eqb, ltb}
+use lib.ListN.{length, length-append}
+use lib.Dec.{T, eqb}
 use borrow.Author.Tests.{eq-eqb, eqb-false}
 use Rattle.cut.specs.declared.service.Syntax.{Syntax}
-use Rattle.cut.specs.Bytes.{bytesOf, begins}
+use Rattle.cut.specs.Bytes.{bytesOf}
 use Rattle.cut.specs.Segments.{Segment}
 use Rattle.element.specs.Plain.{same}
-use Rattle.guide.specs.Nodes.{View, Guide, node, matches, takes}
-use Rattle.guide.specs.Views.{viewOf}
-use Rattle.guide.specs.Tree.{Kids, none, then, one, segs, count, top, Limits, Next, Closed, Whole}
-use Rattle.guide.specs.Sheet.{Price, Position, onlyIf, pickList, isTag, childrenWith, pricesOf as pricesUnder, position, positionsIn}
+use Rattle.guide.specs.Nodes.{Guide, node, takes}
+use Rattle.guide.specs.Tree.{Kids, none, then, one, segs, Limits, Next, Closed, Whole}
+use Rattle.guide.specs.Sheet.{Price, Position, onlyIf, pickList, childrenWith, pricesOf as pricesUnder, position, positionsIn}
 use Rattle.guide.specs.Accepted.{seen}
-use Rattle.guide.proofs.Basics.{T-true, true-T, and-left, and-right, or-cases, same-eq, map-append}
-use Rattle.guide.proofs.Tables.{takes-matches, takes-limit}
+use Rattle.guide.proofs.Basics.{T-true, true-T, or-cases, map-append}
+use Rattle.guide.proofs.Tables.{takes-limit}
 use Rattle.price.specs.declared.kinds.Kind.{Kind}
 use Rattle.price.specs.declared.kinds.Kind.the-variants.{Lin, Pri, Rng, Other}
 use Rattle.price.specs.PriceNumbers.{Listed}
 use Rattle.price.specs.PriceSheet.{pricesAt, pricesOfAll, pricesInTree}
-use Rattle.price.specs.PriceList.{kindOf, rngNext, pricesFrom, noLin, pricesOf}
-use Rattle.price.proofs.PriceWalk.{prices-next}
-use Rattle.price.specs.PriceTable.{isLin, isPri, isRng, inLin, Priced}
-
--- the raw tag is the node's
-begins-same : (w b : List ℕ) → begins w b ≡ same (take (length w) b) w
-unfolding begins same
-begins-same [] b = refl
-begins-same (x ∷ w) [] = refl
-begins-same (x ∷ w) (c ∷ b) = ap (λ (q : Bool). eqb c x && q) (begins-same w b)
-
--- a node is of one kind
-pub data Is (g : Guide) (n : ℕ) : Kind → Type 0 where
-  is-lin : isLin g n ≡ true → isPri g n ≡ false → isRng g n ≡ false → Is g n Lin
-  is-pri : isLin g n ≡ false → isPri g n ≡ true → isRng g n ≡ false → Is g n Pri
-  is-rng : isLin g n ≡ false → isPri g n ≡ false → isRng g n ≡ true → Is g n Rng
-  is-other : isLin g n ≡ false → isPri g n ≡ false → isRng g n ≡ false → Is g n Other
-
--- two different tags are not both a node's
-tag-apart : (g : Guide) (n : ℕ) (t u : List ℕ) → same t u ≡ false → isTag g t n ≡ true → isTag g u n ≡ false
-unfolding isTag
-tag-apart g n t u d h =
-    let e : node g n .tag ≡ t = same-eq _ _ (T-true h) in
-    rw e d
-
-module _ (y : Syntax) (g : Guide) where
-  node-tag : (n : ℕ) (s : Segment) → T (takes g n (seen y s)) → node g n .tag ≡ take 3 (s .bytes)
-  unfolding matches viewOf
-  node-tag n s t =
-      let m = and-right (ltb 0 (node g n .limit)) _ (takes-matches g n (seen y s) t) in
-      same-eq (node g n .tag) (take 3 (s .bytes)) (and-left (same (node g n .tag) (take 3 (s .bytes))) _ m)
-
-  begins-tag : (n : ℕ) (s : Segment) (a b c : ℕ) → T (takes g n (seen y s)) → begins (a ∷ b ∷ c ∷ []) (s .bytes) ≡ isTag g (a ∷ b ∷ c ∷ []) n
-  unfolding isTag
-  begins-tag n s a b c t = begins-same (a ∷ b ∷ c ∷ []) (s .bytes) ∙ rw (node-tag n s t)
-
-  -- the kind of a segment is its node's
-  kind-node : (n : ℕ) (s : Segment) → T (takes g n (seen y s)) → Is g n (kindOf (s .bytes))
-  unfolding kindOf same
-  kind-node n s t = rw (begins-tag n s 76 73 78 t, begins-tag n s 80 82 73 t, begins-tag n s 82 78 71 t) (go (isLin g n) refl (isPri g n) refl (isRng g n) refl)
-    where
-      go : (l : Bool) → isLin g n ≡ l → (p : Bool) → isPri g n ≡ p → (r : Bool) → isRng g n ≡ r → Is g n (cond l Lin (cond p Pri (cond r Rng Other)))
-      go true a p b r c = is-lin a (tag-apart g n (bytesOf "LIN") (bytesOf "PRI") refl a) (tag-apart g n (bytesOf "LIN") (bytesOf "RNG") refl a)
-      go false a true b r c = is-pri a b (tag-apart g n (bytesOf "PRI") (bytesOf "RNG") refl b)
-      go false a false b true c = is-rng a b c
-      go false a false b false c = is-other a b c
+use Rattle.price.specs.PriceList.{kindOf, rngBy, rngNext, pricesFrom, noLin, pricesOf}
+use Rattle.price.proofs.PriceSteps.{prices-next}
+use Rattle.price.proofs.PriceTags.{Is, is-lin, is-pri, is-rng, is-other, tag-apart, kind-node}
+use Rattle.price.specs.PriceTable.{linNode, priNode, rngNode, inLin, Priced}
 
 -- a segment that neither begins a position nor gives a price
 data Quiet : Kind → Type 0 where
@@ -79,12 +36,9 @@ skip : (n : ℕ) (lin s : Segment) (ss : List Segment) (k : Kind) → kindOf (s 
 skip n lin s ss Rng e quiet-rng = prices-next n lin s ss Rng e
 skip n lin s ss Other e quiet-other = prices-next n lin s ss Other e
 
-no-rng : (s : Segment) (ss : List Segment) (k : Kind) → kindOf (s .bytes) ≡ k → (k ≡ Rng → ⊥) → rngNext (s ∷ ss) ≡ []
+no-rng : (s : Segment) (ss : List Segment) (k : Kind) → kindOf (s .bytes) ≡ k → rngBy k s ≡ [] → rngNext (s ∷ ss) ≡ []
 unfolding rngNext
-no-rng s ss Rng e d = absurd (d refl)
-no-rng s ss Lin e d = rw e
-no-rng s ss Pri e d = rw e
-no-rng s ss Other e d = rw e
+no-rng s ss k e d = rw e d
 
 rng-here : (s : Segment) (ss : List Segment) → kindOf (s .bytes) ≡ Rng → rngNext (s ∷ ss) ≡ s ∷ []
 unfolding rngNext
@@ -101,7 +55,7 @@ module _ (y : Syntax) (g : Guide) (t : Priced g) where
   -- below a LIN, but not right below it
   record Deep (p : ℕ) : Type 0 where
     inside : T (inLin g p)
-    no-lin : isLin g p ≡ false
+    no-lin : linNode g p ≡ false
 
   deep-quiet : (p m : ℕ) (k : Kind) → Deep p → node g m .parent ≡ p → 0 < node g m .limit → Is g m k → Quiet k × Deep m
   deep-quiet p m Lin d e l (is-lin a b c) = absurd (t .lin-out m l (T-true a) (rw e (d .inside)))
@@ -122,7 +76,7 @@ module _ (y : Syntax) (g : Guide) (t : Priced g) where
 
   -- the RNG of a price stands right behind its PRI
   only-first
-      : (z : ℕ) (b : Kids Segment) (m : ℕ) (s : Segment) (k : Kids Segment) → Kid z (then b m s k) → Limits g z (then b m s k) → isRng g m ≡ true → b ≡ none
+      : (z : ℕ) (b : Kids Segment) (m : ℕ) (s : Segment) (k : Kids Segment) → Kid z (then b m s k) → Limits g z (then b m s k) → rngNode g m ≡ true → b ≡ none
   unfolding Closed
   only-first z none m s k c h r = refl
   only-first z (then b u w j) m s k c h r = absurd (go (eqb u m) refl)
@@ -165,10 +119,10 @@ module _ (y : Syntax) (g : Guide) (t : Priced g) where
 
       go
           : (w : Kind) → kindOf (s .bytes) ≡ w → Is g m w → ((us : List Segment) → rngNext us ≡ [] → rngNext (segs b ++ us) ≡ childrenWith g (bytesOf "RNG") b)
-          → rngNext (segs b ++ rest) ≡ childrenWith g (bytesOf "RNG") b ++ onlyIf (isRng g m) s
-      go Lin a (is-lin l p r) ih = ih rest (no-rng s (segs k ++ ts) Lin a (λ q. let z : _≡_ {A = ℕ} 0 1 = cc in omega arith)) ∙ rw r (sym (append-nil _))
-      go Pri a (is-pri l p r) ih = ih rest (no-rng s (segs k ++ ts) Pri a (λ q. let z : _≡_ {A = ℕ} 0 1 = cc in omega arith)) ∙ rw r (sym (append-nil _))
-      go Other a (is-other l p r) ih = ih rest (no-rng s (segs k ++ ts) Other a (λ q. let z : _≡_ {A = ℕ} 0 1 = cc in omega arith)) ∙ rw r (sym (append-nil _))
+          → rngNext (segs b ++ rest) ≡ childrenWith g (bytesOf "RNG") b ++ onlyIf (rngNode g m) s
+      go Lin a (is-lin l p r) ih = ih rest (no-rng s (segs k ++ ts) Lin a refl) ∙ rw r (sym (append-nil _))
+      go Pri a (is-pri l p r) ih = ih rest (no-rng s (segs k ++ ts) Pri a refl) ∙ rw r (sym (append-nil _))
+      go Other a (is-other l p r) ih = ih rest (no-rng s (segs k ++ ts) Other a refl) ∙ rw r (sym (append-nil _))
       go Rng a (is-rng l p r) ih =
           let o = only-first z b m s k c h r in
           rw (o, r) (rng-here s (segs k ++ ts) a)
@@ -178,7 +132,7 @@ module _ (y : Syntax) (g : Guide) (t : Priced g) where
   listed n lin q = record { position = n; lin = lin; price = q }
 
   below-lin
-      : (x : ℕ) (f : Kids Segment) → Kid x f → T (isLin g x) → T (inLin g x) → (n : ℕ) (lin : Segment) (ts : List Segment) → rngNext ts ≡ []
+      : (x : ℕ) (f : Kids Segment) → Kid x f → T (linNode g x) → T (inLin g x) → (n : ℕ) (lin : Segment) (ts : List Segment) → rngNext ts ≡ []
       → pricesFrom n lin (segs f ++ ts) ≡ map (listed n lin) (pricesUnder g f) ++ pricesFrom n lin ts
   unfolding Closed pricesUnder same
   below-lin x none c l i n lin ts e = refl
@@ -194,24 +148,24 @@ module _ (y : Syntax) (g : Guide) (t : Priced g) where
       up : node g m .parent ≡ x
       up = c .1 .under
 
-      under : isLin g m ≡ false → Deep m
+      under : linNode g m ≡ false → Deep m
       under a = record { inside = t .below-in m lm (rw up i); no-lin = a }
 
       go
           : (w : Kind) → kindOf (s .bytes) ≡ w → Is g m w
           → ((us : List Segment) → rngNext us ≡ [] → pricesFrom n lin (segs b ++ us) ≡ map (listed n lin) (pricesUnder g b) ++ pricesFrom n lin us)
           → pricesFrom n lin (segs b ++ rest)
-          ≡ map (listed n lin) (pricesUnder g b ++ onlyIf (isPri g m) (record { pri = s; rng = childrenWith g (bytesOf "RNG") k })) ++ pricesFrom n lin ts
+          ≡ map (listed n lin) (pricesUnder g b ++ onlyIf (priNode g m) (record { pri = s; rng = childrenWith g (bytesOf "RNG") k })) ++ pricesFrom n lin ts
       go Lin a (is-lin d p r) ih = absurd (t .lin-out m lm (T-true d) (rw up i))
       go Rng a (is-rng d p r) ih =
           absurd (true≢false (sym (true-T _ (t .rng-under m lm (T-true r))) ∙ tag-apart g (node g m .parent) (bytesOf "LIN") (bytesOf "PRI") refl (rw up (true-T _ l))))
       go Other a (is-other d p r) ih =
-          ih rest (no-rng s (segs k ++ ts) Other a (λ q. let z : _≡_ {A = ℕ} 0 1 = cc in omega arith))
+          ih rest (no-rng s (segs k ++ ts) Other a refl)
           ∙ ap (λ (qs : List Listed). map (listed n lin) (pricesUnder g b) ++ qs)
           (skip n lin s (segs k ++ ts) Other a quiet-other ∙ deep m k (c .2) (under d) n lin ts)
           ∙ rw (p, append-nil (pricesUnder g b))
       go Pri a (is-pri d p r) ih =
-          ih rest (no-rng s (segs k ++ ts) Pri a (λ q. let z : _≡_ {A = ℕ} 0 1 = cc in omega arith))
+          ih rest (no-rng s (segs k ++ ts) Pri a refl)
           ∙ ap (λ (qs : List Listed). map (listed n lin) (pricesUnder g b) ++ qs)
           (prices-next n lin s (segs k ++ ts) Pri a
           ∙ ap₂ _∷_ (ap (λ (rs : List Segment). listed n lin (record { pri = s; rng = rs })) (rng-children m k (c .2) (c .3) ts e)) (deep m k (c .2) (under d) n lin ts))
@@ -252,8 +206,8 @@ module _ (y : Syntax) (g : Guide) (t : Priced g) where
   -- not below a LIN
   record Outer (p : ℕ) : Type 0 where
     outside : T (inLin g p) → ⊥
-    no-lin : T (isLin g p) → ⊥
-    no-pri : T (isPri g p) → ⊥
+    no-lin : T (linNode g p) → ⊥
+    no-pri : T (priNode g p) → ⊥
 
   outer
       : (p : ℕ) (f : Kids Segment) → Kid y g t p f → Outer p → (n : ℕ) (lin : Segment) (ts : List Segment) → rngNext ts ≡ []
@@ -282,25 +236,25 @@ module _ (y : Syntax) (g : Guide) (t : Priced g) where
       go
           : (w : Kind) → kindOf (s .bytes) ≡ w → Is g m w → ((us : List Segment) → rngNext us ≡ [] → pricesFrom n lin (segs b ++ us) ≡ after n lin (positionsIn g b) us)
           → (Outer m → (i : ℕ) (l : Segment) (us : List Segment) → rngNext us ≡ [] → pricesFrom i l (segs k ++ us) ≡ after i l (positionsIn g k) us)
-          → pricesFrom n lin (segs b ++ rest) ≡ after n lin (positionsIn g b ++ pickList (isLin g m) (position g s k ∷ []) (positionsIn g k)) ts
-      go Pri a (is-pri d q r) ih jh = absurd (o .no-lin (subst (λ (i : ℕ). T (isLin g i)) up (t .pri-under m lm (T-true q))))
-      go Rng a (is-rng d q r) ih jh = absurd (o .no-pri (subst (λ (i : ℕ). T (isPri g i)) up (t .rng-under m lm (T-true r))))
+          → pricesFrom n lin (segs b ++ rest) ≡ after n lin (positionsIn g b ++ pickList (linNode g m) (position g s k ∷ []) (positionsIn g k)) ts
+      go Pri a (is-pri d q r) ih jh = absurd (o .no-lin (subst (λ (i : ℕ). T (linNode g i)) up (t .pri-under m lm (T-true q))))
+      go Rng a (is-rng d q r) ih jh = absurd (o .no-pri (subst (λ (i : ℕ). T (priNode g i)) up (t .rng-under m lm (T-true r))))
       go Lin a (is-lin d q r) ih jh =
-          ih rest (no-rng s (segs k ++ ts) Lin a (λ q. let z : _≡_ {A = ℕ} 0 1 = cc in omega arith))
+          ih rest (no-rng s (segs k ++ ts) Lin a refl)
           ∙ rw d
           (after-append n lin (positionsIn g b) (position g s k ∷ []) ts rest
           (prices-next n′ lin′ s (segs k ++ ts) Lin a
           ∙ below-lin y g t m k (c .2) (T-true d) (t .lin-in m lm (T-true d)) (n′ + 1) s ts e
           ∙ ap (λ (qs : List Listed). qs ++ pricesFrom (n′ + 1) s ts) (sym (append-nil (pricesAt (n′ + 1) (position g s k))))))
       go Other a (is-other d q r) ih jh =
-          ih rest (no-rng s (segs k ++ ts) Other a (λ q. let z : _≡_ {A = ℕ} 0 1 = cc in omega arith))
+          ih rest (no-rng s (segs k ++ ts) Other a refl)
           ∙ rw d (after-append n lin (positionsIn g b) (positionsIn g k) ts rest (skip n′ lin′ s (segs k ++ ts) Other a quiet-other ∙ jh still n′ lin′ ts e))
         where
           still : Outer m
           still =
               record {
                 outside = λ i.
-                    or-cases (isLin g m) (inLin g (node g m .parent)) (λ h. rw d at h) (λ h. o .outside (subst (λ (j : ℕ). T (inLin g j)) up h)) (t .in-above m lm i);
+                    or-cases (linNode g m) (inLin g (node g m .parent)) (λ h. rw d at h) (λ h. o .outside (subst (λ (j : ℕ). T (inLin g j)) up h)) (t .in-above m lm i);
                 no-lin = λ h. rw d at h;
                 no-pri = λ h. rw q at h;
               }

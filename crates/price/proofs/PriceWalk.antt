@@ -1,7 +1,6 @@
 -- The walk over a message's segments that fills the row, in the words of what the workers answer.
 use Prim.Native.Nat.{ℕ, suc, _+_, _-_, _/_, _^_, _≤_, _<_, min}
-use mathlib.Core.Path.{_≡_, refl, sym, ap, ap₂, _∙_}
-use mathlib.Core.Bool.{Bool, true, false, cond}
+use mathlib.Core.Path.{_≡_, refl, sym, _∙_}
 use mathlib.Core.List.{List, [], _∷_, map}
 use native.Mathlib.Decide.{decLe}
 use native.Mathlib.Nat.{add-zero, zero-add}
@@ -13,8 +12,6 @@ use borrow.Author.Tests.{le-leb, lt-leb}
 use Rattle.cut.specs.declared.service.Syntax.{Syntax}
 use Rattle.cut.specs.Bytes.{part}
 use Rattle.cut.specs.Segments.{Segment, endOf}
-use Rattle.cut.proofs.First.{Cutting}
-use Rattle.cut.proofs.Parts.{part-none}
 use Rattle.price.specs.declared.kinds.Kind.{Kind}
 use Rattle.price.specs.declared.kinds.Kind.the-variants.{Lin, Pri, Rng, Other}
 use Rattle.price.specs.declared.spots.Spot.{Spot}
@@ -22,13 +19,14 @@ use Rattle.price.specs.declared.spots.Spot.the-variants.{At, Nothing}
 use Rattle.price.specs.declared.spots.Held.{Held}
 use Rattle.price.specs.declared.numbers.Numbers.{Numbers}
 use Rattle.price.specs.declared.filling.Filled.{Filled}
-use Rattle.price.specs.PriceNumbers.{Listed, articleIn, placeOfFirst, numbersOf}
-use Rattle.price.specs.PriceList.{kindOf, rngBy, rngNext, numberBy, linBy, priceBy, pricesFrom, noLin, pricesOf}
-use Rattle.price.specs.PriceRows.{fitting, filledRow}
-use Rattle.price.specs.PriceCalls.{numbersFrom, filledOf}
-use Rattle.price.specs.PriceParts.{segmentsAt, segmentIn, headSpot, addBy, movedBy, rngIn, listedIn, putRow, putFound, countedOf, Within, NextWithin, Holding}
+use Rattle.price.specs.PriceNumbers.{Listed, placeOfFirst, numbersOf}
+use Rattle.price.specs.PriceList.{kindOf, rngBy, rngNext, linBy, priceBy, pricesFrom, noLin, pricesOf}
+use Rattle.price.specs.PriceRows.{fitting}
+use Rattle.price.specs.PriceCalls.{numbersFrom, filledOf, rowAfter}
+use Rattle.price.specs.PriceParts.{segmentsAt, segmentIn, headSpot, addBy, movedBy, rngIn, listedIn, putFound, countedOf, Within, NextWithin, Holding}
 use Rattle.price.proofs.PriceSpots.{Spotted, spotted, spot-nothing}
 use Rattle.price.proofs.PriceRuns.{putAll, put-all}
+use Rattle.price.proofs.PriceSteps.{Standing, firstHeld, standing-first, standing-on, standing-within, this, this-starts, this-bytes, price, behind, step}
 
 -- the RNG that stands next is all that a price's numbers say of it: its place
 rng-spot : (base : ℕ) (d : List ℕ) (k : Kind) (s t : Segment) → s .start ≡ t .start → placeOfFirst base (rngBy k s) ≡ placeOfFirst base (rngBy k t)
@@ -52,14 +50,7 @@ numbers-here
 unfolding numbersOf
 numbers-here y d base p lin pri s e ss next w a b h = rw (w .starts, w .bytes, a, b, rng-next base d ss next h)
 
--- one segment further, by its kind
-pub prices-next
-    : (n : ℕ) (lin s : Segment) (ss : List Segment) (k : Kind) → kindOf (s .bytes) ≡ k
-    → pricesFrom n lin (s ∷ ss)
-    ≡ priceBy k (record { position = n; lin = lin; price = record { pri = s; rng = rngNext ss } }) (pricesFrom (numberBy k n) (linBy k s lin) ss)
-unfolding pricesFrom
-prices-next n lin s ss k h = rw h
-
+-- how many prices, and what is in the row, one segment further
 count-next : (k : Kind) (q : Listed) (qs : List Listed) (seen : ℕ) → seen + length (priceBy k q qs) ≡ seen + addBy k + length qs
 count-next Pri q qs seen = omega arith
 count-next Lin q qs seen = omega arith
@@ -103,23 +94,6 @@ unfoldable pub leftTo : List ℕ → Spot → ℕ
 leftTo d Nothing = 0
 leftTo d (At s k e) = suc (length d - s)
 
--- the position after a segment from s to e
-pub record Moved (d : List ℕ) (start : ℕ) (p : Held) (n : ℕ) (lin : Segment) (e : ℕ) : Type 0 where
-  pub holds : Holding d p lin
-  pub number : p .number ≡ n
-  pub from : start ≤ p .start
-  pub to : p .start ≤ e
-  pub few : p .number ≤ e
-
-pub moved
-    : (d : List ℕ) (start : ℕ) (p : Held) (lin t : Segment) (at s e : ℕ) (k : Kind) → Holding d p lin → t .start ≡ s → t .bytes ≡ part s e d → start ≤ p .start
-    → p .start ≤ at → p .number ≤ at → at ≤ s → s < e → Moved d start (movedBy k p s e) (numberBy k (p .number)) (linBy k t lin) e
-moved d start p lin t at s e Lin h a b f g n u v =
-    record { holds = record { starts = a; bytes = b }; number = refl; from = omega arith; to = omega arith; few = omega arith }
-moved d start p lin t at s e Pri h a b f g n u v = record { holds = h; number = refl; from = f; to = omega arith; few = omega arith }
-moved d start p lin t at s e Rng h a b f g n u v = record { holds = h; number = refl; from = f; to = omega arith; few = omega arith }
-moved d start p lin t at s e Other h a b f g n u v = record { holds = h; number = refl; from = f; to = omega arith; few = omega arith }
-
 few-next : (k : Kind) (seen at e : ℕ) → seen ≤ at → at < e → seen + addBy k ≤ e
 few-next Pri seen at e h l = omega arith
 few-next Lin seen at e h l = omega arith
@@ -138,19 +112,16 @@ module _ (y : Syntax) (d : List ℕ) (start k : ℕ) where
   pub record Filling (row₀ row : List ℤ) (seen : ℕ) (p : Held) (spot : Spot) : Type 0 where
     pub at : ℕ
     pub lin : Segment
-    pub holds : Holding d p lin
+    pub stands : Standing d start at p lin
     pub here : spot ≡ headSpot (segmentsAt y d at)
     pub total : seen + length (pricesFrom (p .number) lin (segmentsAt y d at)) ≡ length all
     pub filled :
         putAll row (seen - k) (numbersFrom y start (k - seen) (pricesFrom (p .number) lin (segmentsAt y d at))) ≡ putAll row₀ 0 wanted
     pub size : length row ≡ length row₀
     pub few : seen ≤ at
-    pub number : p .number ≤ at
-    pub from : start ≤ p .start
-    pub to : p .start ≤ at
 
   pub filling-first
-      : (row : List ℤ) (spot : Spot) → spot ≡ headSpot (segmentsAt y d start) → Filling row row 0 (record { number = 0; start = start; end = start }) spot
+      : (row : List ℤ) (spot : Spot) → spot ≡ headSpot (segmentsAt y d start) → Filling row row 0 (firstHeld start) spot
   unfolding pricesOf
   filling-first row spot h =
       let z : 0 - k ≡ 0 = omega arith in
@@ -158,22 +129,19 @@ module _ (y : Syntax) (d : List ℕ) (start k : ℕ) where
       record {
         at = start;
         lin = noLin start;
-        holds = record { starts = refl; bytes = sym (part-none d start start (omega arith)) };
+        stands = standing-first d start;
         here = h;
         total = zero-add _;
         filled = rw (z, w);
         size = refl;
         few = omega arith;
-        number = omega arith;
-        from = omega arith;
-        to = omega arith;
       }
 
   module _ (row₀ row : List ℤ) (seen : ℕ) (p : Held) (spot : Spot) (i : Filling row₀ row seen p spot) where
     -- no segment is left
     pub filling-out
-        : (r : Filled) → spot ≡ Nothing → r ≡ countedOf seen k (length row) → (r ≡ filledOf row₀ wanted all) × (row ≡ filledRow wanted row₀)
-    unfolding pricesFrom putAll numbersFrom countedOf filledOf fitting
+        : (r : Filled) → spot ≡ Nothing → r ≡ countedOf seen k (length row) → (r ≡ filledOf y start k all row₀) × (row ≡ rowAfter y start k all row₀)
+    unfolding pricesFrom putAll numbersFrom countedOf filledOf rowAfter fitting
     filling-out r h c =
         let n : segmentsAt y d (i .at) ≡ [] = spot-nothing y d (i .at) (sym h ∙ i .here) in
         let t : seen ≡ length all = sym (add-zero seen) ∙ rw n at (i .total) in
@@ -186,14 +154,12 @@ module _ (y : Syntax) (d : List ℕ) (start k : ℕ) where
       took = spotted y d (i .at) s kind e (sym is ∙ i .here)
 
       pub filling-within : Within start p d
-      filling-within =
-          let q = took .cuts in
-          record { number = omega (arith, i .number, q .some, q .fits); from = i .from; to = omega (arith, i .to, q .some, q .fits) }
+      filling-within = standing-within y d (i .at) s kind e took start p (i .lin) (i .stands)
 
       pub filling-place : (start ≤ s) × (s ≤ length d)
       filling-place =
           let q = took .cuts in
-          (omega (arith, i .from, i .to, q .starts), omega (arith, q .some, q .fits, q .starts))
+          (omega (arith, i .stands .from, i .stands .to, q .starts), omega (arith, q .some, q .fits, q .starts))
 
       pub filling-few : (n : ℕ) → n ≡ addBy kind → seen + n ≤ length d
       filling-few n h =
@@ -205,7 +171,7 @@ module _ (y : Syntax) (d : List ℕ) (start k : ℕ) where
         filling-next l =
             let q = took .cuts in
             record {
-              from = λ a b c f. let z = spotted y d e a b c (sym f ∙ then) .cuts in omega (arith, z .starts, q .some, i .from, i .to);
+              from = λ a b c f. let z = spotted y d e a b c (sym f ∙ then) .cuts in omega (arith, z .starts, q .some, i .stands .from, i .stands .to);
               fits = λ a b c f. let z = spotted y d e a b c (sym f ∙ then) .cuts in omega (arith, z .starts, z .some, z .fits);
             }
 
@@ -220,41 +186,27 @@ module _ (y : Syntax) (d : List ℕ) (start k : ℕ) where
                 let z = spotted y d e a b c (sym f ∙ then) .cuts in
                 omega (arith, q .starts, q .some, q .fits, z .starts)
 
-        -- the segment itself
-        abbrev this : Segment
-        this = record { start = i .at; bytes = part (i .at) e d; piece = took .piece }
-
-        abbrev price : Listed
-        price = record { position = p .number; lin = i .lin; price = record { pri = this; rng = rngNext (segmentsAt y d e) } }
-
-        abbrev left : List Listed
-        left = pricesFrom (numberBy kind (p .number)) (linBy kind this (i .lin)) (segmentsAt y d e)
-
-        step : pricesFrom (p .number) (i .lin) (segmentsAt y d (i .at)) ≡ priceBy kind price left
-        step =
-            let q = took .cuts in
-            let f : kindOf (part (i .at) e d) ≡ kind = rw (← q .starts) (sym (took .kind)) in
-            ap (pricesFrom (p .number) (i .lin)) (q .list) ∙ prices-next (p .number) (i .lin) this (segmentsAt y d e) kind f
-
         pub filling-on
             : (row′ : List ℤ) (n : ℕ) (p′ : Held) → row′ ≡ putFound kind k seen (numbersOf y start (listedIn d p s e next)) row → length row′ ≡ length row
             → n ≡ addBy kind → p′ ≡ movedBy kind p s e → Filling row₀ row′ (seen + n) p′ next
         filling-on row′ n p′ a b c f =
             let q = took .cuts in
-            let m = moved d start p (i .lin) this (i .at) s e kind (i .holds) (sym (q .starts)) (rw (q .starts)) (i .from) (i .to) (i .number) (omega (arith, q .starts)) (omega (arith, q .starts, q .some)) in
-            let g = numbers-here y d start p (i .lin) this s e (segmentsAt y d e) next (i .holds) (sym (q .starts)) (rw (q .starts)) then in
-            let o : row′ ≡ putFound kind k seen (numbersOf y start price) row = rw g a in
+            let here = this y d (i .at) s kind e took in
+            let found = price y d (i .at) s kind e took start p (i .lin) (i .stands) in
+            let left = behind y d (i .at) s kind e took start p (i .lin) (i .stands) in
+            let on = step y d (i .at) s kind e took start p (i .lin) (i .stands) in
+            let g =
+            numbers-here y d start p (i .lin) here s e (segmentsAt y d e) next (i .stands .holds) (this-starts y d (i .at) s kind e took)
+            (this-bytes y d (i .at) s kind e took) then in
+            let o : row′ ≡ putFound kind k seen (numbersOf y start found) row = rw g a in
             rw (c, f)
             (record {
               at = e;
-              lin = linBy kind this (i .lin);
-              holds = m .holds;
+              lin = linBy kind here (i .lin);
+              stands = standing-on y d (i .at) s kind e took start p (i .lin) (i .stands);
               here = then;
-              total = rw (m .number) (sym (count-next kind price left seen) ∙ rw step at (i .total));
-              filled = rw (m .number, o) (sym (fill-next y start k seen row price left kind) ∙ rw step at (i .filled));
+              total = sym (count-next kind found left seen) ∙ rw on at (i .total);
+              filled = rw o (sym (fill-next y start k seen row found left kind) ∙ rw on at (i .filled));
               size = b ∙ i .size;
               few = few-next kind seen (i .at) e (i .few) (q .some);
-              number = m .few;
-              from = m .from;
-              to = m .to;
             })

@@ -1,5 +1,5 @@
 -- What each public call answers, for every delivery, place and number.
-use Prim.Native.Nat.{ℕ, min}
+use Prim.Native.Nat.{ℕ, _+_, min}
 use mathlib.Core.Path.{_≡_}
 use mathlib.Core.Bool.{false, cond}
 use mathlib.Core.List.{List, [], _∷_, map}
@@ -7,7 +7,6 @@ use lib.Dec.{ltb}
 use lib.ListN.{length, drop}
 use lib.IntN.{ℤ}
 use denote.Ref.{RefT, now, ptr}
-use Prim.Native.Nat.{_+_}
 use Rattle.cut.specs.declared.service.Syntax.{Syntax}
 use Rattle.cut.specs.Bytes.{part}
 use Rattle.cut.specs.Segments.{segmentsFrom}
@@ -16,7 +15,7 @@ use Rattle.price.specs.declared.numbers.Numbers.{Numbers}
 use Rattle.price.specs.declared.filling.Filled.{Filled}
 use Rattle.price.specs.PriceNumbers.{Listed, articleIn, numbersOf}
 use Rattle.price.specs.PriceList.{pricesOf}
-use Rattle.price.specs.PriceRows.{fitting}
+use Rattle.price.specs.PriceRows.{fitting, filledRow}
 
 -- the prices of the message from start to end
 unfoldable pub pricesIn : Syntax → List ℕ → ℕ → ℕ → List Listed
@@ -26,9 +25,13 @@ pricesIn y d start end = pricesOf start (segmentsFrom y start false (part start 
 unfoldable pub numbersFrom : Syntax → ℕ → ℕ → List Listed → List Numbers
 numbersFrom y start k qs = map (numbersOf y start) (drop k qs)
 
--- "how many were written and how many the message has"
-unfoldable pub filledOf : List ℤ → List Numbers → List Listed → Filled
-filledOf row ps qs = record { written = length (fitting row ps); total = length qs }
+-- fill: "how many were written and how many the message has", where these are its prices
+unfoldable pub filledOf : Syntax → ℕ → ℕ → List Listed → List ℤ → Filled
+filledOf y start k qs row = record { written = length (fitting row (numbersFrom y start k qs)); total = length qs }
+
+-- and the whole row after it
+unfoldable pub rowAfter : Syntax → ℕ → ℕ → List Listed → List ℤ → List ℤ
+rowAfter y start k qs row = filledRow (numbersFrom y start k qs) row
 
 -- the article of the first of these prices; an absent one, and that of no price, is the empty part at the place m
 unfoldable pub firstArticle : Syntax → ℕ → List Listed → Span
@@ -38,7 +41,7 @@ firstArticle y m (q ∷ qs) =
     (articleIn y (q .lin .start) (q .lin .bytes))
     (record { start = m; end = m })
 
--- the article of the k-th price: "an absent one is the empty part at the message's start", which counts as the delivery's end where it is past that
+-- article, article_at: the article of the k-th price: "an absent one is the empty part at the message's start", which counts as the delivery's end where it is past that
 unfoldable pub articleAt : Syntax → List ℕ → ℕ → ℕ → ℕ → Span
 articleAt y d start end k = firstArticle y (min start (length d)) (drop k (pricesIn y d start end))
 

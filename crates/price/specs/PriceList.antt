@@ -5,7 +5,6 @@ use mathlib.Core.Bool.{Bool, true, false, cond}
 use mathlib.Core.List.{List, [], _∷_}
 use Rattle.cut.specs.Bytes.{bytesOf, begins}
 use Rattle.cut.specs.Segments.{Segment}
-use Rattle.guide.specs.Sheet.{Price}
 use Rattle.price.specs.PriceNumbers.{Listed}
 use Rattle.price.specs.declared.kinds.Kind.{Kind}
 use Rattle.price.specs.declared.kinds.Kind.the-variants.{Lin, Pri, Rng, Other}

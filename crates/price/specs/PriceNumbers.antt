@@ -1,6 +1,6 @@
 -- The eight numbers of a price. Document 01, 'What is handed out'; which component is which stands on the pages of LIN and PRI.
 use Prim.Native.Nat.{ℕ, _-_}
-use mathlib.Core.Bool.{Bool, true, false, cond}
+use mathlib.Core.Bool.{false, cond}
 use mathlib.Core.List.{List, [], _∷_}
 use lib.Dec.{ltb}
 use lib.IntN.{ℤ, pos, negsuc}

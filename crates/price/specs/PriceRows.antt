@@ -1,5 +1,5 @@
 -- Prices in a lent row. Document 01, 'What is handed out': "eight to a price, as many as fit whole .. The rest of the row is unchanged".
-use Prim.Native.Nat.{ℕ, _*_, _/_}
+use Prim.Native.Nat.{_*_, _/_}
 use mathlib.Core.List.{List, [], _∷_, _++_}
 use lib.ListN.{length, take, drop}
 use lib.IntN.{ℤ}

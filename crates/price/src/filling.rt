@@ -14,8 +14,7 @@ ghost use mathlib.Core.Path.{_≡_};
 ghost use lib.ListN.{length};
 ghost use Rattle.price.specs.PriceNumbers.{numbersOf};
 ghost use Rattle.price.specs.PriceList.{pricesOf};
-ghost use Rattle.price.specs.PriceRows.{filledRow};
-ghost use Rattle.price.specs.PriceCalls.{pricesIn, numbersFrom, filledOf};
+ghost use Rattle.price.specs.PriceCalls.{pricesIn, filledOf, rowAfter};
 ghost use Rattle.price.specs.PriceParts.{segmentsAt, listedIn, putFound, countedOf, Within, NextWithin};
 
 // How many prices were written, and how many the message has.
@@ -26,8 +25,8 @@ pub struct Filled {
 
 // The prices of the message from `start` to `end`, from the k-th on: eight numbers to a price, as many as fit whole.
 pub fn fill(y: Syntax, d: &[u8], start: usize, end: usize, k: usize, row: &mut [i64]) -> Filled
-    ensures { λ r. ⌜ r ≡ filledOf (now (row .entry)) (numbersFrom y start k (pricesIn y (now (d .entry)) start end)) (pricesIn y (now (d .entry)) start end) ⌝ }
-    ensures { λ _. ⌜ now (row .exit) ≡ filledRow (numbersFrom y start k (pricesIn y (now (d .entry)) start end)) (now (row .entry)) ⌝ }
+    ensures { λ r. ⌜ r ≡ filledOf y start k (pricesIn y (now (d .entry)) start end) (now (row .entry)) ⌝ }
+    ensures { λ _. ⌜ now (row .exit) ≡ rowAfter y start k (pricesIn y (now (d .entry)) start end) (now (row .entry)) ⌝ }
 {
     if d.len() <= end {
         return fill_from(y, d, start, k, row);
@@ -37,8 +36,8 @@ pub fn fill(y: Syntax, d: &[u8], start: usize, end: usize, k: usize, row: &mut [
 
 // The same for all segments from `start` on.
 fn fill_from(y: Syntax, d: &[u8], start: usize, k: usize, row: &mut [i64]) -> Filled
-    ensures { λ r. ⌜ r ≡ filledOf (now (row .entry)) (numbersFrom y start k (pricesOf start (segmentsAt y (now (d .entry)) start))) (pricesOf start (segmentsAt y (now (d .entry)) start)) ⌝ }
-    ensures { λ _. ⌜ now (row .exit) ≡ filledRow (numbersFrom y start k (pricesOf start (segmentsAt y (now (d .entry)) start))) (now (row .entry)) ⌝ }
+    ensures { λ r. ⌜ r ≡ filledOf y start k (pricesOf start (segmentsAt y (now (d .entry)) start)) (now (row .entry)) ⌝ }
+    ensures { λ _. ⌜ now (row .exit) ≡ rowAfter y start k (pricesOf start (segmentsAt y (now (d .entry)) start)) (now (row .entry)) ⌝ }
 {
     let mut seen = 0;
     let mut p = Held {

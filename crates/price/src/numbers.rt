@@ -9,12 +9,11 @@ use element::component_at;
 use element::is_code;
 use element::number_of;
 ghost use Prim.Native.Nat.{_-_, _^_, _≤_, _<_};
-ghost use mathlib.Core.Bool.{cond};
 ghost use mathlib.Core.Path.{_≡_};
 ghost use lib.IntN.{pos};
 ghost use lib.ListN.{length};
 ghost use Rattle.cut.specs.Bytes.{part};
-ghost use Rattle.price.specs.PriceNumbers.{articlePlace, articleLength, amountOf, decimalsOf, priceIn, unitRank, placeOfFirst, numbersOf};
+ghost use Rattle.price.specs.PriceNumbers.{articlePlace, amountOf, decimalsOf, priceIn, unitRank, placeOfFirst, numbersOf};
 ghost use Rattle.price.specs.PriceParts.{rngIn, listedIn, Within, NextWithin};
 
 // In document 01's order.

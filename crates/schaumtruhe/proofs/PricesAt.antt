@@ -8,10 +8,9 @@ use lib.ListN.{length}
 use borrow.Author.Tests.{lt-ltb, le-ltb}
 use Rattle.cut.specs.declared.service.Syntax.{Syntax}
 use Rattle.cut.specs.Messages.{Message, startOf, closeOf}
-use Rattle.price.specs.PriceCalls.{pricesIn, numbersFrom, filledOf}
+use Rattle.price.specs.PriceCalls.{pricesIn, filledOf, rowAfter}
 use Rattle.price.specs.PriceList.{pricesOf}
 use Rattle.price.specs.PriceNumbers.{Listed}
-use Rattle.price.specs.PriceRows.{filledRow}
 use Rattle.price.specs.declared.filling.Filled.{Filled}
 use Rattle.schaumtruhe.specs.Calls.{Sheet, stands, missing, sheetAt, listed, written, pricedBy, rowBy, pricedAt, rowAt}
 use Rattle.schaumtruhe.specs.Workers.{standingOf, refusalBy}
@@ -49,7 +48,7 @@ unfolding pricesIn
 listed-in y d m h = ap (pricesOf (startOf m)) (h .alone)
 
 -- how many there are
-pub is-total : (f : Filled) (row : List ℤ) (y : Syntax) (start : ℕ) (qs : List Listed) → f ≡ filledOf row (numbersFrom y start 0 qs) qs → f .total ≡ length qs
+pub is-total : (f : Filled) (row : List ℤ) (y : Syntax) (start : ℕ) (qs : List Listed) → f ≡ filledOf y start 0 qs row → f .total ≡ length qs
 unfolding filledOf
 is-total f row y start qs h = rw h
 
@@ -81,18 +80,18 @@ module _ (y : Syntax) (d : List ℕ) (at : ℕ) (sheet : Standing) (sought : she
     pub same-prices : pricesIn y d s e ≡ listed y m
     same-prices = ap₂ (pricesIn y d) (sym (found .starts)) (sym (found .closes)) ∙ listed-in y d m alone
 
-    module _ (k : ℕ) (row row′ : List ℤ) (f : Filled) (fills : f ≡ filledOf row (numbersFrom y s k (pricesIn y d s e)) (pricesIn y d s e))
-        (leaves : row′ ≡ filledRow (numbersFrom y s k (pricesIn y d s e)) row) where
-      numbers : numbersFrom y s k (pricesIn y d s e) ≡ numbersFrom y (startOf m) k (listed y m)
-      numbers = ap₂ (λ (a : ℕ) (qs : List Listed). numbersFrom y a k qs) (sym (found .starts)) same-prices
-
+    module _ (k : ℕ) (row row′ : List ℤ) (f : Filled) (fills : f ≡ filledOf y s k (pricesIn y d s e) row)
+        (leaves : row′ ≡ rowAfter y s k (pricesIn y d s e) row) where
       pub priced-written : priced.Written (f .written) (f .total) ≡ pricedAt y d at k row
       unfolding pricedAt
-      priced-written = rw (found .is) (ap written (fills ∙ ap₂ (filledOf row) numbers same-prices))
+      priced-written =
+          rw (found .is)
+          (ap written (fills ∙ ap₂ (λ (a : ℕ) (qs : List Listed). filledOf y a k qs row) (sym (found .starts)) same-prices))
 
       pub row-written : row′ ≡ rowAt y d at k row
       unfolding rowAt
-      row-written = rw (found .is) (leaves ∙ ap (λ (ps : _). filledRow ps row) numbers)
+      row-written =
+          rw (found .is) (leaves ∙ ap₂ (λ (a : ℕ) (qs : List Listed). rowAfter y a k qs row) (sym (found .starts)) same-prices)
 
   -- or a refusal
   module _ (n : ℕ) (is : sheet ≡ Refused n) where

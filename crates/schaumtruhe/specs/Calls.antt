@@ -16,10 +16,9 @@ use Rattle.guide.specs.Pages20d.{pageOf}
 use Rattle.guide.specs.Pricat.{pricat20d}
 use Rattle.guide.specs.Sheet.{pickList}
 use Rattle.verdict.specs.Verdicts.{verdictOf}
-use Rattle.price.specs.PriceCalls.{numbersFrom, filledOf, firstArticle}
+use Rattle.price.specs.PriceCalls.{filledOf, rowAfter, firstArticle}
 use Rattle.price.specs.PriceList.{pricesOf}
 use Rattle.price.specs.PriceNumbers.{Listed}
-use Rattle.price.specs.PriceRows.{filledRow}
 use Rattle.price.specs.declared.filling.Filled.{Filled}
 use Rattle.schaumtruhe.specs.declared.pricing.Priced.{Priced}
 use Rattle.schaumtruhe.specs.declared.pricing.Priced.the-variants as priced
@@ -110,11 +109,11 @@ module _ (y : Syntax) where
   listed m = pricesOf (startOf m) (segmentsOf m)
 
   abbrev pub pricedBy : Sheet → ℕ → List ℤ → Priced
-  pricedBy (stands m) k row = written (filledOf row (numbersFrom y (startOf m) k (listed m)) (listed m))
+  pricedBy (stands m) k row = written (filledOf y (startOf m) k (listed m) row)
   pricedBy (missing n) k row = priced.Refused n
 
   abbrev pub rowBy : Sheet → ℕ → List ℤ → List ℤ
-  rowBy (stands m) k row = filledRow (numbersFrom y (startOf m) k (listed m)) row
+  rowBy (stands m) k row = rowAfter y (startOf m) k (listed m) row
   rowBy (missing n) k row = row
 
   -- prices: the answer, and the whole row afterwards; a refusal "writes nothing into lent memory"

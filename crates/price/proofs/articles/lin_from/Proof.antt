@@ -43,7 +43,7 @@ sub-left c = seeking-less _ _ _ _ _ _ _ (c .before .before .before .before .befo
 moved-requires : tie.Need-moved-requires Inv-loop μ-loop
 moved-requires c κs =
     let q = seeking-some _ _ _ _ _ _ _ (c .before .before .before .before .before .before .before .loop .inv) _ (c .before .before .before .before .before .before .spot-at .ensures) _ _ _ (c .before .before .before .before .s .given .1) in
-    omega (arith, q .0, q .1, c .before .before .before .before .before .before .before .loop .inv .number)
+    omega (arith, q .0, q .1, c .before .before .before .before .before .before .before .loop .inv .stands .number)
 
 loop-less : tie.Need-loop-less Inv-loop μ-loop
 loop-less c =

@@ -1,4 +1,5 @@
 -- `price::articles::reached` meets its contract.
+use Rattle.price.proofs.PriceArticles.{reached-pri}
 use borrow.Author.Needs.{needs}
 use Rattle.price.proofs.articles.reached.Statement.{statement}
 use Rattle.price.proofs.articles.reached.Tie as tie
@@ -16,7 +17,7 @@ enum-told-4 : tie.Need-enum-told-4
 enum-told-4 c = search needs
 
 returns : tie.Need-returns
-returns c = rw (c .enum-told .given .1)
+returns c = reached-pri _ _ (c .enum-told .given .1)
 
 returns-2 : tie.Need-returns-2
 returns-2 c = search needs

@@ -1,9 +1,7 @@
 -- `price::numbers::numbers_at` meets its contract.
 use Prim.Native.Nat.{_-_, _^_, _<_}
-use mathlib.Core.Path.{_∙_}
 use native.Mathlib.Omega.{arith}
-use mir.Facts.{toZ-ofZ}
-use Rattle.price.proofs.PriceAnswers.{component-bounds, numbers-made}
+use Rattle.price.proofs.PriceAnswers.{kept, component-bounds, numbers-made}
 use borrow.Author.Needs.{needs}
 use Rattle.price.proofs.numbers.numbers_at.Statement.{statement}
 use Rattle.price.proofs.numbers.numbers_at.Tie as tie
@@ -49,17 +47,20 @@ rng-place-requires c κs = search needs
 
 returns : tie.Need-returns
 returns c =
-    let w = component-bounds _ _ _ _ _ _ _ (c .before .before .before .before .before .before .before .before .before .component-at .ensures) in
-    let p = c .before .before .before .before .before .before .before .before .before .before .before .pre .0 in
-    let f : c .before .before .before .before .before .before .before .before .before .before .before .args .p .number < 2 ^ 63 = omega (arith, p .number) in
-    let l : c .before .before .before .before .before .before .before .before .before .component-at .result .end - c .before .before .before .before .before .before .before .before .before .component-at .result .start < 2 ^ 63 = omega (arith, w .from, w .ordered, w .to, p .to) in
-    numbers-made _ _ _ _ _ _ _ _ _ _ _ _ _ _ _ f l (c .before .before .before .before .before .before .before .before .before .component-at .ensures) (c .before .before .before .before .before .before .before .before .price-in .ensures)
-    (toZ-ofZ (record { sfits = c .before .before .before .before .before .before .article-place .ok }) ∙ c .before .before .before .before .before .before .article-place .ensures)
-    (toZ-ofZ (record { sfits = c .before .before .before .before .amount-in .ok }) ∙ c .before .before .before .before .amount-in .ensures)
-    (toZ-ofZ (record { sfits = c .before .before .before .decimals-in .ok }) ∙ c .before .before .before .decimals-in .ensures)
-    (toZ-ofZ (record { sfits = c .before .before .unit-in .ok }) ∙ c .before .before .unit-in .ensures)
-    (toZ-ofZ (record { sfits = c .before .from-start .ok }) ∙ c .before .from-start .ensures)
-    (toZ-ofZ (record { sfits = c .rng-place .ok }) ∙ c .rng-place .ensures)
+    let amounts = c .before .before .before .before in
+    let found = amounts .before .before .before .before .before in
+    let entry = found .before .before in
+    let w = component-bounds _ _ _ _ _ _ _ (found .component-at .ensures) in
+    let p = entry .pre .0 in
+    let f : entry .args .p .number < 2 ^ 63 = omega (arith, p .number) in
+    let l : found .component-at .result .end - found .component-at .result .start < 2 ^ 63 = omega (arith, w .from, w .ordered, w .to, p .to) in
+    numbers-made _ _ _ _ _ _ _ _ _ _ _ _ _ _ _ f l (found .component-at .ensures) (amounts .before .before .before .before .price-in .ensures)
+    (kept _ _ (record { sfits = amounts .before .before .article-place .ok }) (amounts .before .before .article-place .ensures))
+    (kept _ _ (record { sfits = amounts .amount-in .ok }) (amounts .amount-in .ensures))
+    (kept _ _ (record { sfits = c .before .before .before .decimals-in .ok }) (c .before .before .before .decimals-in .ensures))
+    (kept _ _ (record { sfits = c .before .before .unit-in .ok }) (c .before .before .unit-in .ensures))
+    (kept _ _ (record { sfits = c .before .from-start .ok }) (c .before .from-start .ensures))
+    (kept _ _ (record { sfits = c .rng-place .ok }) (c .rng-place .ensures))
 
 pub numbers-at-spec : {M : Type 1} → statement M
 numbers-at-spec =
