@@ -38,6 +38,9 @@ sheet-more (suc a) s h = refl
 pub by-accepted : (v : Verdict) (n c s e : ℕ) → v ≡ verdict.Accepted n c → Accepted s e ≡ standingBy v s e
 by-accepted v n c s e h = rw h
 
+pub by-refused : (v : Verdict) (k i p n s e : ℕ) → v ≡ verdict.Refused k i p n → Refused 30 ≡ standingBy v s e
+by-refused v k i p n s e h = rw h
+
 -- the verdict of the message that was found
 here-judged
     : (y : Syntax) (d : List ℕ) (at s e : ℕ) (h : Here y d at s e)

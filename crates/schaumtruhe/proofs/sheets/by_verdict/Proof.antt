@@ -1,5 +1,5 @@
 -- `schaumtruhe::sheets::by_verdict` meets its contract.
-use Rattle.schaumtruhe.proofs.Verdicts.{by-accepted}
+use Rattle.schaumtruhe.proofs.Verdicts.{by-accepted, by-refused}
 use borrow.Author.Needs.{needs}
 use Rattle.schaumtruhe.proofs.sheets.by_verdict.Statement.{statement}
 use Rattle.schaumtruhe.proofs.sheets.by_verdict.Tie as tie
@@ -14,7 +14,7 @@ returns : tie.Need-returns
 returns c = by-accepted _ _ _ _ _ (c .enum-told .given .1)
 
 returns-2 : tie.Need-returns-2
-returns-2 c = search needs
+returns-2 c = by-refused _ _ _ _ _ _ _ (c .enum-told2 .given .1)
 
 pub by-verdict-spec : {M : Type 1} → statement M
 by-verdict-spec = tie.close (tie.spec enum-told enum-told-2 returns returns-2)
