@@ -1,0 +1,76 @@
+-- Demands 1 and 2 over a delivery and a place, in the words of document 01's table of refusals. Declarative: it cites what a message is, when
+-- it is accepted and when refused, and nothing that searches or judges.
+use Prim.Native.Nat.{ℕ, suc, _≤_, _<_}
+use mathlib.Core.Path.{_≡_}
+use mathlib.Core.Bool.{true, false}
+use mathlib.Core.List.{List, List·Memᴰ}
+use lib.ListN.{length}
+use Rattle.cut.specs.declared.service.Syntax.{Syntax}
+use Rattle.cut.specs.Bytes.{begins}
+use Rattle.cut.specs.Admission.{limit, UNA, nine}
+use Rattle.cut.specs.Messages.{Message, startOf, closeOf, messages}
+use Rattle.guide.specs.Accepted.{segmentsOf, Accepted}
+use Rattle.guide.specs.Pages20d.{pageOf}
+use Rattle.guide.specs.Pricat.{pricat20d}
+use Rattle.guide.specs.Refusal.{Refusal}
+use Rattle.price.specs.PriceSheet.{pricesInTree}
+
+-- 1, "delivery longer than the limit"
+abbrev pub TooLong : List ℕ → Type 0
+TooLong d = limit < length d
+
+module _ (y : Syntax) where
+  -- 2, "begins `UNA`, first nine bytes not those above"
+  pub record OtherUNA (d : List ℕ) : Type 0 where
+    pub begins-UNA : begins UNA d ≡ true
+    pub not-nine : begins (nine y) d ≡ false
+
+  -- "A delivery is admitted if it gets neither 1 nor 2"
+  pub record Admitted (d : List ℕ) : Type 0 where
+    pub short : TooLong d → ⊥
+    pub right : OtherUNA d → ⊥
+
+  -- "1, 2 first, for the whole delivery, and then nothing else is read"
+  pub data DeliveryRefused (d : List ℕ) : ℕ → Type 0 where
+    too-long : TooLong d → DeliveryRefused d 1
+    other-UNA : (TooLong d → ⊥) → OtherUNA d → DeliveryRefused d 2
+
+  -- m is a message of the delivery and begins at the place
+  pub record Begins (d : List ℕ) (at : ℕ) (m : Message) : Type 0 where
+    pub member : List·Memᴰ m (messages y d)
+    pub starts : startOf m ≡ at
+
+  -- there is no message to be judged: 1, 2; then 31, "no message begins at the place asked"
+  pub data NoMessage (d : List ℕ) (at : ℕ) : ℕ → Type 0 where
+    whole-delivery : {k : ℕ} → DeliveryRefused d k → NoMessage d at k
+    none-begins : Admitted d → ((m : Message) → Begins d at m → ⊥) → NoMessage d at 31
+
+  -- the verdict asked for at a place is refused with number, segment, place and node
+  pub data VerdictRefused (d : List ℕ) (at : ℕ) : ℕ → ℕ → ℕ → ℕ → Type 0 where
+    no-message : {k : ℕ} → NoMessage d at k → VerdictRefused d at k 0 0 0
+    of-message :
+        {k i a n : ℕ} → (m : Message) → Admitted d → Begins d at m → Refusal y pricat20d pageOf m k i a n → VerdictRefused d at k i a n
+
+  -- the accepted message m begins at the place
+  pub record Stands (d : List ℕ) (at : ℕ) (m : Message) : Type 0 where
+    pub admitted : Admitted d
+    pub begins : Begins d at m
+    pub accepted : Accepted y pricat20d pageOf m
+
+  -- the verdict asked for at a place is accepted with the count of segments and the byte after the message
+  pub record VerdictAccepted (d : List ℕ) (at n e : ℕ) : Type 0 where
+    pub message : Message
+    pub stands : Stands d at message
+    pub count : n ≡ length (segmentsOf message)
+    pub close : e ≡ closeOf message
+
+  -- prices asked for at a place are refused: 1, 2, 31; then 30, "prices or article asked of a refused message"
+  pub data PricesRefused (d : List ℕ) (at : ℕ) : ℕ → Type 0 where
+    no-message : {k : ℕ} → NoMessage d at k → PricesRefused d at k
+    not-accepted : (m : Message) → Admitted d → Begins d at m → (Accepted y pricat20d pageOf m → ⊥) → PricesRefused d at 30
+
+  -- the article of price k is refused: 1, 2, 31, 30; then 32, "article asked for a price number the message does not have"
+  pub data ArticleRefused (d : List ℕ) (at k : ℕ) : ℕ → Type 0 where
+    no-prices : {n : ℕ} → PricesRefused d at n → ArticleRefused d at k n
+    no-price :
+        (m : Message) (s : Stands d at m) → length (pricesInTree pricat20d (s .accepted .proper .sheet .tree)) ≤ k → ArticleRefused d at k 32
