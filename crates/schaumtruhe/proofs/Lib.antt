@@ -5,3 +5,5 @@ pub mod ArticlesAt
 pub mod Surveying
 pub mod Asked
 pub mod Demand1
+pub mod Demand2
+pub mod Equal

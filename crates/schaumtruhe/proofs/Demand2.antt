@@ -1,0 +1,74 @@
+-- Demand 2 over a delivery and a place: `judge-accepts` and `judge-refuses` (proofs/Demand1) say when a message is accepted and what a refusal
+-- gives; here "Prices of an accepted message are exact, complete and in message order".
+use Prim.Native.Nat.{ℕ, _-_, _/_, min}
+use mathlib.Core.Path.{_≡_, sym, _∙_, ap, subst}
+use mathlib.Core.List.{List}
+use native.Mathlib.Omega.{arith}
+use lib.IntN.{ℤ}
+use lib.ListN.{length}
+use Rattle.cut.specs.declared.service.Syntax.{Syntax}
+use Rattle.cut.specs.Bytes.{bytesOf}
+use Rattle.cut.specs.Messages.{Message, startOf, closeOf}
+use Rattle.guide.specs.Accepted.{Each, segmentsOf}
+use Rattle.guide.specs.Pages20d.{pageOf}
+use Rattle.guide.specs.Pricat.{pricat20d}
+use Rattle.guide.specs.Sheet.{withTag}
+use Rattle.guide.specs.Tree.{assigned}
+use Rattle.price.specs.PriceCalls.{filledOf, rowAfter}
+use Rattle.price.specs.PriceNumbers.{Listed, numbersOf}
+use Rattle.price.specs.PriceSheet.{pricesInTree}
+use Rattle.price.proofs.PriceFace.{pricat20d-priced, prices-tree, prices-counted, Exact, proper-exact, Placed, proper-placed, InMessage, prices-in-message, written-count}
+use Rattle.schaumtruhe.specs.Calls.{listed, pricedAt, rowAt}
+use Rattle.schaumtruhe.specs.Demands.{Stands}
+use Rattle.schaumtruhe.specs.declared.pricing.Priced.the-variants.{Written}
+use Rattle.schaumtruhe.proofs.Verdicts.{stands-alone, Stands as InDelivery}
+use Rattle.schaumtruhe.proofs.PricesAt.{listed-in}
+use Rattle.schaumtruhe.proofs.Demand1.{sheet-stands}
+
+module _ (y : Syntax) (d : List ℕ) (at : ℕ) (m : Message) (s : Stands y d at m) where
+  -- the prices of the message, and what the call gives of them
+  pub record Priced : Type 0 where
+    -- in message order: they are those that the tree has, position by position
+    pub ordered : listed y m ≡ pricesInTree pricat20d (s .accepted .proper .sheet .tree)
+    -- complete: as many as there are PRI segments placed
+    pub complete : length (listed y m) ≡ length (withTag pricat20d (bytesOf "PRI") (assigned (s .accepted .proper .sheet .tree)))
+    -- exact: article, amount, decimals and unit are what stands in the segments
+    pub exact : Each (Exact y (startOf m)) (listed y m)
+    -- the position is the number that the LIN itself gives
+    pub numbered : Each (Placed y) (listed y m)
+    -- places and lengths lie within the message
+    pub inside : Each (λ q. InMessage (closeOf m - startOf m) (numbersOf y (startOf m) q)) (listed y m)
+    -- how many are written and how many there are, and the whole row afterwards
+    pub answered :
+        (k : ℕ) (row : List ℤ) → pricedAt y d at k row ≡ Written (min (length row / 8) (length (listed y m) - k)) (length (listed y m))
+    pub filled : (k : ℕ) (row : List ℤ) → rowAt y d at k row ≡ rowAfter y (startOf m) k (listed y m) row
+
+  alone : InDelivery y d m
+  alone = stands-alone y d at m (sheet-stands y d at m .1 s)
+
+  total : (k : ℕ) (row : List ℤ) → pricedAt y d at k row ≡ Written (min (length row / 8) (length (listed y m) - k)) (length (listed y m))
+  unfolding pricedAt filledOf
+  total k row =
+      rw (sheet-stands y d at m .1 s) (ap (λ (w : ℕ). Written w (length (listed y m))) (written-count y (startOf m) k row (listed y m)))
+
+  row-filled : (k : ℕ) (row : List ℤ) → rowAt y d at k row ≡ rowAfter y (startOf m) k (listed y m) row
+  unfolding rowAt
+  row-filled k row = rw (sheet-stands y d at m .1 s)
+
+  -- Prices of an accepted message are exact, complete and in message order.
+  pub prices-right : Priced
+  prices-right =
+      let w = s .accepted .proper .sheet in
+      let same = listed-in y d m alone in
+      let z : min (closeOf m) (length d) - startOf m ≡ closeOf m - startOf m = omega (arith, alone .fits) in
+      record {
+        ordered = prices-tree y pricat20d pricat20d-priced (startOf m) (segmentsOf m) w;
+        complete = prices-counted y pricat20d (startOf m) (segmentsOf m) w;
+        exact = subst (Each (Exact y (startOf m))) same (proper-exact y d (startOf m) (closeOf m) m (alone .alone) (s .accepted .proper));
+        numbered = proper-placed y pricat20d pageOf pricat20d-priced (startOf m) m (s .accepted .proper);
+        inside =
+            subst (λ (b : ℕ). Each (λ q. InMessage b (numbersOf y (startOf m) q)) (listed y m)) z
+            (subst (Each (λ q. InMessage (min (closeOf m) (length d) - startOf m) (numbersOf y (startOf m) q))) same (prices-in-message y d (startOf m) (closeOf m)));
+        answered = total;
+        filled = row-filled;
+      }
