@@ -20,7 +20,7 @@ use Rattle.cut.specs.Base.{edifact}
 use Rattle.cut.specs.Calls.{headCut, cutFrom, segmentAt, pickStep, stepped, stepOf}
 use Rattle.cut.proofs.Stepping.{ahead, ahead-opened, step-refused, step-some, step-none}
 use Rattle.held.specs.declared.reader.Reader.{Reader}
-use Rattle.held.specs.Reading.{asCut, nextFrom, placeAfter, readerOn, answerOf, movedOn, movedBy, answers, segmentCut, segmentNo}
+use Rattle.held.specs.Reading.{asCut, nextFrom, placeAfter, readerOn, answerOf, movedOn, movedBy, answers, segmentCut, segmentNo, firstTwo}
 
 -- the by-value cursor at a place
 abbrev cursor : ℕ → Cursor
@@ -123,3 +123,10 @@ none-at-once r n = ap asCut (step-refused (cursor (r .at)) (now (r .delivery)) n
 pub none-stays : (r : Reader) → answerOf r ≡ cut.Nothing → movedOn r ≡ r
 unfolding movedOn placeAfter
 none-stays r h = ap (λ (c : Cut). record { delivery = r .delivery; at = placeAfter c (r .at) }) h
+
+-- `first_two`: the answers of two steps from `opened` on are the delivery's first two segments
+pub first-two
+    : (d : RefT (List ℕ)) (a b : Cut) → a ≡ answerOf (readerOn d) → b ≡ answerOf (movedOn (readerOn d))
+    → record { first = a; second = b } ≡ firstTwo (now d)
+unfolding movedBy firstTwo
+first-two d a b e f = rw (e, f, nth-step d 0, nth-step d 1)
