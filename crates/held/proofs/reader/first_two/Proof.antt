@@ -85,6 +85,7 @@ module _ {M : Type 1} (𝓤 : URA M) (H : Heap 𝓤) (A : Atoms 𝓤) (W : Given
   abbrev h₂ : Reader
   h₂ = movedOn h₁
 
+  -- the result of two answers
   abbrev made : Cut → Cut → FirstTwo
   made a b = record { first = a; second = b }
 
