@@ -26,7 +26,13 @@ fn refusal_by(y: Syntax, d: &[u8], sheet: Standing, k: usize) -> u32
     ensures { λ r. ⌜ r ≡ refusalBy y (now (d .entry)) sheet k ⌝ }
 {
     match sheet {
-        Standing::Accepted { start, end } => { if k < total(y, d, start, end) { 0 } else { 32 } }
+        Standing::Accepted { start, end } => {
+            if k < total(y, d, start, end) {
+                0
+            } else {
+                32
+            }
+        }
         Standing::Refused { number } => number,
     }
 }
