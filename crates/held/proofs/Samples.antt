@@ -1,0 +1,28 @@
+-- Two walks by computation: UNA, a released terminator, a terminator alone and a piece; and a delivery whose UNA is not the base's.
+use Prim.Native.Nat.{ℕ}
+use mathlib.Core.Bool.{true, false}
+use mathlib.Core.Path.{_≡_, refl}
+use mathlib.Core.List.{List, [], _∷_}
+use base.Fml.{GName}
+use denote.Ref.{RefT}
+use Rattle.cut.specs.declared.scan.Cut.the-variants.{Segment, Nothing}
+use Rattle.cut.specs.Bytes.{bytesOf, begins}
+use Rattle.cut.specs.Segments.{ends, frees, join, segmentsFrom}
+use Rattle.cut.specs.Admission.{admissionOf, openingOf}
+use Rattle.cut.specs.Calls.{headCut, cutFrom, stepOf}
+use Rattle.held.specs.Reading.{nextFrom, placeAfter, readerOn, answerOf, movedOn, answers}
+
+-- the bytes in a slice at any address
+abbrev lent : ℕ × ℕ → GName → List ℕ → RefT (List ℕ)
+lent p γ d = record { ptr = p; name = γ; now = d }
+
+module _ (p : ℕ × ℕ) (γ : GName) where
+  una-released-piece
+      : answers 5 (readerOn (lent p γ (bytesOf "UNA:+.? 'A?'B''UNH")))
+      ≡ Segment 9 14 false ∷ Segment 14 15 false ∷ Segment 15 18 true ∷ Nothing ∷ Nothing ∷ []
+  unfolding answers answerOf movedOn nextFrom placeAfter stepOf headCut cutFrom admissionOf openingOf segmentsFrom join ends frees begins
+  una-released-piece = refl
+
+  not-admitted : answers 2 (readerOn (lent p γ (bytesOf "UNA:+,? 'A'"))) ≡ Nothing ∷ Nothing ∷ []
+  unfolding answers answerOf movedOn nextFrom placeAfter stepOf headCut cutFrom admissionOf openingOf segmentsFrom join ends frees begins
+  not-admitted = refl

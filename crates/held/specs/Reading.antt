@@ -1,0 +1,63 @@
+-- The reader that holds the delivery and its place. Document 01, 'What is handed out', at the service characters of the base.
+use Prim.Native.Nat.{ℕ, zero, suc}
+use mathlib.Core.List.{List, [], _∷_}
+use lib.ListN.{drop}
+use denote.Ref.{RefT, now}
+use Rattle.cut.specs.declared.scan.Cut.{Cut}
+use Rattle.cut.specs.declared.scan.Cut.the-variants as cut
+use Rattle.cut.specs.declared.steps.Step.{Step}
+use Rattle.cut.specs.declared.steps.Step.the-variants as step
+use Rattle.cut.specs.Segments.{Segment, endOf}
+use Rattle.cut.specs.Admission.{segments}
+use Rattle.cut.specs.Base.{edifact}
+use Rattle.cut.specs.Calls.{headCut, stepOf}
+use Rattle.held.specs.declared.reader.Reader.{Reader}
+use Rattle.held.specs.declared.reader.FirstTwo.{FirstTwo}
+
+-- "the next segment's start, end and whether it is a piece, or none"
+abbrev pub asCut : Step → Cut
+asCut (step.Segment s e p n) = cut.Segment s e p
+asCut step.Nothing = cut.Nothing
+
+-- the segment from a place on, as the cursor there steps to it; none, if the delivery is not admitted
+unfoldable pub nextFrom : List ℕ → ℕ → Cut
+nextFrom d at = asCut (stepOf (record { syntax = edifact; at = at }) d)
+
+-- the place after a step from the place `at`: the segment's end; at none the place stays
+unfoldable pub placeAfter : Cut → ℕ → ℕ
+placeAfter (cut.Segment s e p) at = e
+placeAfter cut.Nothing at = at
+
+-- opened: "A reader that holds the delivery and its place", before the first segment
+abbrev pub readerOn : RefT (List ℕ) → Reader
+readerOn d = record { delivery = d; at = 0 }
+
+-- step: "each step gives the next segment"
+unfoldable pub answerOf : Reader → Cut
+answerOf r = nextFrom (now (r .delivery)) (r .at)
+
+-- step: the reader after it holds the same delivery
+unfoldable pub movedOn : Reader → Reader
+movedOn r = record { delivery = r .delivery; at = placeAfter (answerOf r) (r .at) }
+
+-- the reader after n steps
+unfoldable pub movedBy : ℕ → Reader → Reader
+movedBy zero r = r
+movedBy (suc n) r = movedBy n (movedOn r)
+
+-- what n steps answer, one after the other
+unfoldable pub answers : ℕ → Reader → List Cut
+answers zero r = []
+answers (suc n) r = answerOf r ∷ answers n (movedOn r)
+
+-- a segment as an answer: its start, its end and whether it is a piece
+abbrev pub segmentCut : Segment → Cut
+segmentCut s = cut.Segment (s .start) (endOf s) (s .piece)
+
+-- the segment with the number n, from 0; none past the last
+abbrev pub segmentNo : List ℕ → ℕ → Cut
+segmentNo d n = headCut (drop n (segments edifact d))
+
+-- first_two: the delivery's first and second segment
+unfoldable pub firstTwo : List ℕ → FirstTwo
+firstTwo d = record { first = segmentNo d 0; second = segmentNo d 1 }

@@ -1,0 +1,46 @@
+// The reader itself: thin functions over a struct that holds a reference, each proved by hand. Loops and branches stand in the covered
+// functions that these call.
+use crate::next::next_from;
+use crate::next::place_after;
+use cut::Cut;
+ghost use mathlib.Core.Path.{_≡_};
+ghost use Rattle.held.specs.Reading.{readerOn, answerOf, movedOn, firstTwo};
+
+pub struct Reader<'a> {
+    pub delivery: &'a [u8],
+    pub at: usize,
+}
+
+// Before the first segment.
+pub fn opened<'a>(d: &'a [u8]) -> Reader<'a>
+    ensures { λ r. ⌜ r ≡ readerOn (d .entry) ⌝ }
+{
+    Reader { delivery: d, at: 0 }
+}
+
+// The next segment, or none; the reader then stands behind it, or where it was.
+pub fn step<'s, 'a>(r: &'s mut Reader<'a>) -> Cut
+    ensures { λ c. ⌜ (c ≡ answerOf (now (r .entry))) × (now (r .exit) ≡ movedOn (now (r .entry))) ⌝ }
+{
+    let d = r.delivery;
+    let at = r.at;
+    let c = next_from(d, at);
+    let n = place_after(c, at);
+    r.at = n;
+    c
+}
+
+pub struct FirstTwo {
+    pub first: Cut,
+    pub second: Cut,
+}
+
+// The delivery's first two segments, as a caller of the reader has them; callers of this one hold no reader.
+pub fn first_two(d: &[u8]) -> FirstTwo
+    ensures { λ r. ⌜ r ≡ firstTwo (now (d .entry)) ⌝ }
+{
+    let mut r = opened(d);
+    let first = step(&mut r);
+    let second = step(&mut r);
+    FirstTwo { first, second }
+}
