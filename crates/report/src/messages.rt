@@ -6,6 +6,8 @@ use cut::Found;
 use schaumtruhe::judge_at;
 use schaumtruhe::next_message;
 use verdict::Verdict;
+ghost use Prim.Native.Nat.{_≤_};
+ghost use lib.ListN.{length};
 
 // verdict segment place node; an accepted message has verdict 0, its count of segments, the byte after it, 0.
 fn put_verdict(v: Verdict) -> bool {
@@ -29,10 +31,24 @@ fn message_line(number: usize, start: usize, v: Verdict) -> bool {
     put(b"M") && put_count(number) && put_count(start) && put_verdict(v) && put(b"\n")
 }
 
-fn accepted_by(v: Verdict) -> bool {
+fn accepted_by(v: Verdict) -> usize
+    ensures { λ r. ⌜ r ≤ 1 ⌝ }
+{
     match v {
-        Verdict::Accepted { .. } => true,
-        Verdict::Refused { .. } => false,
+        Verdict::Accepted { .. } => 1,
+        Verdict::Refused { .. } => 0,
+    }
+}
+
+// The M line of the message from start to end and, if it is accepted, its P lines.
+fn lines_of(d: &[u8], number: usize, start: usize, end: usize, v: Verdict, row: &mut [i64]) -> bool
+    requires { ⌜ (start ≤ end) × (end ≤ length (now d)) ⌝ }
+{
+    match v {
+        Verdict::Accepted { .. } => {
+            message_line(number, start, v) && price_lines(d, start, end, row)
+        }
+        Verdict::Refused { .. } => message_line(number, start, v),
     }
 }
 
@@ -57,15 +73,10 @@ fn message_lines(d: &[u8], row: &mut [i64]) -> bool {
         };
         number += 1;
         let v = judge_at(d, start);
-        if !message_line(number, start, v) {
+        if !lines_of(d, number, start, end, v, row) {
             return false;
         }
-        if accepted_by(v) {
-            accepted += 1;
-            if !price_lines(d, start, end, row) {
-                return false;
-            }
-        }
+        accepted += accepted_by(v);
         from = end;
     }
 }

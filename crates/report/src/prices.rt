@@ -33,7 +33,9 @@ fn row_lines(message: &[u8], row: &[i64], written: usize) -> bool
 }
 
 // The prices of the message from start to end.
-pub(crate) fn price_lines(d: &[u8], start: usize, end: usize, row: &mut [i64]) -> bool {
+pub(crate) fn price_lines(d: &[u8], start: usize, end: usize, row: &mut [i64]) -> bool
+    requires { ⌜ (start ≤ end) × (end ≤ length (now d)) ⌝ }
+{
     let p = prices(d, start, 0, row);
     match p {
         Priced::Written { written, .. } => row_lines(&d[start..end], row, written),
