@@ -11,7 +11,7 @@ pub fn check_input() {
     let n = io::read_full(STDIN_FILENO, &mut buffer);
     let mut next = [0u8; 1];
     let more = libc::read(STDIN_FILENO, &mut next);
-    if more < 0 || (more > 0 && n < 65536) {
+    if more < 0 || (more > 0 && n < buffer.len()) {
         complain(b"sheetcheck: standard input could not be read\n");
         return;
     }

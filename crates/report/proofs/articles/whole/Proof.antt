@@ -1,19 +1,15 @@
+-- `report::articles::whole` is safe: a number that is not below 0 fits.
 use borrow.Author.Needs.{needs}
 use Rattle.element.proofs.Signs.{as-it-is}
 use Rattle.report.proofs.articles.whole.Statement.{statement}
 use Rattle.report.proofs.articles.whole.Tie as tie
-use Rattle.report.proofs.articles.whole.Reads as reads
-use Rattle.report.proofs.articles.whole.Lts as lts
 
--- src/articles.rt:13:27
 cast-result : tie.Need-cast-result
 cast-result c = as-it-is _ (c .before .fits .n) (c .if1 .left)
 
--- src/articles.rt:12:1
 returns : tie.Need-returns
 returns c = search needs
 
--- src/articles.rt:12:1
 returns-2 : tie.Need-returns-2
 returns-2 c = search needs
 

@@ -1,6 +1,5 @@
--- `report::prices::row_lines` is safe and ends.
+-- `report::prices::row_lines` is safe and ends: each price it prints is one that was written.
 use Prim.Native.Nat.{_-_, _≤_}
-use native.Mathlib.Omega.{arith}
 use borrow.Author.Needs.{needs}
 use Rattle.report.proofs.prices.row_lines.Statement.{statement}
 use Rattle.report.proofs.prices.row_lines.Tie as tie
