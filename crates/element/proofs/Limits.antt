@@ -18,7 +18,7 @@ pub end-within : (n e : ℕ) → e ≤ n → e ≡ min e n
 end-within n e h = omega arith
 
 -- with the delivery's end, and with any place past it, a part runs to the last byte
-part-out : (d : List ℕ) (a e : ℕ) → length d ≤ e → part a e d ≡ drop a d
+pub part-out : (d : List ℕ) (a e : ℕ) → length d ≤ e → part a e d ≡ drop a d
 unfolding part
 part-out d a e h =
     let n : length (drop a d) ≤ e - a = simp length-drop (omega arith) in
@@ -43,6 +43,13 @@ drop-part d a e k h l =
     let f : e - a ≤ e - a = omega arith in
     let z : a + (e - a) ≡ e = omega arith in
     sym (part-out (part a e d) k (e - a) n) ∙ part-part d a e k (e - a) f ∙ ap (λ (m : ℕ). part (a + k) m d) z
+
+-- what follows a place in the bytes before the end e, which are written as the slice `[0..e]` has them
+pub part-front : (d : List ℕ) (a e : ℕ) → e ≤ length d → drop a (take (e - 0) (drop 0 d)) ≡ part a e d
+unfolding part
+part-front d a e h =
+    let z : 0 + a ≡ a = omega arith in
+    drop-part d 0 e a (omega arith) h ∙ rw z
 
 pub take-part : (d : List ℕ) (a e n : ℕ) → n ≤ e - a → take n (part a e d) ≡ part a (a + n) d
 unfolding part

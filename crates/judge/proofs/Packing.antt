@@ -3,9 +3,8 @@ use Prim.Native.Nat.{ℕ, suc, _+_, _*_, _-_, _≤_, _<_, min}
 use mathlib.Core.Path.{_≡_, refl, sym, _∙_, ap}
 use mathlib.Core.Bool.{Bool, true, false, _&&_}
 use mathlib.Core.List.{List, [], _∷_}
-use native.Mathlib.Decide.{decLe}
 use native.Mathlib.Omega.{arith}
-use lib.ListN.{length, getD, take, drop, length-take, length-drop}
+use lib.ListN.{length, getD, take, drop, length-take}
 use lib.Seq.{take-all, take-take, take-at}
 use lib.Dec.{eqb}
 use borrow.Author.Tests.{eq-eqb, ne-eqb, eqb-true, eqb-false, le-leb, lt-leb}
@@ -16,6 +15,7 @@ use Rattle.element.specs.Plain.{plain, decoded, copied}
 use Rattle.element.specs.Components.{componentAt}
 use Rattle.element.specs.declared.components.Span.{Span}
 use Rattle.element.proofs.ComponentFace.{component-bytes}
+use Rattle.element.proofs.Limits.{limited}
 use Rattle.element.specs.Plain.{same}
 use Rattle.guide.specs.Views.{viewOf}
 use Rattle.judge.specs.Words.{packed, shortWord, Bytes}
@@ -48,27 +48,10 @@ module _ (d : List ℕ) (a e : ℕ) (inside : e ≤ length d) (x : ℕ) (first :
         (pack-next d (a + 1) e y (z + 256) (omega arith) inside second
         (pack-next d (a + 1 + 1) e z 1 (omega arith) inside (third ∙ ap (λ (i : ℕ). getD d i 0) two) (pack-none d (a + 1 + 1 + 1) e (omega arith))))
 
--- an end past the delivery counts as the delivery's end
-part-out : (d : List ℕ) (a e : ℕ) → length d ≤ e → part a e d ≡ drop a d
-unfolding part
-part-out d a e h =
-    let n : length (drop a d) ≤ e - a = simp length-drop (omega arith) in
-    take-all (e - a) (drop a d) n
-
-part-within : (d : List ℕ) (a e : ℕ) → Dec (e ≤ length d) → part a (min e (length d)) d ≡ part a e d
-part-within d a e (yes h) =
-    let m : min e (length d) ≡ e = omega arith in
-    rw m
-part-within d a e (no h) =
-    let m : min e (length d) ≡ length d = omega arith in
-    let l : length d ≤ e = omega arith in
-    let k : length d ≤ length d = omega arith in
-    rw m (part-out d a (length d) k ∙ sym (part-out d a e l))
-
 -- the tag of the segment from a up to e, where z is that end or the delivery's
 module _ (d : List ℕ) (a e z : ℕ) (limit : z ≡ min e (length d)) where
   within : part a z d ≡ part a e d
-  within = rw limit (part-within d a e (decLe e (length d)))
+  within = limited d a e z limit
 
   pub tag-none : z ≤ a → 1 ≡ packed (take 3 (part a e d))
   unfolding packed

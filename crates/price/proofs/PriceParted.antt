@@ -4,8 +4,8 @@ use mathlib.Core.Path.{_≡_, sym, ap, subst, _∙_}
 use mathlib.Core.Bool.{Bool, true, false, cond}
 use mathlib.Core.List.{List, [], _∷_}
 use native.Mathlib.Omega.{arith}
-use lib.ListN.{length, take, drop, length-drop, drop-of-length-le}
-use lib.Seq.{take-all, take-nil, drop-nil}
+use lib.ListN.{length, take, drop, drop-of-length-le}
+use lib.Seq.{take-nil, drop-nil}
 use lib.IntN.{ℤ}
 use lib.Dec.{ltb}
 use borrow.Author.Tests.{lt-ltb, le-ltb}
@@ -16,7 +16,7 @@ use Rattle.cut.proofs.Parts.{part-part, length-part}
 use Rattle.element.specs.Components.{componentAt, spanIn}
 use Rattle.element.specs.declared.components.Span.{Span}
 use Rattle.element.proofs.ComponentFace as face
-use Rattle.element.proofs.Limits.{drop-part}
+use Rattle.element.proofs.Limits.{part-out, part-front}
 use Rattle.guide.specs.Accepted.{Each}
 use Rattle.price.specs.declared.spots.Held.{Held}
 use Rattle.price.specs.declared.filling.Filled.{Filled}
@@ -33,19 +33,6 @@ each-drop P zero qs e = e
 each-drop P (suc k) [] e = tt
 each-drop P (suc k) (q ∷ qs) e = each-drop P k qs (e .1)
 
--- the part from start to end: all that follows, where it ends with the delivery; else what follows in the bytes before its end
-part-all : (d : List ℕ) (start end : ℕ) → length d ≤ end → drop start d ≡ part start end d
-unfolding part
-part-all d start end h =
-    let n : length (drop start d) ≤ end - start = rw (length-drop start d) (omega arith) in
-    sym (take-all (end - start) (drop start d) n)
-
-part-front : (d : List ℕ) (start end : ℕ) → end ≤ length d → drop start (take (end - 0) (drop 0 d)) ≡ part start end d
-unfolding part
-part-front d start end h =
-    let z : 0 + start ≡ start = omega arith in
-    drop-part d 0 end start (omega arith) h ∙ rw z
-
 -- the bytes before a place
 abbrev front : List ℕ → ℕ → List ℕ
 front d end = take (end - 0) (drop 0 d)
@@ -53,7 +40,7 @@ front d end = take (end - 0) (drop 0 d)
 module _ (y : Syntax) (d : List ℕ) (start end : ℕ) where
   all-in : length d ≤ end → pricesOf start (segmentsAt y d start) ≡ pricesIn y d start end
   unfolding pricesIn
-  all-in h = rw (part-all d start end h)
+  all-in h = rw (part-out d start end h)
 
   front-in : end ≤ length d → pricesOf start (segmentsAt y (front d end) start) ≡ pricesIn y d start end
   unfolding pricesIn

@@ -4,12 +4,11 @@ use mathlib.Core.Path.{_≡_, refl, sym, _∙_, ap}
 use mathlib.Core.Bool.{Bool, true, false}
 use mathlib.Core.List.{List}
 use native.Mathlib.Omega.{arith}
-use lib.ListN.{length, take, drop, length-drop}
-use lib.Seq.{take-all}
+use lib.ListN.{length, take, drop}
 use Rattle.cut.specs.declared.service.Syntax.{Syntax}
 use Rattle.cut.specs.Bytes.{bytesOf, part}
 use Rattle.cut.specs.Segments.{segmentsFrom}
-use Rattle.element.proofs.Limits.{drop-part}
+use Rattle.element.proofs.Limits.{part-out, part-front}
 use Rattle.guide.specs.Pages20d.{pageOf}
 use Rattle.guide.specs.Pricat.{pricat20d}
 use Rattle.guide.specs.Sheet.{isTag}
@@ -23,17 +22,10 @@ use Rattle.verdict.specs.Answers.{declared}
 use Rattle.verdict.specs.Verdicts.{nodeOf, unlessAgreeing, verdictFrom}
 use Rattle.verdict.specs.Workers.{segmentsAt, agreementAt, endedWith}
 
--- the part up to the delivery's end or further is all that follows
-pub part-all : (d : List ℕ) (start end : ℕ) → length d ≤ end → part start end d ≡ drop start d
-unfolding part
-part-all d start end h =
-    let n : length (drop start d) ≤ end - start = rw (length-drop start d) (omega arith) in
-    take-all (end - start) (drop start d) n
-
 module _ (y : Syntax) (d : List ℕ) (start n at : ℕ) where
   module _ (a : Agreeing) (is : a ≡ firstAgreeing y (positionsOf (segmentsFrom y start false (part start (length d) d)))) where
     same-agreeing : firstAgreeing y (positionsOf (segmentsAt y d start)) ≡ a
-    same-agreeing = sym (is ∙ rw (part-all d start (length d) (omega arith)))
+    same-agreeing = sym (is ∙ rw (part-out d start (length d) (omega arith)))
 
     pub agrees : (i p : ℕ) → a ≡ At i p → (m : ℕ) → m ≡ nodeOf y pricat20d (segmentsAt y d start) i → Refused 23 i p m ≡ declared (agreementAt y d start n at)
     unfolding agreementAt unlessAgreeing
@@ -62,20 +54,13 @@ module _ (y : Syntax) (d : List ℕ) (start n at : ℕ) where
       unfolding endedWith
       compared h r e = rw (← unt, ends, h) e
 
--- the part up to an end in the delivery is what follows in the bytes before that end
-part-front : (d : List ℕ) (start end : ℕ) → end ≤ length d → drop start (take (end - 0) (drop 0 d)) ≡ part start end d
-unfolding part
-part-front d start end h =
-    let z : 0 + start ≡ start = omega arith in
-    drop-part d 0 end start (omega arith) h ∙ rw z
-
 -- the verdict of a part, from that of all segments from its start on
 module _ (y : Syntax) (d : List ℕ) (start end : ℕ) (r : Verdict) where
   abbrev InPart : Type 0
   InPart = r ≡ declared (verdictFrom y pricat20d pageOf start (segmentsFrom y start false (part start end d)))
 
   pub verdict-all : length d ≤ end → r ≡ declared (verdictFrom y pricat20d pageOf start (segmentsAt y d start)) → InPart
-  verdict-all h a = rw (part-all d start end h) a
+  verdict-all h a = rw (part-out d start end h) a
 
   pub verdict-front
       : end ≤ length d → r ≡ declared (verdictFrom y pricat20d pageOf start (segmentsAt y (take (end - 0) (drop 0 d)) start)) → InPart
