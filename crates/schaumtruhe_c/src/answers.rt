@@ -1,4 +1,4 @@
-// Each answer as numbers: first 0 or document 01's refusal number, and the rest 0 where that says nothing.
+// Each answer as numbers: first 0 or document 01's refusal number; what a refusal does not give is 0.
 use cut::Found;
 use schaumtruhe::Priced;
 use schaumtruhe::Surveyed;
