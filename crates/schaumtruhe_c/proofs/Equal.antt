@@ -1,0 +1,40 @@
+-- Any two answers that meet an exported call's promise are equal, and so are the rows that they leave.
+use Prim.Native.Nat.{ℕ}
+use mathlib.Core.Path.{_≡_, sym, _∙_}
+use mathlib.Core.List.{List}
+use lib.IntN.{ℤ}
+use Rattle.cut.specs.Base.{edifact}
+use Rattle.cut.specs.Calls.{nextMessage}
+use Rattle.verdict.specs.Answers.{declared}
+use Rattle.schaumtruhe.specs.Calls.{surveyOf, verdictAt, pricedAt, rowAt, articleRefusal, articleAt}
+use Rattle.schaumtruhe_c.specs.Answers.{totalsOf, nextOf, judgedOf, pricesOf, articleOf}
+use Rattle.schaumtruhe_c.specs.declared.answers.Totals.{Totals}
+use Rattle.schaumtruhe_c.specs.declared.answers.Next.{Next}
+use Rattle.schaumtruhe_c.specs.declared.answers.Judged.{Judged}
+use Rattle.schaumtruhe_c.specs.declared.answers.Prices.{Prices}
+use Rattle.schaumtruhe_c.specs.declared.answers.Article.{Article}
+
+module _ (d : List ℕ) where
+  pub one-totals : (r t : Totals) → r ≡ totalsOf (surveyOf edifact d) → t ≡ totalsOf (surveyOf edifact d) → r ≡ t
+  one-totals r t h k = h ∙ sym k
+
+  module _ (at : ℕ) where
+    pub one-next : (r t : Next) → r ≡ nextOf (nextMessage edifact d at) → t ≡ nextOf (nextMessage edifact d at) → r ≡ t
+    one-next r t h k = h ∙ sym k
+
+    pub one-judged
+        : (r t : Judged) → r ≡ judgedOf (declared (verdictAt edifact d at)) → t ≡ judgedOf (declared (verdictAt edifact d at)) → r ≡ t
+    one-judged r t h k = h ∙ sym k
+
+    module _ (j : ℕ) where
+      pub one-prices
+          : (row : List ℤ) (r t : Prices) → r ≡ pricesOf (pricedAt edifact d at j row) → t ≡ pricesOf (pricedAt edifact d at j row) → r ≡ t
+      one-prices row r t h k = h ∙ sym k
+
+      pub one-row : (row r t : List ℤ) → r ≡ rowAt edifact d at j row → t ≡ rowAt edifact d at j row → r ≡ t
+      one-row row r t h k = h ∙ sym k
+
+      pub one-article
+          : (r t : Article) → r ≡ articleOf (articleRefusal edifact d at j) (articleAt edifact d at j)
+          → t ≡ articleOf (articleRefusal edifact d at j) (articleAt edifact d at j) → r ≡ t
+      one-article r t h k = h ∙ sym k

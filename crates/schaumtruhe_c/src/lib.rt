@@ -1,0 +1,15 @@
+// The calls over a delivery for programs in C and Rust. A slice is passed as a pointer and a length; each answer is a struct of numbers by
+// value, and the only lent row is that of `prices`. Every call answers for every slice, place and number.
+mod answers;
+mod calls;
+
+pub use answers::Article;
+pub use answers::Judged;
+pub use answers::Next;
+pub use answers::Prices;
+pub use answers::Totals;
+pub use calls::schaumtruhe_article;
+pub use calls::schaumtruhe_judge_at;
+pub use calls::schaumtruhe_next_message;
+pub use calls::schaumtruhe_prices;
+pub use calls::schaumtruhe_survey;

@@ -1,0 +1,107 @@
+/* Schaumtruhe: reads deliveries of EDIFACT bytes that hold PRICAT 2.0d messages, judges each message and hands out its prices.
+ *
+ * Link libschaumtruhe_c.a (`rt staticlib schaumtruhe_c` writes it), x86-64 Linux. The calls keep nothing between them and use no heap; any
+ * number of threads may call at once.
+ *
+ * What a caller owes is what C asks of any pointer and length, and nothing more:
+ *   - `delivery` points to `length` bytes that nobody writes to during the call; `row` points to `count` numbers that nobody else reads or
+ *     writes during the call, apart from the delivery and aligned for int64_t;
+ *   - neither pointer is NULL, even where the length is 0.
+ * Every content, every place and every number is answered. Places count bytes from 0 in the delivery.
+ *
+ * `number` is 0 or the refusal:
+ *    1 delivery longer than 1,048,576 bytes       2 it begins UNA, and its first nine bytes are not UNA:+.? '
+ *   10 a byte not allowed                        11 no tag of three capital letters followed by + or '
+ *   12 a piece without its terminator            13 no node with this tag and code can come here
+ *   14 a required node is missing                15 the limit of a node is passed           16 the same, for LIN
+ *   17 component missing      18 component not used      19 wrong format      20 code not on its page
+ *   21 UNT count or reference differs            22 LIN number is not the next
+ *   23 position agrees with an earlier one       24 message ends without UNT
+ *   30 prices or article asked of a refused message
+ *   31 no message begins at the place asked      32 the message has no price with that number
+ */
+#ifndef SCHAUMTRUHE_H
+#define SCHAUMTRUHE_H
+
+#include <stddef.h>
+#include <stdint.h>
+
+#ifdef __cplusplus
+extern "C" {
+#endif
+
+/* The longest delivery that is read; a longer one gets 1. */
+#define SCHAUMTRUHE_LIMIT 1048576
+
+/* Numbers to a price in a row, and what each is. */
+#define SCHAUMTRUHE_PRICE 8
+enum schaumtruhe_column {
+    SCHAUMTRUHE_POSITION, /* the position's number */
+    SCHAUMTRUHE_ARTICLE,  /* the article's place from the message's start, or -1 */
+    SCHAUMTRUHE_LENGTH,   /* its length, release marks counted, or 0 */
+    SCHAUMTRUHE_AMOUNT,   /* the price as a whole number: 16806 of 168.06 */
+    SCHAUMTRUHE_DECIMALS, /* its decimals: 2 of 168.06 */
+    SCHAUMTRUHE_UNIT,     /* the unit's rank on its page from 1, or 0 */
+    SCHAUMTRUHE_PRI,      /* the place of PRI from the message's start */
+    SCHAUMTRUHE_RNG       /* the place of RNG from the message's start, or -1 */
+};
+
+struct schaumtruhe_totals {
+    uint32_t number;
+    size_t messages; /* found */
+    size_t accepted; /* of these */
+    size_t outside;  /* segments that belong to no message */
+};
+
+struct schaumtruhe_next {
+    uint32_t found; /* 1, or 0 if there is none */
+    size_t start;   /* its first byte */
+    size_t end;     /* the byte after its last */
+};
+
+struct schaumtruhe_judged {
+    uint32_t number;
+    size_t segment; /* refused: the segment, from 1; accepted: the count of segments */
+    size_t place;   /* refused: that segment's first byte; accepted: the byte after the message */
+    size_t node;    /* refused: the guide's node, or 0; accepted: 0 */
+};
+
+struct schaumtruhe_prices {
+    uint32_t number;
+    size_t written; /* prices written to the row */
+    size_t total;   /* prices of the message */
+};
+
+struct schaumtruhe_article {
+    uint32_t number;
+    size_t place;  /* its first byte in the delivery */
+    size_t length; /* its length, release marks counted */
+};
+
+/* The whole delivery: messages found, accepted, and segments outside.
+ * Refused: 1 or 2, and the counts are 0. */
+struct schaumtruhe_totals schaumtruhe_survey(const uint8_t *delivery, size_t length);
+
+/* The first message that begins at `from` or later. None after the last message, and none in a delivery that is refused with 1 or 2; `start`
+ * and `end` are then 0. Going on from `end` gives every message once. */
+struct schaumtruhe_next schaumtruhe_next_message(const uint8_t *delivery, size_t length, size_t from);
+
+/* The verdict of the message that begins at `at`: 0 if it is accepted.
+ * Refused: 1, 2 or 31, and the rest is 0; or 10 to 24 with segment, place and node. */
+struct schaumtruhe_judged schaumtruhe_judge_at(const uint8_t *delivery, size_t length, size_t at);
+
+/* The prices of the message that begins at `at`, from the k-th on (k from 0), SCHAUMTRUHE_PRICE numbers to a price, as many as fit whole into
+ * the `count` numbers of the row. The rest of the row is unchanged. A k past the last price is no refusal: none is written.
+ * Refused: 1, 2, 31 or 30, and the rest is 0; the row is then unchanged. */
+struct schaumtruhe_prices schaumtruhe_prices(const uint8_t *delivery, size_t length, size_t at, size_t k, int64_t *row, size_t count);
+
+/* Where the article of price k of the message that begins at `at` stands: delivery[place] to delivery[place + length - 1], always within the
+ * delivery. An absent article is empty and stands at the message's start.
+ * Refused: 1, 2, 31, 30 or 32, and the rest is 0. */
+struct schaumtruhe_article schaumtruhe_article(const uint8_t *delivery, size_t length, size_t at, size_t k);
+
+#ifdef __cplusplus
+}
+#endif
+
+#endif

@@ -1,0 +1,103 @@
+//! Safe calls over the proved reader of PRICAT deliveries: slices in, structs out. Every call answers for every slice, place and number;
+//! `include/schaumtruhe.h` lists the refusal numbers.
+
+/// The longest delivery that is read; a longer one gets 1.
+pub const LIMIT: usize = 1_048_576;
+
+/// Numbers to a price in a row: position; the article's place from the message's start or -1; its length; amount; decimals; the unit's rank
+/// or 0; place of PRI; place of RNG or -1.
+pub const PRICE: usize = 8;
+
+/// The whole delivery; `number` is 0, or 1 or 2 with zeros.
+#[repr(C)]
+#[derive(Clone, Copy, Debug, PartialEq, Eq)]
+pub struct Totals {
+    pub number: u32,
+    pub messages: usize,
+    pub accepted: usize,
+    pub outside: usize,
+}
+
+/// `found` is 1 with a message's first byte and the byte after its last, or 0 with zeros.
+#[repr(C)]
+#[derive(Clone, Copy, Debug, PartialEq, Eq)]
+pub struct Next {
+    pub found: u32,
+    pub start: usize,
+    pub end: usize,
+}
+
+/// Refused: number, segment, place of its first byte, node. Accepted: 0, the count of segments, the byte after the message, 0.
+#[repr(C)]
+#[derive(Clone, Copy, Debug, PartialEq, Eq)]
+pub struct Judged {
+    pub number: u32,
+    pub segment: usize,
+    pub place: usize,
+    pub node: usize,
+}
+
+/// How many prices were written and how many the message has; `number` is 0, or 1, 2, 31 or 30 with zeros.
+#[repr(C)]
+#[derive(Clone, Copy, Debug, PartialEq, Eq)]
+pub struct Prices {
+    pub number: u32,
+    pub written: usize,
+    pub total: usize,
+}
+
+#[repr(C)]
+struct Placed {
+    number: u32,
+    place: usize,
+    length: usize,
+}
+
+/// The article of a price, as that part of the delivery itself, release marks included. `number` is 0, or 1, 2, 31, 30 or 32 with the empty
+/// part at the delivery's start.
+#[derive(Clone, Copy, Debug, PartialEq, Eq)]
+pub struct Article<'a> {
+    pub number: u32,
+    pub part: &'a [u8],
+}
+
+extern "C" {
+    fn schaumtruhe_survey(delivery: *const u8, length: usize) -> Totals;
+    fn schaumtruhe_next_message(delivery: *const u8, length: usize, from: usize) -> Next;
+    fn schaumtruhe_judge_at(delivery: *const u8, length: usize, at: usize) -> Judged;
+    fn schaumtruhe_prices(delivery: *const u8, length: usize, at: usize, k: usize, row: *mut i64, count: usize) -> Prices;
+    fn schaumtruhe_article(delivery: *const u8, length: usize, at: usize, k: usize) -> Placed;
+}
+
+/// Messages found, accepted, and segments outside.
+pub fn survey(delivery: &[u8]) -> Totals {
+    // SAFETY: pointer and length are a slice's, which is borrowed for the call; the same holds of each call below.
+    unsafe { schaumtruhe_survey(delivery.as_ptr(), delivery.len()) }
+}
+
+/// The first message that begins at `from` or later; none in a delivery that is refused with 1 or 2. Going on from `end` gives every message
+/// once.
+pub fn next_message(delivery: &[u8], from: usize) -> Next {
+    // SAFETY: as in `survey`.
+    unsafe { schaumtruhe_next_message(delivery.as_ptr(), delivery.len(), from) }
+}
+
+/// The verdict of the message that begins at `at`; 1, 2 or 31 with zeros.
+pub fn judge_at(delivery: &[u8], at: usize) -> Judged {
+    // SAFETY: as in `survey`.
+    unsafe { schaumtruhe_judge_at(delivery.as_ptr(), delivery.len(), at) }
+}
+
+/// The prices of that message from the k-th on, `PRICE` numbers to a price, as many as fit whole; the rest of the row is unchanged.
+pub fn prices(delivery: &[u8], at: usize, k: usize, row: &mut [i64]) -> Prices {
+    // SAFETY: as in `survey`; the row is borrowed alone, so it lies apart from the delivery.
+    unsafe { schaumtruhe_prices(delivery.as_ptr(), delivery.len(), at, k, row.as_mut_ptr(), row.len()) }
+}
+
+/// The article of price k of that message; an absent one is the empty part at the message's start.
+pub fn article(delivery: &[u8], at: usize, k: usize) -> Article<'_> {
+    // SAFETY: as in `survey`.
+    let placed = unsafe { schaumtruhe_article(delivery.as_ptr(), delivery.len(), at, k) };
+    // That it lies within is proved (`article-in-delivery`); the slices below test it all the same.
+    Article { number: placed.number, part: &delivery[placed.place..][..placed.length] }
+}

@@ -1,0 +1,88 @@
+//! Each call from outside, on both sides of each refusal.
+use schaumtruhe::{article, judge_at, next_message, prices, survey, Judged, Next, Prices, Totals, LIMIT, PRICE};
+
+const DELIVERY: &[u8] = include_bytes!("../../../examples/delivery.edi");
+const FIRST: usize = 77;
+const SECOND: usize = 341;
+const THIRD: usize = 387;
+const UNTOUCHED: i64 = -77;
+
+fn refused(number: u32) -> Judged {
+    Judged { number, segment: 0, place: 0, node: 0 }
+}
+
+#[test]
+fn surveys() {
+    assert_eq!(survey(DELIVERY), Totals { number: 0, messages: 3, accepted: 1, outside: 2 });
+    assert_eq!(survey(b""), Totals { number: 0, messages: 0, accepted: 0, outside: 0 });
+}
+
+#[test]
+fn messages_in_order() {
+    assert_eq!(next_message(DELIVERY, 0), Next { found: 1, start: FIRST, end: SECOND });
+    assert_eq!(next_message(DELIVERY, FIRST + 1), Next { found: 1, start: SECOND, end: THIRD });
+    for from in [THIRD + 1, DELIVERY.len(), usize::MAX] {
+        assert_eq!(next_message(DELIVERY, from), Next { found: 0, start: 0, end: 0 });
+    }
+}
+
+#[test]
+fn verdicts() {
+    assert_eq!(judge_at(DELIVERY, FIRST), Judged { number: 0, segment: 15, place: SECOND, node: 0 });
+    assert_eq!(judge_at(DELIVERY, SECOND), Judged { number: 14, segment: 3, place: 379, node: 4 });
+    assert_eq!(judge_at(DELIVERY, THIRD), Judged { number: 24, segment: 2, place: 414, node: 0 });
+    for at in [0, FIRST + 1, DELIVERY.len(), usize::MAX] {
+        assert_eq!(judge_at(DELIVERY, at), refused(31));
+    }
+}
+
+#[test]
+fn prices_as_many_as_fit_whole() {
+    let mut row = [UNTOUCHED; 2 * PRICE + 3];
+    assert_eq!(prices(DELIVERY, FIRST, 0, &mut row), Prices { number: 0, written: 2, total: 3 });
+    assert_eq!(row[..PRICE], [1, 158, 13, 16806, 2, 1, 176, -1]);
+    assert_eq!(row[PRICE..2 * PRICE], [2, 205, 7, -5, 1, 0, 217, 230]);
+    assert_eq!(row[2 * PRICE..], [UNTOUCHED; 3]);
+
+    row = [UNTOUCHED; 2 * PRICE + 3];
+    assert_eq!(prices(DELIVERY, FIRST, 2, &mut row), Prices { number: 0, written: 1, total: 3 });
+    assert_eq!(row[..PRICE], [2, 205, 7, 7, 0, 0, 245, -1]);
+    assert_eq!(row[PRICE..], [UNTOUCHED; PRICE + 3]);
+
+    row = [UNTOUCHED; 2 * PRICE + 3];
+    assert_eq!(prices(DELIVERY, FIRST, usize::MAX, &mut row), Prices { number: 0, written: 0, total: 3 });
+    assert_eq!(prices(DELIVERY, FIRST, 0, &mut row[..PRICE - 1]), Prices { number: 0, written: 0, total: 3 });
+    assert_eq!(prices(DELIVERY, FIRST, 0, &mut []), Prices { number: 0, written: 0, total: 3 });
+    assert_eq!(prices(DELIVERY, SECOND, 0, &mut row), Prices { number: 30, written: 0, total: 0 });
+    assert_eq!(prices(DELIVERY, 0, 0, &mut row), Prices { number: 31, written: 0, total: 0 });
+    assert_eq!(row, [UNTOUCHED; 2 * PRICE + 3]);
+}
+
+#[test]
+fn articles_are_parts_of_the_delivery() {
+    let second = article(DELIVERY, FIRST, 1);
+    assert_eq!((second.number, second.part), (0, &b"A?+B??C"[..]));
+    assert_eq!(second.part.as_ptr(), DELIVERY[FIRST + 205..].as_ptr());
+    for (number, at, k) in [(32, FIRST, 3), (32, FIRST, usize::MAX), (30, SECOND, 0), (31, 0, 0)] {
+        let refused = article(DELIVERY, at, k);
+        assert_eq!((refused.number, refused.part), (number, &b""[..]));
+        assert_eq!(refused.part.as_ptr(), DELIVERY.as_ptr());
+    }
+}
+
+#[test]
+fn deliveries_not_admitted() {
+    let mut long = DELIVERY.to_vec();
+    long.resize(LIMIT, b' ');
+    assert_eq!(survey(&long).number, 0);
+    long.push(b' ');
+    for (number, delivery) in [(1, &long[..]), (2, &b"UNA:+.? ;UNH+1'"[..])] {
+        assert_eq!(survey(delivery), Totals { number, messages: 0, accepted: 0, outside: 0 });
+        assert_eq!(next_message(delivery, 0), Next { found: 0, start: 0, end: 0 });
+        assert_eq!(judge_at(delivery, FIRST), refused(number));
+        let mut row = [UNTOUCHED; PRICE];
+        assert_eq!(prices(delivery, FIRST, 0, &mut row), Prices { number, written: 0, total: 0 });
+        assert_eq!(row, [UNTOUCHED; PRICE]);
+        assert_eq!((article(delivery, FIRST, 0).number, article(delivery, FIRST, 0).part), (number, &b""[..]));
+    }
+}
