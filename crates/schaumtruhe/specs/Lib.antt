@@ -1,2 +1,3 @@
 pub mod Calls
 pub mod Workers
+pub mod Demand3
