@@ -5,3 +5,4 @@ pub mod ArticlesAt
 pub mod Surveying
 pub mod Demand3Found
 pub mod Demand3Kept
+pub mod Demand3
