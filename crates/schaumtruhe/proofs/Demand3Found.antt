@@ -1,6 +1,6 @@
 -- The messages of a delivery stand in order, so one of them is the only one that begins at its place.
 use Prim.Native.Nat.{ℕ, _+_, _≤_, _<_}
-use mathlib.Core.Path.{_≡_, refl, sym, _∙_, ap, subst}
+use mathlib.Core.Path.{_≡_, refl, sym, _∙_, ap}
 use mathlib.Core.List.{List, [], _∷_, map, List·Memᴰ, List·Memᴰ·not-nil, List·Memᴰ·cases-cons}
 use mathlib.Core.Logic.{_⊎_, inl, inr}
 use native.Mathlib.Omega.{arith}
@@ -13,8 +13,9 @@ use Rattle.cut.specs.Segments.{Segment, endOf}
 use Rattle.cut.specs.Messages.{Message, startOf, closeOf, lastEnd, messages}
 use Rattle.cut.specs.Calls.{asFound, foundFrom, nextMessage}
 use Rattle.cut.specs.Fronts.{moved, movedMessage}
-use Rattle.cut.proofs.Members.{Each, Lies, messages-lie, messages-in-order}
+use Rattle.cut.proofs.Members.{Lies, messages-lie, messages-in-order}
 use Rattle.cut.proofs.Ordering.{InOrder}
+use Rattle.verdict.proofs.Face.{each-member}
 use Rattle.schaumtruhe.specs.Calls.{beginningAt}
 
 module _ (m : Message) where
@@ -58,16 +59,6 @@ module _ (m : Message) where
           let j : startOf n < startOf m = omega (arith, k .1) in
           rw (lt-leb (startOf m) (startOf n) j) (ih l)
 
-  -- what holds of each holds of one of them
-  each-member : (P : Message → Type 0) (ms : List Message) → Each P ms → List·Memᴰ m ms → P m
-  unfolding Each
-  each-member P [] k h = absurd (List·Memᴰ·not-nil h)
-  each-member P (n ∷ ns) k h = go (List·Memᴰ·cases-cons h) (each-member P ns (k .1))
-    where
-      go : (m ≡ n) ⊎ List·Memᴰ m ns → (List·Memᴰ m ns → P m) → P m
-      go (inl e) ih = subst P (sym e) (k .0)
-      go (inr l) ih = ih l
-
 -- where the last of some segments ends, k places later
 last-moved : (k e : ℕ) (ss : List Segment) → lastEnd (k + e) (map (moved k) ss) ≡ k + lastEnd e ss
 unfolding lastEnd
@@ -88,4 +79,4 @@ module _ (y : Syntax) (d : List ℕ) (m : Message) (here : List·Memᴰ m (messa
   next-here = next-once m 0 (messages y d) (messages-in-order y d) here
 
   pub lies-here : Lies y d m
-  lies-here = each-member m (Lies y d) (messages y d) (messages-lie y d) here
+  lies-here = each-member (Lies y d) m (messages y d) (messages-lie y d) here

@@ -2,14 +2,14 @@
 -- prices, places moved by the length of what stands in front".
 use Prim.Native.Nat.{ℕ, suc, _+_, _≤_}
 use mathlib.Core.Path.{_≡_}
-use mathlib.Core.List.{List, _∷_, _++_, map, List·Memᴰ}
+use mathlib.Core.List.{List, [], _∷_, _++_, map, List·Memᴰ}
 use mathlib.Core.Logic.{_⊎_}
 use lib.IntN.{ℤ}
 use lib.ListN.{length, take, drop}
 use Rattle.cut.specs.declared.service.Syntax.{Syntax}
 use Rattle.cut.specs.declared.message.Found.the-variants as found
 use Rattle.cut.specs.Bytes.{part}
-use Rattle.cut.specs.Admission.{segments}
+use Rattle.cut.specs.Admission.{admissionOf, segments}
 use Rattle.cut.specs.Messages.{Message, startOf, closeOf, messages}
 use Rattle.cut.specs.Calls.{nextMessage}
 use Rattle.cut.specs.Fronts.{moved, movedMessage, meet, begunIn}
@@ -40,6 +40,17 @@ pub record Kept (y : Syntax) (d′ d : List ℕ) (k : ℕ) (m : Message) : Type 
   pub refusal : (j : ℕ) → articleRefusal y d′ (k + startOf m) j ≡ articleRefusal y d (startOf m) j
   pub article : (j : ℕ) → bytesAt (articleAt y d′ (k + startOf m) j) d′ ≡ bytesAt (articleAt y d (startOf m) j) d
   pub place : (j : ℕ) → articleRefusal y d (startOf m) j ≡ 0 → articleAt y d′ (k + startOf m) j ≡ movedSpan k (articleAt y d (startOf m) j)
+
+-- "Each message stands by itself": the bytes of the message m of d are an admitted delivery with one message, and the calls answer alike
+pub record Alone (y : Syntax) (d : List ℕ) (m : Message) : Type 0 where
+  pub message : Message
+  pub admits : admissionOf y (part (startOf m) (closeOf m) d) ≡ 0
+  pub only : messages y (part (startOf m) (closeOf m) d) ≡ message ∷ []
+  pub begins : startOf message ≡ 0
+  pub same : movedMessage (startOf m) message ≡ m
+  pub kept : Kept y d (part (startOf m) (closeOf m) d) (startOf m) message
+  -- of these: the verdict that demand 2 gives it alone
+  pub verdict : verdictAt y d (startOf m) ≡ movedVerdict (startOf m) (verdictAt y (part (startOf m) (closeOf m) d) 0)
 
 -- the messages of the longer delivery that begin in the front or at the tail's first segment
 abbrev pub earlier : Syntax → List ℕ → List ℕ → List Message
