@@ -1,17 +1,16 @@
 -- "Each message stands by itself": its bytes as a delivery of their own hold just this message, at the place 0.
-use Prim.Native.Nat.{ℕ, _+_, _-_, _≤_}
+use Prim.Native.Nat.{ℕ}
 use mathlib.Core.Path.{_≡_, refl, sym, _∙_, ap}
 use mathlib.Core.Bool.{Bool, true, false, true≢false}
 use mathlib.Core.List.{List, [], _∷_, _++_, map, head-eq-of-cons-eq, tail-eq-of-cons-eq, nil≢cons}
 use native.Mathlib.Nat.{add-zero}
 use native.Mathlib.Omega.{arith}
-use lib.ListN.{length}
 use Rattle.cut.specs.declared.service.Syntax.{Syntax}
 use Rattle.cut.specs.declared.tags.Tag.{Tag}
 use Rattle.cut.specs.declared.tags.Tag.the-variants.{Unh, Unt, Unz, Other}
 use Rattle.cut.specs.Bytes.{bytesOf, part, begins}
 use Rattle.cut.specs.Segments.{Segment, segmentsFrom, joined}
-use Rattle.cut.specs.Admission.{UNA, admissionOf, openingOf, segments}
+use Rattle.cut.specs.Admission.{admissionOf, openingOf, segments}
 use Rattle.cut.specs.Messages.{Message, startOf, closeOf, pickTag, tagOf, follow, body, begin, messagesIn, messages}
 use Rattle.cut.specs.Fronts.{moved, movedMessage, UNH}
 use Rattle.cut.proofs.Appended.{segments-moved, segments-joined}

@@ -1,13 +1,12 @@
 -- The message that a tail begins with: demand 3's "that first message".
 use Prim.Native.Nat.{ℕ}
-use mathlib.Core.Path.{_≡_, refl, sym, _∙_}
+use mathlib.Core.Path.{_≡_, sym, _∙_}
 use mathlib.Core.Bool.{false}
 use mathlib.Core.List.{List, _∷_}
 use Rattle.cut.specs.declared.service.Syntax.{Syntax}
 use Rattle.cut.specs.Messages.{Message, startOf, body, messagesIn, messages}
 use Rattle.cut.specs.Fronts.{Tail}
 use Rattle.cut.proofs.First.{first}
-use Rattle.cut.proofs.Grouping.{Headed}
 use Rattle.cut.proofs.Demand3.{tail-segments, first-headed}
 
 -- the first message of a delivery that begins with one

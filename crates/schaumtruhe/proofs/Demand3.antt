@@ -1,27 +1,22 @@
 -- Demand 3: two admitted deliveries, one the tail of the other, the tail starting with the bytes UNH.
-use Prim.Native.Nat.{ℕ, suc, _+_, _-_, _≤_}
+use Prim.Native.Nat.{ℕ, _+_, _-_}
 use mathlib.Core.Path.{_≡_, refl, sym, _∙_, ap, subst}
-use mathlib.Core.Bool.{true, false}
-use mathlib.Core.List.{List, [], _∷_, _++_, map, List·Memᴰ, List·Memᴰ·head, List·Memᴰ·tail, List·Memᴰ·cases-cons, Memᴰ·append-right, Memᴰ·map}
+use mathlib.Core.Bool.{true}
+use mathlib.Core.List.{List, [], _∷_, _++_, map, List·Memᴰ, List·Memᴰ·tail, List·Memᴰ·cases-cons, Memᴰ·append-right, Memᴰ·map}
 use mathlib.Core.Logic.{_⊎_, inl, inr}
 use native.Mathlib.Omega.{arith}
 use lib.ListN.{length, drop, length-map, length-append, length-drop}
 use lib.Seq.{drop-append-add}
 use Rattle.cut.specs.declared.service.Syntax.{Syntax}
-use Rattle.cut.specs.Admission.{admissionOf, segments}
-use Rattle.cut.specs.Bytes.{part}
-use Rattle.cut.specs.Messages.{Message, startOf, closeOf, messages}
-use Rattle.cut.specs.Fronts.{movedMessage, whole, Tail}
+use Rattle.cut.specs.Admission.{admissionOf, segments, nine}
+use Rattle.cut.specs.Base.{edifact}
+use Rattle.cut.specs.Bytes.{part, begins}
+use Rattle.cut.specs.Messages.{Message, messages}
+use Rattle.cut.specs.Fronts.{movedMessage, whole, has, UNH, Tail}
 use Rattle.cut.proofs.Fronting.{tail-admitted}
-use Rattle.cut.proofs.ByItself.{ByItself, messages-by-themselves}
-use Rattle.cut.proofs.Parts.{length-part, part-part}
 use Rattle.cut.proofs.TailFirst.{Opens, tail-opens}
-use Rattle.cut.proofs.Demand3.{messages-any-front, messages-whole-front}
-use Rattle.verdict.specs.Moves.{movedVerdict}
-use Rattle.verdict.proofs.Face.{each-member}
-use Rattle.schaumtruhe.specs.Calls.{verdictAt}
-use Rattle.schaumtruhe.specs.Demand3.{Kept, Alone, earlier, FromSecond, FromFirst, AtMostFirst}
-use Rattle.schaumtruhe.proofs.Demand3Found.{lies-here}
+use Rattle.cut.proofs.Demand3.{messages-any-front, messages-whole-front, whole-empty, whole-nine}
+use Rattle.schaumtruhe.specs.Demand3.{Kept, earlier, FromSecond, FromFirst, AtMostFirst, Demand3}
 use Rattle.schaumtruhe.proofs.Demand3Kept.{kept}
 
 -- a part of the tail is a part of the whole
@@ -82,30 +77,18 @@ module _ (y : Syntax) (front tail : List ℕ) (t : Tail y front tail) where
         count = omega arith;
       }
 
--- "Each message stands by itself"
-module _ (y : Syntax) (d : List ℕ) (a : admissionOf y d ≡ 0) (m : Message) (here : List·Memᴰ m (messages y d)) where
-  abbrev own : List ℕ
-  own = part (startOf m) (closeOf m) d
+  -- demand 3, whole
+  pub demand3 : Demand3 y front tail
+  demand3 = record { from-second = demand3-any; from-first = demand3-whole; at-most-first = demand3-at-most-first }
 
-  own-part : (x e : ℕ) → e ≤ length own → part (startOf m + x) (startOf m + e) d ≡ part x e own
-  own-part x e h =
-      let l : e ≤ closeOf m - startOf m = omega (arith, length-part d (startOf m) (closeOf m) (lies-here y d m here .fits)) in
-      sym (part-part d (startOf m) (closeOf m) x e l)
+-- the empty front, and the front that is just UNA
+pub demand3-empty : (y : Syntax) (tail : List ℕ) → Tail y [] tail → FromFirst y [] tail
+demand3-empty y tail t = demand3-whole y [] tail t (whole-empty y)
 
-  pub each-alone : Alone y d m
-  each-alone =
-      let b = each-member (ByItself y d) m (messages y d) (messages-by-themselves y d a) here in
-      let z : startOf (b .alone) ≡ 0 = omega (arith, ap startOf (b .same)) in
-      let q = kept y d own (startOf m) a (b .admits) own-part (b .alone) (subst (λ (n : Message). List·Memᴰ n (messages y d)) (sym (b .same)) here)
-      (subst (List·Memᴰ (b .alone)) (sym (b .only)) (List·Memᴰ·head refl)) in
-      record {
-        message = b .alone;
-        admits = b .admits;
-        only = b .only;
-        begins = z;
-        same = b .same;
-        kept = q;
-        verdict =
-          ap (verdictAt y d) (sym (ap startOf (b .same)))
-          ∙ (q .verdict ∙ ap (λ (p : ℕ). movedVerdict (startOf m) (verdictAt y own p)) z);
-      }
+pub demand3-una : (y : Syntax) (tail : List ℕ) → Tail y (nine y) tail → FromFirst y (nine y) tail
+demand3-una y tail t = demand3-whole y (nine y) tail t (whole-nine y)
+
+-- at the service characters `:+.?'` nothing more is asked than that the longer delivery is admitted and the tail begins UNH
+pub demand3-base : (front tail : List ℕ) → admissionOf edifact (front ++ tail) ≡ 0 → begins UNH tail ≡ true → Demand3 edifact front tail
+unfolding has
+demand3-base front tail a u = demand3 edifact front tail (record { no-U = refl; no-N = refl; admitted = a; begins-UNH = u })

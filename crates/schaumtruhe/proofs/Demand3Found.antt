@@ -8,7 +8,6 @@ use native.Mathlib.Nat.{add-assoc}
 use lib.ListN.{length}
 use borrow.Author.Tests.{eq-eqb, ne-eqb, le-leb, lt-leb}
 use Rattle.cut.specs.declared.service.Syntax.{Syntax}
-use Rattle.cut.specs.declared.message.Found.{Found}
 use Rattle.cut.specs.Segments.{Segment, endOf}
 use Rattle.cut.specs.Messages.{Message, startOf, closeOf, lastEnd, messages}
 use Rattle.cut.specs.Calls.{asFound, foundFrom, nextMessage}

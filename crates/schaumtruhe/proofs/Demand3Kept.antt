@@ -1,7 +1,7 @@
 -- A message that two deliveries hold, in one of them k places later and with the same bytes: the public calls answer alike.
 use Prim.Native.Nat.{ℕ, zero, suc, _+_, _≤_}
-use mathlib.Core.Path.{_≡_, refl, sym, _∙_, ap, ap₂}
-use mathlib.Core.List.{List, [], _∷_, map, List·Memᴰ}
+use mathlib.Core.Path.{_≡_, refl, sym, _∙_, ap}
+use mathlib.Core.List.{List, map, List·Memᴰ}
 use native.Mathlib.Nat.{le-refl}
 use native.Mathlib.Omega.{arith}
 use lib.Dec.{ltb}
@@ -12,8 +12,7 @@ use Rattle.cut.specs.declared.message.Found.the-variants as found
 use Rattle.cut.specs.Admission.{admissionOf}
 use Rattle.cut.specs.Bytes.{part}
 use Rattle.cut.specs.Messages.{Message, startOf, closeOf, messages}
-use Rattle.cut.specs.Calls.{nextMessage}
-use Rattle.cut.specs.Fronts.{moved, movedMessage}
+use Rattle.cut.specs.Fronts.{movedMessage}
 use Rattle.cut.proofs.Parts.{part-none}
 use Rattle.element.specs.declared.components.Span.{Span}
 use Rattle.guide.specs.Accepted.{segmentsOf}
@@ -29,7 +28,6 @@ use Rattle.price.specs.PriceNumbers.{Listed}
 use Rattle.price.proofs.PriceMoved.{laterPrice, prices-moved, row-later, filled-later}
 use Rattle.price.proofs.PriceArticleMoved.{first-article-moved}
 use Rattle.schaumtruhe.specs.Calls.{
-  beginningAt,
   judged,
   verdictAt,
   sheetBy,
@@ -171,7 +169,7 @@ module _ (y : Syntax) (d′ d : List ℕ) (k : ℕ) (admits′ : admissionOf y d
     article-later =
         rw refusal-later
         (unless-bytes d′ d k bytes (articleRefusal y d (startOf m) j) (articleBy y (sheetAt y d′ (k + startOf m)) j) (articleBy y (sheetAt y d (startOf m)) j)
-          span-later (article-within y d (startOf m) j .1))
+        span-later (article-within y d (startOf m) j .1))
 
   pub kept : Kept y d′ d k m
   kept =

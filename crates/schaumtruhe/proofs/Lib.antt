@@ -6,3 +6,6 @@ pub mod Surveying
 pub mod Demand3Found
 pub mod Demand3Kept
 pub mod Demand3
+pub mod Demand3Alone
+pub mod Demand3Tails
+pub mod Demand3Samples

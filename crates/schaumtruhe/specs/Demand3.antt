@@ -2,6 +2,7 @@
 -- prices, places moved by the length of what stands in front".
 use Prim.Native.Nat.{ℕ, suc, _+_, _≤_}
 use mathlib.Core.Path.{_≡_}
+use mathlib.Core.Bool.{true}
 use mathlib.Core.List.{List, [], _∷_, _++_, map, List·Memᴰ}
 use mathlib.Core.Logic.{_⊎_}
 use lib.IntN.{ℤ}
@@ -12,7 +13,7 @@ use Rattle.cut.specs.Bytes.{part}
 use Rattle.cut.specs.Admission.{admissionOf, segments}
 use Rattle.cut.specs.Messages.{Message, startOf, closeOf, messages}
 use Rattle.cut.specs.Calls.{nextMessage}
-use Rattle.cut.specs.Fronts.{moved, movedMessage, meet, begunIn}
+use Rattle.cut.specs.Fronts.{moved, movedMessage, whole, meet, begunIn}
 use Rattle.element.specs.declared.components.Span.{Span}
 use Rattle.verdict.specs.Moves.{movedVerdict}
 use Rattle.schaumtruhe.specs.Calls.{judged, verdictAt, pricedAt, rowAt, articleRefusal, articleAt}
@@ -75,3 +76,9 @@ pub record AtMostFirst (y : Syntax) (front tail : List ℕ) : Type 0 where
   pub begins : startOf first ≡ 0
   pub kept : (m : Message) → List·Memᴰ m (messages y tail) → (m ≡ first) ⊎ Kept y (front ++ tail) tail (length front) m
   pub count : length (messages y tail) ≤ suc (length (messages y (front ++ tail)))
+
+-- demand 3, whole: what it says of a front and a tail; `whole`: the front is empty, is just UNA, or ends where a segment ends
+pub record Demand3 (y : Syntax) (front tail : List ℕ) : Type 0 where
+  pub from-second : FromSecond y front tail
+  pub from-first : whole (segments y front) ≡ true → FromFirst y front tail
+  pub at-most-first : AtMostFirst y front tail
