@@ -35,7 +35,9 @@ module _ (y : Syntax) (front tail : List ℕ) (t : Tail y front tail) where
   k = length front
 
   -- a list of messages that the longer delivery holds behind others, places moved
-  held : (es ms : List Message) → messages y (front ++ tail) ≡ es ++ map (movedMessage k) ms → (m : Message) → List·Memᴰ m ms → List·Memᴰ m (messages y tail) → Kept y (front ++ tail) tail k m
+  held
+      : (es ms : List Message) → messages y (front ++ tail) ≡ es ++ map (movedMessage k) ms → (m : Message) → List·Memᴰ m ms
+      → List·Memᴰ m (messages y tail) → Kept y (front ++ tail) tail k m
   held es ms same m h here =
       kept y (front ++ tail) tail k (t .admitted) (tail-admitted y front tail t) (λ a e l. part-front front tail a e) m
       (subst (List·Memᴰ (movedMessage k m)) (sym same) (Memᴰ·append-right es (Memᴰ·map (movedMessage k) h)))

@@ -19,20 +19,19 @@ use Rattle.element.specs.Format.{fitsFormat}
 use Rattle.element.specs.Number.{numberOf}
 use Rattle.element.specs.Numeral.{some, none, isDigit, digitsAhead, behindDigits, minus, unsigned, whole, fraction, digits, isTail, isNumber, decimal}
 use Rattle.element.specs.Plain.{unlessMark, plain, same}
-use Rattle.guide.specs.Composites.{S009, C002, C106, C507, C506, C082, C517, C056, C076, C504, C212, services, C272, C273, C509, basis, C280}
+use Rattle.guide.specs.Composites.{S009, C002, C106, C507, C506, C082, C212, services, C509, basis}
 use Rattle.guide.specs.Content.{text}
 use Rattle.guide.specs.Judging.{Verdict, accepts, refuses, bytesFault, endFault, lineFault, ruleFault, contentFault, segmentAnswer, judgeFrom}
-use Rattle.guide.specs.Nodes.{among, chosen, matches, samePlace, rival, takes, required, over}
+use Rattle.guide.specs.Nodes.{among, chosen, matches, required}
 use Rattle.guide.specs.Page.{codes, simple, elementOf, rowOf}
 use Rattle.guide.specs.PageFault.{firstOf, notUsed, missing, wrongFormat, wrongCode, textFault, componentFault, anyFilled, elementFault, pageFault}
-use Rattle.guide.specs.Pages20d.{coded, UNH, BGM, DTM, RFF, NAD, LOC, CTA, COM, CUX, PGI, LIN, PIA, IMD, PRI, RNG, UNT, pages20d, pageOf}
+use Rattle.guide.specs.Pages20d.{coded, UNH, BGM, DTM, RFF, NAD, PGI, LIN, PRI, UNT, pages20d, pageOf}
 use Rattle.guide.specs.Placing.{lowest, levels, fitsIn, seek, lacking, place, indexed, recounted, countsAfter, lastAfter, given, missing as missingIn}
 use Rattle.guide.specs.Pricat.{pricat20d}
 use Rattle.guide.specs.Sheet.{isTag}
 use Rattle.guide.specs.Views.{viewOf}
 use Rattle.agree.specs.AgreePositions.{nextIf, behindIf, headingFrom, positionsFrom, positionsOf, agreesAny, firstAfter, firstAgreeing}
-use Rattle.agree.specs.Agreement.{sameText, allEmpty, sameComponents, emptyElements, sameElements, agreeBut, agreeIn, agree}
-use Rattle.verdict.specs.Verdicts.{nodesOf, nodeOf, forIntervals, unlessAgreeing, settled, verdictFrom, verdictOf}
+use Rattle.verdict.specs.Verdicts.{nodesOf, forIntervals, unlessAgreeing, settled, verdictFrom, verdictOf}
 use Rattle.price.specs.PriceCalls.{numbersFrom, filledOf, rowAfter, firstArticle}
 use Rattle.price.specs.PriceList.{kindOf, rngNext, pricesFrom, pricesOf}
 use Rattle.price.specs.PriceNumbers.{articleIn, articlePlace, articleLength, priceIn, unitRank, placeOfFirst, numbersOf}
