@@ -80,7 +80,7 @@ whole-nine y = go (eqb (admissionOf y (nine y)) 0)
     go false = refl
 
 module _ (y : Syntax) (front tail : List ℕ) (t : Tail y front tail) where
-  tail-segments : segments y tail ≡ segmentsFrom y 0 false tail
+  pub tail-segments : segments y tail ≡ segmentsFrom y 0 false tail
   tail-segments = admitted y tail (tail-admitted y front tail t) ∙ rw (tail-opening y front tail t)
 
   -- Any front: the longer delivery holds the front's segments and then the tail's, places moved; a piece at the front's end and the tail's
@@ -108,7 +108,7 @@ module _ (y : Syntax) (front tail : List ℕ) (t : Tail y front tail) where
       : whole (segments y front) ≡ true → segments y (front ++ tail) ≡ segments y front ++ map (moved (length front)) (segments y tail)
   segments-whole-front w = segments-any-front ∙ meet-whole (segments y front) _ w
 
-  first-headed : Headed (segments y tail)
+  pub first-headed : Headed (segments y tail)
   first-headed = rw tail-segments (tail-headed y tail (t .no-U) (t .no-N) (t .begins-UNH))
 
   moved-body : body (map (moved (length front)) (segments y tail)) ≡ []

@@ -56,6 +56,16 @@ has-not x [] i h k e = omega arith
 has-not x (z ∷ zs) zero h k e = eqb-false x z (neither (eqb x z) (has x zs) h .0) e
 has-not x (z ∷ zs) (suc i) h k e = has-not x zs i (neither (eqb x z) (has x zs) h .1) (omega arith) e
 
+-- what begins UNH does not begin UNA
+pub unh-una : (d : List ℕ) → begins UNH d ≡ true → begins UNA d ≡ false
+unh-una d u = go (begins UNA d) refl
+  where
+    go : (b : Bool) → begins UNA d ≡ b → begins UNA d ≡ false
+    go true e =
+        let h = sym (begins-at UNA d 2 e (lit< tt)) ∙ begins-at UNH d 2 u (lit< tt) in
+        absurd (omega arith)
+    go false e = e
+
 -- no byte of UNA's nine but the first is a U
 nine-U : (y : Syntax) (i : ℕ) → has 85 (service y) ≡ false → 0 < i → i < 9 → 85 ≡ getD (nine y) i 0 → ⊥
 nine-U y zero n h k e = omega arith
@@ -103,13 +113,7 @@ module _ (y : Syntax) (front tail : List ℕ) (t : Tail y front tail) where
   tail-byte i h = getD-append-add front tail i 0 ∙ begins-at UNH tail i (t .begins-UNH) h
 
   tail-una : begins UNA tail ≡ false
-  tail-una = go (begins UNA tail) refl
-    where
-      go : (b : Bool) → begins UNA tail ≡ b → begins UNA tail ≡ false
-      go true e =
-          let h = sym (begins-at UNA tail 2 e (lit< tt)) ∙ begins-at UNH tail 2 (t .begins-UNH) (lit< tt) in
-          absurd (omega arith)
-      go false e = e
+  tail-una = unh-una tail (t .begins-UNH)
 
   -- UNA stands in the front whole
   una-front : begins UNA (front ++ tail) ≡ true → 9 ≤ length front

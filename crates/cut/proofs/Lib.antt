@@ -20,5 +20,7 @@ pub mod Demand3
 pub mod Alone
 pub mod Ordering
 pub mod Members
+pub mod ByItself
+pub mod TailFirst
 pub mod Face
 pub mod Kept

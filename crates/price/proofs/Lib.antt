@@ -18,3 +18,4 @@ pub mod PriceProper
 pub mod PriceNumbered
 pub mod PriceFace
 pub mod PriceMoved
+pub mod PriceArticleMoved

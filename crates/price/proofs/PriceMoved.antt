@@ -29,7 +29,7 @@ use Rattle.price.specs.PriceCalls.{pricesIn, numbersFrom, filledOf, rowA
 abbrev laterComponent : ℕ → Component → Component
 laterComponent k x = record { element = x .element; component = x .component; start = k + x .start; bytes = x .bytes }
 
-abbrev laterSpan : ℕ → Span → Span
+abbrev pub laterSpan : ℕ → Span → Span
 laterSpan k s = record { start = k + s .start; end = k + s .end }
 
 abbrev pub laterPrice : ℕ → Listed → Listed
@@ -66,14 +66,14 @@ module _ (k : ℕ) where
       go true ih = rw z
       go false ih = ih
 
-  article-moved : (y : Syntax) (p : ℕ) (b : List ℕ) → articleIn y (k + p) b ≡ laterSpan k (articleIn y p b)
+  pub article-moved : (y : Syntax) (p : ℕ) (b : List ℕ) → articleIn y (k + p) b ≡ laterSpan k (articleIn y p b)
   unfolding articleIn components
   article-moved y p b = ap (spanIn (k + p) 3 0) (elements-moved 0 p (elements y b)) ∙ span-moved p 3 0 (inElements 0 p (elements y b))
 
   minus-moved : (a b : ℕ) → (k + a) - (k + b) ≡ a - b
   minus-moved a b = omega arith
 
-  before-moved : (a b : ℕ) → ltb (k + a) (k + b) ≡ ltb a b
+  pub before-moved : (a b : ℕ) → ltb (k + a) (k + b) ≡ ltb a b
   before-moved a b = go (decLe b a)
     where
       go : Dec (b ≤ a) → ltb (k + a) (k + b) ≡ ltb a b

@@ -7,3 +7,9 @@ pub mod Asked
 pub mod Demand1
 pub mod Demand2
 pub mod Equal
+pub mod Demand3Found
+pub mod Demand3Kept
+pub mod Demand3
+pub mod Demand3Alone
+pub mod Demand3Tails
+pub mod Demand3Samples

@@ -1,3 +1,4 @@
 pub mod Calls
 pub mod Workers
 pub mod Demands
+pub mod Demand3

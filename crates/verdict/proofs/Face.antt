@@ -43,7 +43,7 @@ from-member q m (n ∷ ns) h = go (leb q (startOf n)) h (from-member q m ns)
     go false k ih = List·Memᴰ·tail (ih k)
 
 -- what holds of each holds of a member
-each-member : (P : Message → Type 0) (m : Message) (ms : List Message) → Each P ms → List·Memᴰ m ms → P m
+pub each-member : (P : Message → Type 0) (m : Message) (ms : List Message) → Each P ms → List·Memᴰ m ms → P m
 unfolding Each
 each-member P m [] h k = absurd (List·Memᴰ·not-nil k)
 each-member P m (n ∷ ns) h k = go (List·Memᴰ·cases-cons k) (each-member P m ns (h .1))

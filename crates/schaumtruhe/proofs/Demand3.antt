@@ -1,0 +1,96 @@
+-- Demand 3: two admitted deliveries, one the tail of the other, the tail starting with the bytes UNH.
+use Prim.Native.Nat.{ℕ, _+_, _-_}
+use mathlib.Core.Path.{_≡_, refl, sym, _∙_, ap, subst}
+use mathlib.Core.Bool.{true}
+use mathlib.Core.List.{List, [], _∷_, _++_, map, List·Memᴰ, List·Memᴰ·tail, List·Memᴰ·cases-cons, Memᴰ·append-right, Memᴰ·map}
+use mathlib.Core.Logic.{_⊎_, inl, inr}
+use native.Mathlib.Omega.{arith}
+use lib.ListN.{length, drop, length-map, length-append, length-drop}
+use lib.Seq.{drop-append-add}
+use Rattle.cut.specs.declared.service.Syntax.{Syntax}
+use Rattle.cut.specs.Admission.{admissionOf, segments, nine}
+use Rattle.cut.specs.Base.{edifact}
+use Rattle.cut.specs.Bytes.{part, begins}
+use Rattle.cut.specs.Messages.{Message, messages}
+use Rattle.cut.specs.Fronts.{movedMessage, whole, has, UNH, Tail}
+use Rattle.cut.proofs.Fronting.{tail-admitted}
+use Rattle.cut.proofs.TailFirst.{Opens, tail-opens}
+use Rattle.cut.proofs.Demand3.{messages-any-front, messages-whole-front, whole-empty, whole-nine}
+use Rattle.schaumtruhe.specs.Demand3.{Kept, earlier, FromSecond, FromFirst, AtMostFirst, Demand3}
+use Rattle.schaumtruhe.proofs.Demand3Kept.{kept}
+
+-- a part of the tail is a part of the whole
+part-front : (front tail : List ℕ) (a e : ℕ) → part (length front + a) (length front + e) (front ++ tail) ≡ part a e tail
+unfolding part
+part-front front tail a e =
+    let n : (length front + e) - (length front + a) ≡ e - a = omega arith in
+    rw (n, drop-append-add front tail a)
+
+member-drop : (m : Message) (ms : List Message) → List·Memᴰ m (drop 1 ms) → List·Memᴰ m ms
+member-drop m [] h = h
+member-drop m (n ∷ ns) h = List·Memᴰ·tail h
+
+module _ (y : Syntax) (front tail : List ℕ) (t : Tail y front tail) where
+  abbrev k : ℕ
+  k = length front
+
+  -- a list of messages that the longer delivery holds behind others, places moved
+  held
+      : (es ms : List Message) → messages y (front ++ tail) ≡ es ++ map (movedMessage k) ms → (m : Message) → List·Memᴰ m ms
+      → List·Memᴰ m (messages y tail) → Kept y (front ++ tail) tail k m
+  held es ms same m h here =
+      kept y (front ++ tail) tail k (t .admitted) (tail-admitted y front tail t) (λ a e l. part-front front tail a e) m
+      (subst (List·Memᴰ (movedMessage k m)) (sym same) (Memᴰ·append-right es (Memᴰ·map (movedMessage k) h)))
+      here
+
+  -- "From the second message that the tail holds when read alone", whatever the front
+  pub demand3-any : FromSecond y front tail
+  demand3-any =
+      let same = messages-any-front y front tail t in
+      record { same = same; kept = λ m h. held (earlier y front tail) (drop 1 (messages y tail)) same m h (member-drop m (messages y tail) h) }
+
+  -- "If the front is empty or ends where a segment ends, this holds from the first message too"
+  pub demand3-whole : whole (segments y front) ≡ true → FromFirst y front tail
+  demand3-whole w =
+      let same = messages-whole-front y front tail t w in
+      record { same = same; kept = λ m h. held (messages y front) (messages y tail) same m h h }
+
+  open-or-kept : (o : Opens y tail) (m : Message) → List·Memᴰ m (messages y tail) → (m ≡ o .message) ⊎ Kept y (front ++ tail) tail k m
+  open-or-kept o m h = go (List·Memᴰ·cases-cons (subst (List·Memᴰ m) (o .holds) h))
+    where
+      go : (m ≡ o .message) ⊎ List·Memᴰ m (o .rest) → (m ≡ o .message) ⊎ Kept y (front ++ tail) tail k m
+      go (inl e) = inl e
+      go (inr l) = inr (demand3-any .kept m (subst (List·Memᴰ m) (sym (ap (drop 1) (o .holds))) l))
+
+  -- "No damage in front can cost more than that first message"
+  pub demand3-at-most-first : AtMostFirst y front tail
+  demand3-at-most-first =
+      let o = tail-opens y front tail t in
+      let n : length (messages y (front ++ tail)) ≡ length (earlier y front tail) + (length (messages y tail) - 1) =
+      ap length (demand3-any .same)
+      ∙ (length-append (earlier y front tail) (map (movedMessage k) (drop 1 (messages y tail)))
+      ∙ ap (λ (x : ℕ). length (earlier y front tail) + x) (length-map (drop 1 (messages y tail)) (movedMessage k) ∙ length-drop 1 (messages y tail))) in
+      record {
+        first = o .message;
+        rest = o .rest;
+        holds = o .holds;
+        begins = o .begins;
+        kept = open-or-kept o;
+        count = omega arith;
+      }
+
+  -- demand 3, whole
+  pub demand3 : Demand3 y front tail
+  demand3 = record { from-second = demand3-any; from-first = demand3-whole; at-most-first = demand3-at-most-first }
+
+-- the empty front, and the front that is just UNA
+pub demand3-empty : (y : Syntax) (tail : List ℕ) → Tail y [] tail → FromFirst y [] tail
+demand3-empty y tail t = demand3-whole y [] tail t (whole-empty y)
+
+pub demand3-una : (y : Syntax) (tail : List ℕ) → Tail y (nine y) tail → FromFirst y (nine y) tail
+demand3-una y tail t = demand3-whole y (nine y) tail t (whole-nine y)
+
+-- at the service characters `:+.?'` nothing more is asked than that the longer delivery is admitted and the tail begins UNH
+pub demand3-base : (front tail : List ℕ) → admissionOf edifact (front ++ tail) ≡ 0 → begins UNH tail ≡ true → Demand3 edifact front tail
+unfolding has
+demand3-base front tail a u = demand3 edifact front tail (record { no-U = refl; no-N = refl; admitted = a; begins-UNH = u })
