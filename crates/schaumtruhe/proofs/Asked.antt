@@ -1,50 +1,23 @@
 -- What is asked at a place: there is no message, with document 01's number, or there is just one.
-use Prim.Native.Nat.{ℕ, zero, suc, _≤_, _<_}
-use mathlib.Core.Path.{_≡_, refl, sym, _∙_, ap, subst}
-use mathlib.Core.Bool.{Bool, true, false, not, _&&_, true≢false}
+use Prim.Native.Nat.{ℕ, suc}
+use mathlib.Core.Path.{_≡_, refl, sym, _∙_, ap}
+use mathlib.Core.Bool.{Bool, true, false, true≢false}
 use mathlib.Core.Logic.{_⊎_, inl, inr}
-use mathlib.Core.List.{List, [], _∷_, List·Memᴰ, List·Memᴰ·head, List·Memᴰ·tail, List·Memᴰ·not-nil, List·Memᴰ·cases-cons, head-eq-of-cons-eq, nil≢cons}
+use mathlib.Core.List.{List, [], _∷_, List·Memᴰ, List·Memᴰ·head, List·Memᴰ·tail, head-eq-of-cons-eq, nil≢cons}
 use native.Mathlib.Omega.{arith}
 use lib.Dec.{eqb, ltb}
 use lib.ListN.{length}
-use borrow.Author.Tests.{eq-eqb, ne-eqb, eqb-true, ltb-true, ltb-false}
+use borrow.Author.Tests.{eqb-true, ltb-true, ltb-false}
 use Rattle.cut.specs.declared.service.Syntax.{Syntax}
 use Rattle.cut.specs.Bytes.{begins}
-use Rattle.cut.specs.Admission.{limit, UNA, nine, pickℕ, admissionOf}
-use Rattle.cut.specs.Messages.{Message, startOf, closeOf, messages}
-use Rattle.cut.proofs.Ordering.{InOrder}
-use Rattle.cut.proofs.Members.{messages-in-order}
+use Rattle.cut.specs.Admission.{limit, UNA, nine, admissionOf}
+use Rattle.cut.specs.Messages.{Message, startOf, messages}
 use Rattle.guide.specs.Sheet.{pickList}
 use Rattle.schaumtruhe.specs.Calls.{beginningAt, nowhere, verdictAt, judged, Sheet, missing, sheetBy, sheetAt}
+use Rattle.schaumtruhe.proofs.Only.{only-here}
 use Rattle.schaumtruhe.specs.Demands.{TooLong, OtherUNA, Admitted, DeliveryRefused, too-long, other-UNA, Begins, NoMessage, whole-delivery, none-begins}
 
--- messages in order begin at or behind the place where the first may
-behind : (q : ℕ) (m : Message) (ms : List Message) → InOrder q ms → List·Memᴰ m ms → q ≤ startOf m
-unfolding InOrder
-behind q m [] o h = absurd (List·Memᴰ·not-nil h)
-behind q m (n ∷ ns) o h = go (List·Memᴰ·cases-cons h) (behind (closeOf n) m ns (o .2))
-  where
-    go : (m ≡ n) ⊎ List·Memᴰ m ns → (List·Memᴰ m ns → closeOf n ≤ startOf m) → q ≤ startOf m
-    go (inl e) ih = subst (λ (x : Message). q ≤ startOf x) (sym e) (o .0)
-    go (inr l) ih =
-        let c = ih l in
-        omega (arith, c, o .0, o .1)
-
--- so the one that begins at a place is found there
-begins-found : (q at : ℕ) (m : Message) (ms : List Message) → InOrder q ms → List·Memᴰ m ms → startOf m ≡ at → beginningAt at ms ≡ m ∷ []
-unfolding InOrder beginningAt
-begins-found q at m [] o h s = absurd (List·Memᴰ·not-nil h)
-begins-found q at m (n ∷ ns) o h s = go (List·Memᴰ·cases-cons h) (begins-found (closeOf n) at m ns (o .2))
-  where
-    go
-        : (m ≡ n) ⊎ List·Memᴰ m ns → (List·Memᴰ m ns → startOf m ≡ at → beginningAt at ns ≡ m ∷ []) → pickList (eqb at (startOf n)) (n ∷ []) (beginningAt at ns) ≡ m ∷ []
-    go (inl e) ih =
-        let a : at ≡ startOf n = sym s ∙ ap startOf e in
-        rw (eq-eqb at (startOf n) a) (ap (λ (x : Message). x ∷ []) (sym e))
-    go (inr l) ih =
-        let b = behind (closeOf n) m ns (o .2) l in
-        rw (ne-eqb at (startOf n) (λ (a : at ≡ startOf n). omega (arith, a, s, b, o .1))) (ih l s)
-
+-- the message that is found at a place begins there
 found-begins : (at : ℕ) (m : Message) (ms rest : List Message) → beginningAt at ms ≡ m ∷ rest → List·Memᴰ m ms × (startOf m ≡ at)
 unfolding beginningAt
 found-begins at m [] rest h = absurd (nil≢cons h)
@@ -99,7 +72,7 @@ module _ (y : Syntax) (d : List ℕ) where
   module _ (at : ℕ) where
     -- the message that begins at the place is the only one
     pub only-begins : (m : Message) → Begins y d at m → beginningAt at (messages y d) ≡ m ∷ []
-    only-begins m b = begins-found 0 at m (messages y d) (messages-in-order y d) (b .member) (b .starts)
+    only-begins m b = ap (λ (a : ℕ). beginningAt a (messages y d)) (sym (b .starts)) ∙ only-here y d m (b .member)
 
     pub one-begins : (m n : Message) → Begins y d at m → Begins y d at n → m ≡ n
     one-begins m n b c = head-eq-of-cons-eq (sym (only-begins m b) ∙ only-begins n c)

@@ -14,7 +14,7 @@ use Rattle.verdict.specs.Moves.{movedVerdict}
 use Rattle.verdict.proofs.Face.{each-member}
 use Rattle.schaumtruhe.specs.Calls.{verdictAt}
 use Rattle.schaumtruhe.specs.Demand3.{Alone}
-use Rattle.schaumtruhe.proofs.Demand3Found.{lies-here}
+use Rattle.schaumtruhe.proofs.Only.{lies-here}
 use Rattle.schaumtruhe.proofs.Demand3Kept.{kept}
 
 module _ (y : Syntax) (d : List ℕ) (a : admissionOf y d ≡ 0) (m : Message) (here : List·Memᴰ m (messages y d)) where

@@ -45,7 +45,7 @@ use Rattle.schaumtruhe.specs.Calls.{
   articleAt,
 }
 use Rattle.schaumtruhe.specs.Demand3.{movedSpan, bytesAt, Kept}
-use Rattle.schaumtruhe.proofs.Demand3Found.{only-here, next-here, lies-here, close-moved}
+use Rattle.schaumtruhe.proofs.Only.{only-here, next-here, lies-here, close-moved}
 use Rattle.schaumtruhe.proofs.ArticlesAt.{article-within}
 
 -- one message of an admitted delivery: what the calls find at its place

@@ -3,11 +3,11 @@ pub mod Verdicts
 pub mod PricesAt
 pub mod ArticlesAt
 pub mod Surveying
+pub mod Only
 pub mod Asked
 pub mod Demand1
 pub mod Demand2
 pub mod Equal
-pub mod Demand3Found
 pub mod Demand3Kept
 pub mod Demand3
 pub mod Demand3Alone
