@@ -1,0 +1,98 @@
+//! Times and stack of libraries on the five kinds of deliveries.
+//!
+//! A wrapper crate implements `plain::Library` for another library and calls `run` with both.
+
+mod stack;
+mod yardstick;
+
+use std::hint::black_box;
+use std::time::{Duration, Instant};
+
+use generator::{kind, KINDS};
+use plain::Library;
+
+pub use stack::stack_of;
+pub use yardstick::terminators;
+
+/// The two sizes that are timed.
+const SIZES: [usize; 2] = [131_072, 1_048_576];
+
+/// Each kind at each size: the yardstick, then survey of every library as a multiple of it.
+pub fn run(libraries: &[&'static (dyn Library + Sync)], for_each: Duration) {
+    for size in SIZES {
+        for name in KINDS {
+            let d = kind(name, size, 7);
+            println!("{}", describe(name, &d, libraries[0]));
+            times(&d, libraries, for_each);
+        }
+    }
+    for name in KINDS {
+        stacks(name, libraries);
+    }
+}
+
+fn describe(name: &str, d: &[u8], library: &dyn Library) -> String {
+    match library.survey(d) {
+        Ok(survey) => format!(
+            "{name}, {} bytes, {} segments, {} messages, {} accepted, {} outside",
+            d.len(),
+            terminators(d),
+            survey.messages,
+            survey.accepted,
+            survey.outside
+        ),
+        Err(number) => format!("{name}, {} bytes, refused with {number}", d.len()),
+    }
+}
+
+/// The rounds go in turn over yardstick and libraries, so that a slow moment of the machine meets all of them.
+fn times(d: &[u8], libraries: &[&'static (dyn Library + Sync)], for_each: Duration) {
+    let mut yardstick = Duration::MAX;
+    let mut best = vec![Duration::MAX; libraries.len()];
+    let until = Instant::now() + for_each * (libraries.len() as u32 + 1);
+    while Instant::now() < until {
+        yardstick = yardstick.min(time(|| ignore(terminators(black_box(d)))));
+        for (best, library) in best.iter_mut().zip(libraries) {
+            *best = (*best).min(time(|| ignore(library.survey(black_box(d)))));
+        }
+    }
+    println!("  {:<12} {:>9.1} us", "yardstick", micros(yardstick));
+    for (best, library) in best.iter().zip(libraries) {
+        let ratio = best.as_secs_f64() / yardstick.as_secs_f64();
+        println!("  {:<12} {:>9.1} us  {ratio:.2} yardsticks", library.name(), micros(*best));
+    }
+}
+
+/// The answer is wanted, as far as the compiler knows.
+fn ignore<T>(answer: T) {
+    black_box(answer);
+}
+
+fn time(call: impl FnOnce()) -> Duration {
+    let begin = Instant::now();
+    call();
+    begin.elapsed()
+}
+
+fn micros(time: Duration) -> f64 {
+    time.as_secs_f64() * 1e6
+}
+
+/// The stack of each call on the long delivery of a kind.
+fn stacks(name: &str, libraries: &[&'static (dyn Library + Sync)]) {
+    let d = kind(name, SIZES[1], 7);
+    let at =
+        libraries[0].next_message(&d, d.len() / 3).or(libraries[0].next_message(&d, 0)).map_or(0, |(start, _)| start);
+    for library in libraries {
+        let mut row = vec![0i64; 800];
+        let survey = stack_of(|| ignore(library.survey(&d)));
+        let next = stack_of(|| ignore(library.next_message(&d, at)));
+        let judge = stack_of(|| ignore(library.judge_at(&d, at)));
+        let prices = stack_of(|| ignore(library.prices(&d, at, 0, &mut row)));
+        let article = stack_of(|| ignore(library.article(&d, at, 0)));
+        println!(
+            "stack of {} on {name}: survey {survey}, next_message {next}, judge_at {judge}, prices {prices}, article {article} bytes",
+            library.name()
+        );
+    }
+}

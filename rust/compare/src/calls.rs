@@ -1,0 +1,226 @@
+//! All calls on one delivery, with places and numbers in and out of range.
+
+use generator::{Random, LIMIT};
+use plain::Library;
+
+use crate::{Guarded, Tally};
+
+/// Rows are at most so long.
+const LONGEST_ROW: usize = 1024;
+/// Of a delivery with more messages only so many are asked for prices, or a long one would take too long.
+const MOST_ASKED: usize = 24;
+
+/// Where deliveries and rows stand while they are lent.
+pub struct Places {
+    delivery: Guarded,
+    row: Guarded,
+    other_row: Guarded,
+}
+
+impl Places {
+    pub fn new() -> Places {
+        Places {
+            delivery: Guarded::new(LIMIT + 65_536),
+            row: Guarded::new(LONGEST_ROW * 8),
+            other_row: Guarded::new(LONGEST_ROW * 8),
+        }
+    }
+}
+
+impl Default for Places {
+    fn default() -> Places {
+        Places::new()
+    }
+}
+
+/// Two libraries and the delivery lent to both.
+struct Pair<'a> {
+    one: &'a dyn Library,
+    other: &'a dyn Library,
+    d: &'a [u8],
+}
+
+type Outcome = Result<(), String>;
+
+/// Compares all calls; the difference, if there is one, in words.
+pub fn compare_delivery(
+    one: &dyn Library,
+    other: &dyn Library,
+    delivery: &[u8],
+    random: &mut Random,
+    places: &mut Places,
+    tally: &mut Tally,
+) -> Outcome {
+    let is_at_begin = random.once_in(4);
+    let lent = if is_at_begin {
+        places.delivery.at_the_begin(delivery.len())
+    } else {
+        places.delivery.at_the_end(delivery.len())
+    };
+    lent.copy_from_slice(delivery);
+    let pair = Pair { one, other, d: lent };
+    tally.deliveries += 1;
+    tally.bytes += delivery.len() as u64;
+    tally.longest = tally.longest.max(delivery.len());
+    pair.survey(tally)?;
+    pair.segments(tally)?;
+    let starts = pair.messages(tally)?;
+    pair.next_messages(random, &starts, tally)?;
+    for at in asked_places(random, delivery.len(), &starts) {
+        pair.verdict(at, tally)?;
+        for k in asked_numbers(random, &pair, at) {
+            pair.article(at, k, tally)?;
+            let length = row_length(random);
+            pair.prices(at, k, places.row.numbers(length), places.other_row.numbers(length), tally)?;
+        }
+    }
+    if lent_changed(pair.d, delivery) {
+        return Err("the delivery was changed".into());
+    }
+    Ok(())
+}
+
+fn lent_changed(lent: &[u8], delivery: &[u8]) -> bool {
+    lent != delivery
+}
+
+fn equal<T: PartialEq + std::fmt::Debug>(call: std::fmt::Arguments, one: &T, other: &T) -> Outcome {
+    if one == other {
+        Ok(())
+    } else {
+        Err(format!("{call} gives {one:?} and {other:?}"))
+    }
+}
+
+impl Pair<'_> {
+    fn survey(&self, tally: &mut Tally) -> Outcome {
+        let (one, other) = (self.one.survey(self.d), self.other.survey(self.d));
+        tally.calls += 1;
+        tally.survey(&one);
+        equal(format_args!("survey"), &one, &other)
+    }
+
+    /// Both segment readers, if both have one.
+    fn segments(&self, tally: &mut Tally) -> Outcome {
+        let (Some(one), Some(other)) = (self.one.segments(self.d), self.other.segments(self.d)) else { return Ok(()) };
+        tally.calls += 1;
+        tally.segments += one.len() as u64;
+        match one.iter().zip(&other).position(|(one, other)| one != other) {
+            Some(at) => equal(format_args!("segment {at} of the reader"), &one[at], &other[at]),
+            None => equal(format_args!("the reader's count of segments"), &one.len(), &other.len()),
+        }
+    }
+
+    fn next_message(&self, from: usize, tally: &mut Tally) -> Result<Option<(usize, usize)>, String> {
+        let (one, other) = (self.one.next_message(self.d, from), self.other.next_message(self.d, from));
+        tally.calls += 1;
+        equal(format_args!("next_message({from})"), &one, &other)?;
+        Ok(one)
+    }
+
+    /// The start of every message, by going from one to the next.
+    fn messages(&self, tally: &mut Tally) -> Result<Vec<usize>, String> {
+        let mut starts = Vec::new();
+        let mut from = 0;
+        // Past a number of messages the calls, which may each read from the front, would take too long.
+        while starts.len() < 400 {
+            let Some((start, end)) = self.next_message(from, tally)? else { break };
+            starts.push(start);
+            from = end;
+        }
+        Ok(starts)
+    }
+
+    fn next_messages(&self, random: &mut Random, starts: &[usize], tally: &mut Tally) -> Outcome {
+        let length = self.d.len();
+        for from in [0, 1, 8, 9, 10, length.wrapping_sub(1), length, length + 1, usize::MAX, usize::MAX - 3] {
+            self.next_message(from, tally)?;
+        }
+        for _ in 0..6 {
+            let from = random.below(length + 2);
+            self.next_message(from, tally)?;
+        }
+        for &start in starts.iter().take(MOST_ASKED) {
+            self.next_message(start + 1, tally)?;
+            self.next_message(start.wrapping_sub(1), tally)?;
+        }
+        Ok(())
+    }
+
+    fn verdict(&self, at: usize, tally: &mut Tally) -> Outcome {
+        let (one, other) = (self.one.judge_at(self.d, at), self.other.judge_at(self.d, at));
+        tally.calls += 1;
+        tally.verdict(&one);
+        equal(format_args!("judge_at({at})"), &one, &other)
+    }
+
+    fn article(&self, at: usize, k: usize, tally: &mut Tally) -> Outcome {
+        let (one, other) = (self.one.article(self.d, at, k), self.other.article(self.d, at, k));
+        tally.calls += 1;
+        tally.article(&one);
+        equal(format_args!("article({at}, {k})"), &one, &other)
+    }
+
+    /// The answers and both rows whole: what is not written has to keep its pattern.
+    fn prices(&self, at: usize, k: usize, row: &mut [i64], other_row: &mut [i64], tally: &mut Tally) -> Outcome {
+        fill(row);
+        fill(other_row);
+        let one = self.one.prices(self.d, at, k, row);
+        let other = self.other.prices(self.d, at, k, other_row);
+        tally.calls += 1;
+        tally.prices(&one);
+        equal(format_args!("prices({at}, {k}, row of {})", row.len()), &one, &other)?;
+        equal(format_args!("the row of {} after prices({at}, {k})", row.len()), &row, &other_row)
+    }
+}
+
+/// A pattern that no price has.
+fn fill(row: &mut [i64]) {
+    for (at, slot) in row.iter_mut().enumerate() {
+        *slot = i64::MIN + 77 * at as i64;
+    }
+}
+
+fn row_length(random: &mut Random) -> usize {
+    match random.below(8) {
+        0 => 0,
+        1 => 7,
+        2 => 8,
+        3 => 9,
+        4 => random.between(10, 64),
+        5 => random.between(1, 6),
+        _ => random.between(64, LONGEST_ROW),
+    }
+}
+
+/// Starts of messages and places where none begins.
+fn asked_places(random: &mut Random, length: usize, starts: &[usize]) -> Vec<usize> {
+    let mut places: Vec<usize> = starts.to_vec();
+    if places.len() > MOST_ASKED {
+        random.shuffle(&mut places);
+        places.truncate(MOST_ASKED);
+    }
+    places.push(random.below(length + 2));
+    places.push(random.pick(&[&0, &1, &9, &length, &(length + 1), &usize::MAX, &(usize::MAX - 1)]).to_owned());
+    if let Some(&start) = starts.first() {
+        places.push(if random.once_in(2) { start + 1 } else { start.wrapping_sub(1) });
+    }
+    places
+}
+
+/// Numbers of prices that the message has, the first it has not, and larger ones.
+fn asked_numbers(random: &mut Random, pair: &Pair, at: usize) -> Vec<usize> {
+    let total = pair.one.prices(pair.d, at, 0, &mut []).map_or(0, |(_, total)| total);
+    let mut numbers = vec![0, total];
+    match random.below(4) {
+        0 => numbers.push(total + 1),
+        1 => numbers.push(usize::MAX),
+        2 => numbers.push(total.saturating_sub(1)),
+        _ => numbers.push(usize::MAX / 8),
+    }
+    if total > 1 {
+        numbers.push(random.below(total));
+        numbers.push(random.below(total));
+    }
+    numbers
+}

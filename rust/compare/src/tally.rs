@@ -1,0 +1,86 @@
+//! How often each answer came.
+
+use std::collections::BTreeMap;
+
+use plain::{Article, Survey, Verdict};
+
+/// A number and how often it came.
+type Counts = BTreeMap<usize, u64>;
+
+#[derive(Default)]
+pub struct Tally {
+    pub deliveries: u64,
+    pub bytes: u64,
+    pub longest: usize,
+    pub messages: u64,
+    pub accepted: u64,
+    pub outside: u64,
+    pub prices: u64,
+    pub segments: u64,
+    pub calls: u64,
+    verdicts: Counts,
+    surveys: Counts,
+    price_refusals: Counts,
+    article_refusals: Counts,
+    nodes: Counts,
+}
+
+impl Tally {
+    pub fn survey(&mut self, survey: &Result<Survey, u32>) {
+        match survey {
+            Ok(survey) => {
+                self.messages += survey.messages as u64;
+                self.accepted += survey.accepted as u64;
+                self.outside += survey.outside as u64;
+            }
+            Err(number) => count(&mut self.surveys, *number as usize),
+        }
+    }
+
+    pub fn verdict(&mut self, verdict: &Verdict) {
+        match verdict {
+            Verdict::Accepted { .. } => count(&mut self.verdicts, 0),
+            Verdict::Refused { number, node, .. } => {
+                count(&mut self.verdicts, *number as usize);
+                count(&mut self.nodes, *node);
+            }
+        }
+    }
+
+    pub fn prices(&mut self, answer: &Result<(usize, usize), u32>) {
+        match answer {
+            Ok((written, _)) => {
+                self.prices += *written as u64;
+                count(&mut self.price_refusals, 0);
+            }
+            Err(number) => count(&mut self.price_refusals, *number as usize),
+        }
+    }
+
+    pub fn article(&mut self, answer: &Article) {
+        count(&mut self.article_refusals, answer.number as usize);
+    }
+
+    pub fn print(&self) {
+        println!(
+            "deliveries {}, bytes {}, longest {}, calls {}",
+            self.deliveries, self.bytes, self.longest, self.calls
+        );
+        println!("messages {}, accepted {}, segments outside {}", self.messages, self.accepted, self.outside);
+        println!("prices compared {}, segments of the reader {}", self.prices, self.segments);
+        println!("survey refused: {}", counted(&self.surveys));
+        println!("judge_at (0 accepted): {}", counted(&self.verdicts));
+        println!("nodes named: {}", counted(&self.nodes));
+        println!("prices (0 given): {}", counted(&self.price_refusals));
+        println!("article (0 given): {}", counted(&self.article_refusals));
+    }
+}
+
+fn count(all: &mut Counts, number: usize) {
+    *all.entry(number).or_default() += 1;
+}
+
+fn counted(all: &Counts) -> String {
+    let shown: Vec<String> = all.iter().map(|(number, count)| format!("{number}: {count}")).collect();
+    shown.join(", ")
+}

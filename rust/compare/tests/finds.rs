@@ -1,0 +1,99 @@
+//! The comparison finds a library that is wrong in one call.
+
+use compare::{compare_delivery, Naive, Places, Tally};
+use generator::Random;
+use plain::{Article, Library, Plain, Survey, Verdict};
+
+/// Which call is wrong.
+#[derive(Clone, Copy, PartialEq)]
+enum Wrong {
+    Nothing,
+    Survey,
+    NextMessage,
+    Verdict,
+    Written,
+    RowBehind,
+    RowOnRefusal,
+    Article,
+    Segments,
+}
+
+struct Altered(Wrong);
+
+impl Library for Altered {
+    fn name(&self) -> &'static str {
+        "altered"
+    }
+
+    fn survey(&self, d: &[u8]) -> Result<Survey, u32> {
+        let survey = Plain.survey(d)?;
+        Ok(Survey { outside: survey.outside + (self.0 == Wrong::Survey) as usize, ..survey })
+    }
+
+    fn next_message(&self, d: &[u8], from: usize) -> Option<(usize, usize)> {
+        let (start, end) = Plain.next_message(d, from)?;
+        Some((start, end - (self.0 == Wrong::NextMessage) as usize))
+    }
+
+    fn judge_at(&self, d: &[u8], at: usize) -> Verdict {
+        match Plain.judge_at(d, at) {
+            Verdict::Refused { number, segment, place, .. } if self.0 == Wrong::Verdict => {
+                Verdict::Refused { number, segment, place, node: 0 }
+            }
+            verdict => verdict,
+        }
+    }
+
+    fn prices(&self, d: &[u8], at: usize, k: usize, row: &mut [i64]) -> Result<(usize, usize), u32> {
+        let answer = Plain.prices(d, at, k, row);
+        match answer {
+            Ok((written, total)) if self.0 == Wrong::Written => return Ok((written, total + 1)),
+            Ok((written, _)) if self.0 == Wrong::RowBehind && written > 0 && row.len() > written * 8 => {
+                row[written * 8] = 0
+            }
+            Err(30) if self.0 == Wrong::RowOnRefusal && !row.is_empty() => row[0] = 0,
+            _ => {}
+        }
+        answer
+    }
+
+    fn article(&self, d: &[u8], at: usize, k: usize) -> Article {
+        let article = Plain.article(d, at, k);
+        Article { length: article.length - (self.0 == Wrong::Article && article.length > 1) as usize, ..article }
+    }
+
+    fn segments(&self, d: &[u8]) -> Option<Vec<(usize, usize, bool)>> {
+        let mut all = Plain.segments(d)?;
+        if self.0 == Wrong::Segments {
+            all.pop();
+        }
+        Some(all)
+    }
+}
+
+/// How many of some deliveries show a difference.
+fn differences(other: &dyn Library) -> usize {
+    let mut places = Places::new();
+    let mut tally = Tally::default();
+    (0..300)
+        .filter(|&seed| {
+            let d = generator::delivery(seed);
+            d.len() < 100_000
+                && compare_delivery(&Plain, other, &d, &mut Random::new(seed), &mut places, &mut tally).is_err()
+        })
+        .count()
+}
+
+#[test]
+fn a_right_library_shows_none() {
+    assert_eq!(differences(&Altered(Wrong::Nothing)), 0);
+    assert_eq!(differences(&Naive::default()), 0);
+}
+
+#[test]
+fn a_wrong_call_is_found() {
+    use Wrong::*;
+    for wrong in [Survey, NextMessage, Verdict, Written, RowBehind, RowOnRefusal, Article, Segments] {
+        assert!(differences(&Altered(wrong)) > 10);
+    }
+}

@@ -1,0 +1,112 @@
+//! The five kinds of deliveries that are timed.
+
+use crate::damage::{damage, FAULTS};
+use crate::random::Random;
+use crate::sheet::{message, Shape};
+
+pub const KINDS: [&str; 5] = ["valid", "many", "damaged", "z04", "dense"];
+
+/// A delivery of one kind with at most `size` bytes, filled as far as its messages allow.
+pub fn kind(name: &str, size: usize, seed: u64) -> Vec<u8> {
+    let random = &mut Random::new(seed);
+    let mut d = Vec::with_capacity(size);
+    if name == "dense" {
+        dense(random, size, &mut d);
+        return d;
+    }
+    let mut misses = 0;
+    while misses < 40 {
+        let one = one_message(random, name);
+        if d.len() + one.len() <= size {
+            d.extend_from_slice(&one);
+        } else {
+            misses += 1;
+        }
+    }
+    d
+}
+
+fn one_message(random: &mut Random, name: &str) -> Vec<u8> {
+    let positions = match name {
+        "many" => random.below(3),
+        _ if random.once_in(10) => random.below(6),
+        _ => random.between(50, 900),
+    };
+    let shape = Shape { positions, releases: 0, is_rich: false, is_z04: name == "z04" };
+    let mut all = message(random, shape);
+    if name == "damaged" && random.below(5) < 4 {
+        let number = *random.pick(&FAULTS.each_ref());
+        damage(random, &mut all, number);
+    }
+    let mut bytes = Vec::new();
+    all.iter().for_each(|segment| segment.write(random, 0, &mut bytes));
+    bytes
+}
+
+/// One message with as many different minimal positions as fit into `size` bytes, articles in no order.
+pub fn dense(random: &mut Random, size: usize, d: &mut Vec<u8>) {
+    const BEGIN: &[u8] =
+        b"UNH+1+PRICAT:D:20B:UN:2.0d'BGM+Z32+1'DTM+137:1:303'RFF+Z13:27002'NAD+MR+1::9'NAD+MS+1::9'PGI+9'";
+    const END: usize = b"UNT+999999+1'".len();
+    let begin = d.len();
+    d.extend_from_slice(BEGIN);
+    let mut articles: Vec<usize> = (0..most_positions(size, BEGIN.len() + END)).collect();
+    random.shuffle(&mut articles);
+    let count = articles.len() + 8;
+    for (at, article) in articles.into_iter().enumerate() {
+        d.extend_from_slice(format!("LIN+{}++", at + 1).as_bytes());
+        short_name(article, d);
+        d.extend_from_slice(b":Z01'");
+    }
+    d.extend_from_slice(format!("UNT+{count}+1'").as_bytes());
+    debug_assert!(d.len() - begin <= size.max(BEGIN.len() + END));
+}
+
+/// How many positions fit beside `other` bytes: each has its number, its article and eleven bytes around them.
+fn most_positions(size: usize, other: usize) -> usize {
+    let mut room = size.saturating_sub(other);
+    let mut count = 0;
+    loop {
+        let bytes = 11 + digits(count + 1, 10) + name_length(count);
+        if bytes > room {
+            return count;
+        }
+        room -= bytes;
+        count += 1;
+    }
+}
+
+fn digits(number: usize, base: usize) -> usize {
+    if number < base {
+        1
+    } else {
+        1 + digits(number / base, base)
+    }
+}
+
+const NAMES: &[u8; 62] = b"0123456789ABCDEFGHIJKLMNOPQRSTUVWXYZabcdefghijklmnopqrstuvwxyz";
+
+/// Names are all texts of one byte, then of two, and so on.
+fn name_length(name: usize) -> usize {
+    let (mut rest, mut length, mut all) = (name, 1, NAMES.len());
+    while rest >= all {
+        rest -= all;
+        all *= NAMES.len();
+        length += 1;
+    }
+    length
+}
+
+fn short_name(name: usize, d: &mut Vec<u8>) {
+    let length = name_length(name);
+    let mut rest = name;
+    let mut all = NAMES.len();
+    for _ in 1..length {
+        rest -= all;
+        all *= NAMES.len();
+    }
+    for _ in 0..length {
+        d.push(NAMES[rest % NAMES.len()]);
+        rest /= NAMES.len();
+    }
+}

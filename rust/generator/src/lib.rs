@@ -1,0 +1,14 @@
+//! Deliveries from a seed. The generator knows the pages well enough to write right messages and to damage them in a
+//! chosen way; it judges nothing, so it shares no code with any reader.
+
+mod damage;
+mod delivery;
+mod kinds;
+mod random;
+mod sheet;
+
+pub use damage::{damage, FAULTS};
+pub use delivery::{delivery, LIMIT};
+pub use kinds::{kind, KINDS};
+pub use random::Random;
+pub use sheet::{message, Segment, Shape};

@@ -1,0 +1,337 @@
+//! Cutting: where segments, parts and messages begin and end. Nothing here knows the guide.
+
+/// The longest delivery that is admitted.
+pub const LIMIT: usize = 1_048_576;
+const UNA: &[u8; 9] = b"UNA:+.? '";
+
+pub const UNH: u32 = tag(b"UNH");
+pub const UNT: u32 = tag(b"UNT");
+pub const UNZ: u32 = tag(b"UNZ");
+
+/// What a byte means inside a segment.
+#[derive(Clone, Copy, PartialEq, Eq)]
+pub enum Class {
+    /// An allowed byte that separates nothing.
+    Text,
+    Colon,
+    Plus,
+    Terminator,
+    Release,
+    /// Not in 32 to 126 or 160 to 255.
+    NotAllowed,
+    /// No byte at all: the delivery ends.
+    End,
+}
+
+static CLASSES: [Class; 256] = classes();
+
+const fn classes() -> [Class; 256] {
+    let mut all = [Class::Text; 256];
+    let mut byte = 0;
+    while byte < 256 {
+        if byte < 32 || (byte > 126 && byte < 160) {
+            all[byte] = Class::NotAllowed;
+        }
+        byte += 1;
+    }
+    all[b':' as usize] = Class::Colon;
+    all[b'+' as usize] = Class::Plus;
+    all[b'\'' as usize] = Class::Terminator;
+    all[b'?' as usize] = Class::Release;
+    all
+}
+
+/// The three bytes of a tag as one number, as `head` gives them.
+pub const fn tag(letters: &[u8; 3]) -> u32 {
+    letters[0] as u32 | (letters[1] as u32) << 8 | (letters[2] as u32) << 16
+}
+
+/// One component: its bytes, how many releases stand in it, and what ended it at `to`.
+#[derive(Clone, Copy)]
+pub struct Part {
+    pub from: usize,
+    pub to: usize,
+    pub releases: usize,
+    pub stop: Class,
+}
+
+impl Part {
+    pub fn is_empty(&self) -> bool {
+        self.from == self.to
+    }
+
+    /// Length with the releases removed.
+    pub fn length(&self) -> usize {
+        self.to - self.from - self.releases
+    }
+
+    /// The delivery ended or a byte is not allowed: the segment gets 12 or 10 whatever else it holds.
+    pub fn is_broken(&self) -> bool {
+        matches!(self.stop, Class::NotAllowed | Class::End)
+    }
+}
+
+/// Refusal 1 or 2, or the place where the segments begin.
+pub fn front(d: &[u8]) -> Result<usize, u32> {
+    if d.len() > LIMIT {
+        return Err(1);
+    }
+    if !d.starts_with(b"UNA") {
+        return Ok(0);
+    }
+    if d.starts_with(UNA) {
+        Ok(UNA.len())
+    } else {
+        Err(2)
+    }
+}
+
+/// The first four bytes at a place; zeros stand for bytes behind the end.
+#[inline(always)]
+pub fn head(d: &[u8], at: usize) -> u32 {
+    match d.get(at..at.wrapping_add(4)) {
+        Some(four) => u32::from_le_bytes([four[0], four[1], four[2], four[3]]),
+        None => short_head(d, at),
+    }
+}
+
+#[cold]
+fn short_head(d: &[u8], at: usize) -> u32 {
+    let mut four = [0; 4];
+    for (slot, byte) in four.iter_mut().zip(d.get(at..).unwrap_or(&[])) {
+        *slot = *byte;
+    }
+    u32::from_le_bytes(four)
+}
+
+/// The tag in a head. A tag that is found whole holds no terminator, so it stands inside its segment.
+#[inline(always)]
+pub fn tag_of(head: u32) -> u32 {
+    head & 0x00ff_ffff
+}
+
+/// Finds the bytes that mean something, sixty-four at a time: a bit for every byte whose class is not `Text`.
+#[derive(Clone, Copy)]
+pub struct Scanner<'a> {
+    d: &'a [u8],
+    /// Where the current block begins.
+    block: usize,
+    /// The bytes of the block that were not given yet.
+    left: u64,
+}
+
+const BLOCK: usize = 64;
+
+impl<'a> Scanner<'a> {
+    /// A scanner for what stands at `from` or behind it.
+    pub fn new(d: &'a [u8], from: usize) -> Scanner<'a> {
+        let block = from - from % BLOCK;
+        Scanner { d, block, left: meaning_bits(d, block) & (u64::MAX << (from % BLOCK)) }
+    }
+
+    /// The place of the next byte that is no `Text`, or the delivery's end. Each is given once.
+    #[inline(always)]
+    pub fn next(&mut self) -> usize {
+        while self.left == 0 {
+            self.block += BLOCK;
+            if self.block >= self.d.len() {
+                return self.d.len();
+            }
+            self.left = meaning_bits(self.d, self.block);
+        }
+        let at = self.block + self.left.trailing_zeros() as usize;
+        self.left &= self.left - 1;
+        at
+    }
+
+    /// The component that begins at `from`, which is where the scanner stands.
+    #[inline(always)]
+    pub fn part(&mut self, from: usize) -> Part {
+        let to = self.next();
+        match class_at(self.d, to) {
+            Class::Release => {
+                // By value, so that a scanner on the usual way can stay in registers.
+                let (part, scanner) = self.released_part(from, to);
+                *self = scanner;
+                part
+            }
+            stop => Part { from, to, releases: 0, stop },
+        }
+    }
+
+    /// As `part`, for a component whose first release is at `release`; with the scanner behind it.
+    #[inline(never)]
+    fn released_part(mut self, from: usize, release: usize) -> (Part, Scanner<'a>) {
+        let mut to = release;
+        let mut releases = 0;
+        while class_at(self.d, to) == Class::Release {
+            match class_at(self.d, to + 1) {
+                Class::End => return (Part { from, to: self.d.len(), releases, stop: Class::End }, self),
+                Class::NotAllowed => return (Part { from, to: to + 1, releases, stop: Class::NotAllowed }, self),
+                Class::Text => {}
+                // A released separator is literal: the scanner has to pass it.
+                _ => {
+                    self.next();
+                }
+            }
+            releases += 1;
+            to = self.next();
+        }
+        (Part { from, to, releases, stop: class_at(self.d, to) }, self)
+    }
+}
+
+#[inline(always)]
+fn class_at(d: &[u8], at: usize) -> Class {
+    d.get(at).map_or(Class::End, |&byte| CLASSES[byte as usize])
+}
+
+/// A bit for each byte of a block that is no `Text`; none for bytes behind the end.
+#[inline(always)]
+fn meaning_bits(d: &[u8], block: usize) -> u64 {
+    match d.get(block..block + BLOCK) {
+        Some(bytes) => bits(bytes.try_into().unwrap()),
+        None => last_bits(d, block),
+    }
+}
+
+#[cold]
+fn last_bits(d: &[u8], block: usize) -> u64 {
+    let mut bytes = [b' '; BLOCK];
+    let rest = &d[block..];
+    bytes[..rest.len()].copy_from_slice(rest);
+    bits(&bytes)
+}
+
+/// Written so that the compiler compares many bytes at once; the product gathers eight flags into eight bits.
+#[inline(always)]
+fn bits(bytes: &[u8; BLOCK]) -> u64 {
+    const GATHER: u64 = 0x0102_0408_1020_4080;
+    let mut flags = [0u8; BLOCK];
+    for (flag, &byte) in flags.iter_mut().zip(bytes) {
+        let is_separator = (byte == b':') | (byte == b'+') | (byte == b'\'') | (byte == b'?');
+        *flag = (is_separator | (byte & 0x7f < 32) | (byte == 127)) as u8;
+    }
+    let mut bits = 0;
+    for (at, eight) in flags.chunks_exact(8).enumerate() {
+        bits |= u64::from_le_bytes(eight.try_into().unwrap()).wrapping_mul(GATHER) >> 56 << (8 * at);
+    }
+    bits
+}
+
+/// How a segment goes on behind a fault: 12 and 10 come before the fault itself, so its bytes are still looked at.
+pub struct Tail {
+    pub next: usize,
+    pub is_piece: bool,
+    pub has_byte_not_allowed: bool,
+}
+
+#[cold]
+pub fn tail(d: &[u8], from: usize) -> Tail {
+    let mut has_byte_not_allowed = false;
+    let mut at = from;
+    while let Some(&byte) = d.get(at) {
+        match CLASSES[byte as usize] {
+            Class::Terminator => return Tail { next: at + 1, is_piece: false, has_byte_not_allowed },
+            Class::NotAllowed => has_byte_not_allowed = true,
+            Class::Release => {
+                // The released byte is literal, but still has to be an allowed one.
+                at += 1;
+                if d.get(at).is_some_and(|&byte| CLASSES[byte as usize] == Class::NotAllowed) {
+                    has_byte_not_allowed = true;
+                }
+            }
+            _ => {}
+        }
+        at += 1;
+    }
+    Tail { next: d.len(), is_piece: true, has_byte_not_allowed }
+}
+
+/// The place behind the segment or piece that begins at `at`.
+pub fn segment_end(d: &[u8], at: usize) -> usize {
+    segment_at(d, at).0
+}
+
+/// As `segment_end`, and whether it is a piece.
+#[inline(always)]
+pub fn segment_at(d: &[u8], at: usize) -> (usize, bool) {
+    let mut at = at;
+    loop {
+        at += text_run(d, at);
+        match d.get(at) {
+            None => return (d.len(), true),
+            Some(b'\'') => return (at + 1, false),
+            Some(_) => at += 2,
+        }
+    }
+}
+
+/// How many bytes from here are neither a release nor a terminator; eight at a time.
+#[inline(always)]
+fn text_run(d: &[u8], from: usize) -> usize {
+    let rest = d.get(from..).unwrap_or(&[]);
+    let mut run = 0;
+    for eight in rest.chunks_exact(8) {
+        let word = u64::from_le_bytes(eight.try_into().unwrap());
+        let found = zero_bytes(word ^ (EACH * b'\'' as u64)) | zero_bytes(word ^ (EACH * b'?' as u64));
+        if found != 0 {
+            return run + found.trailing_zeros() as usize / 8;
+        }
+        run += 8;
+    }
+    run + rest[run..].iter().take_while(|&&byte| byte != b'\'' && byte != b'?').count()
+}
+
+const EACH: u64 = 0x0101_0101_0101_0101;
+
+/// The lowest set bit marks the first byte of the word that is zero.
+fn zero_bytes(word: u64) -> u64 {
+    word.wrapping_sub(EACH) & !word & (EACH << 7)
+}
+
+/// The end of the message whose segments up to `at` are known to be in it; `at` is where the next segment begins.
+pub fn rest_of_message(d: &[u8], at: usize) -> usize {
+    let mut at = at;
+    while at < d.len() {
+        match tag_of(head(d, at)) {
+            UNH | UNZ => return at,
+            UNT => return segment_end(d, at),
+            _ => at = segment_end(d, at),
+        }
+    }
+    d.len()
+}
+
+/// Whether a segment begins at `at`. Only the run of releases before the terminator has to be looked at.
+pub fn begins_segment(d: &[u8], front: usize, at: usize) -> bool {
+    if at <= front || at >= d.len() {
+        return at == front && at < d.len();
+    }
+    d[at - 1] == b'\'' && !is_released(d, front, at - 1)
+}
+
+/// Whether the byte at `at` is made literal: an odd number of release bytes stands right before it.
+pub fn is_released(d: &[u8], front: usize, at: usize) -> bool {
+    d[front..at].iter().rev().take_while(|&&byte| byte == b'?').count() % 2 == 1
+}
+
+/// Whether a message begins at `at`.
+pub fn begins_message(d: &[u8], front: usize, at: usize) -> bool {
+    begins_segment(d, front, at) && tag_of(head(d, at)) == UNH
+}
+
+/// The first segment that begins at `from` or later, if any.
+pub fn segment_from(d: &[u8], front: usize, from: usize) -> Option<usize> {
+    if from <= front {
+        return Some(front).filter(|&at| at < d.len());
+    }
+    if from >= d.len() {
+        return None;
+    }
+    if begins_segment(d, front, from) {
+        return Some(from);
+    }
+    let literal = is_released(d, front, from) as usize;
+    Some(segment_end(d, from + literal)).filter(|&at| at < d.len())
+}

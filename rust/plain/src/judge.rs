@@ -1,0 +1,409 @@
+//! The verdict on one message, in one pass over its bytes.
+//!
+//! A segment's components are judged while they are cut. A fault ends that pass: the rest of the segment is only
+//! looked at for 12 and 10, which come first, and the rest of the message only for its end.
+
+use crate::agree::{with_component, Position, Positions, FIRST_HASH};
+use crate::cut::{self, Class, Part, Scanner, UNH, UNT, UNZ};
+use crate::guide::{self, bit, AFTER, BELOW, LIMIT, NEEDED, NODES};
+use crate::pages::{Rule, PAGES};
+use crate::text::{self, key, Number, Room};
+
+/// Accepted with its count of segments and the place behind it, or refused.
+#[derive(Clone, Copy, PartialEq, Eq, Debug)]
+pub enum Verdict {
+    Accepted { segments: usize, end: usize },
+    Refused { number: u32, segment: usize, place: usize, node: usize },
+}
+
+impl Verdict {
+    /// A refusal that names no segment: 1, 2 and 30 to 32.
+    pub fn without_place(number: u32) -> Verdict {
+        Verdict::Refused { number, segment: 0, place: 0, node: 0 }
+    }
+}
+
+/// A verdict and the place where its message ends.
+pub struct Judged {
+    pub verdict: Verdict,
+    pub end: usize,
+}
+
+/// A price as it stands in the delivery; places count from the delivery's start.
+#[derive(Clone, Copy)]
+pub struct Price {
+    pub position: usize,
+    pub article: usize,
+    pub article_length: usize,
+    pub amount: i64,
+    pub decimals: usize,
+    pub unit: usize,
+    pub place: usize,
+}
+
+/// Who wants the prices of a message while it is judged. They mean nothing if it is refused in the end.
+pub trait Prices {
+    fn price(&mut self, price: &Price);
+    /// The RNG of the last price.
+    fn range(&mut self, place: usize);
+}
+
+/// For calls that hand out no price.
+pub struct NoPrices;
+
+impl Prices for NoPrices {
+    fn price(&mut self, _: &Price) {}
+    fn range(&mut self, _: usize) {}
+}
+
+/// A fault with the node it names, and the place from which its segment was not looked at yet.
+struct Fault {
+    number: u32,
+    node: usize,
+    from: usize,
+}
+
+const NO_PART: Part = Part { from: 0, to: 0, releases: 0, stop: Class::End };
+
+/// What is known of the message so far.
+struct Sheet<'a, P> {
+    d: &'a [u8],
+    prices: &'a mut P,
+    positions: &'a mut Positions,
+    /// The last node placed, and all that occurred in instances still open.
+    last: usize,
+    seen: guide::Set,
+    /// Meant for nodes in `seen` only.
+    counts: [u32; NODES],
+    segment: usize,
+    reference: Part,
+    last_reference: Part,
+    /// Positions are compared unless BGM says Z04.
+    compares: bool,
+    lins: usize,
+    article: Part,
+    count: Number,
+    amount: Number,
+    unit: usize,
+    hash: u64,
+    room: Room,
+}
+
+/// Judges the message that begins at `start`.
+pub fn judge<P: Prices>(d: &[u8], start: usize, positions: &mut Positions, prices: &mut P) -> Judged {
+    positions.all.clear();
+    let mut sheet = Sheet::new(d, positions, prices);
+    let mut scanner = Scanner::new(d, start);
+    let mut at = start;
+    loop {
+        let head = cut::head(d, at);
+        let tag = cut::tag_of(head);
+        if sheet.segment != 0 && (at == d.len() || tag == UNH || tag == UNZ) {
+            return Judged { verdict: refused(24, sheet.segment + 1, at, 0), end: at };
+        }
+        sheet.segment += 1;
+        match sheet.segment(&mut scanner, at, head) {
+            Ok(next) if tag == UNT => return Judged { verdict: sheet.verdict(next), end: next },
+            Ok(next) => at = next,
+            Err(fault) => return sheet.refuse(at, tag, fault),
+        }
+    }
+}
+
+fn refused(number: u32, segment: usize, place: usize, node: usize) -> Verdict {
+    Verdict::Refused { number, segment, place, node }
+}
+
+impl<'a, P: Prices> Sheet<'a, P> {
+    fn new(d: &'a [u8], positions: &'a mut Positions, prices: &'a mut P) -> Sheet<'a, P> {
+        Sheet {
+            d,
+            prices,
+            positions,
+            last: 0,
+            seen: 0,
+            counts: [0; NODES],
+            segment: 0,
+            reference: NO_PART,
+            last_reference: NO_PART,
+            compares: true,
+            lins: 0,
+            article: NO_PART,
+            count: Number::default(),
+            amount: Number::default(),
+            unit: 0,
+            hash: 0,
+            room: Room::new(),
+        }
+    }
+
+    /// 12 and 10 come before any other fault of a segment; then what follows in the message is passed over.
+    #[cold]
+    fn refuse(&self, at: usize, tag: u32, fault: Fault) -> Judged {
+        let tail = cut::tail(self.d, fault.from);
+        let (number, node) = match (tail.is_piece, tail.has_byte_not_allowed) {
+            (true, _) => (12, 0),
+            (_, true) => (10, 0),
+            _ => (fault.number, fault.node),
+        };
+        let end = if tag == UNT { tail.next } else { cut::rest_of_message(self.d, tail.next) };
+        Judged { verdict: refused(number, self.segment, at, node), end }
+    }
+
+    /// All else holds: 23 or accepted.
+    fn verdict(&mut self, end: usize) -> Verdict {
+        match self.positions.first_agreeing(self.d) {
+            Some(position) => refused(23, position.segment(), position.lin as usize, position.node()),
+            None => Verdict::Accepted { segments: self.segment, end },
+        }
+    }
+
+    /// Judges one segment and gives the place behind it.
+    #[inline(always)]
+    fn segment(&mut self, scanner: &mut Scanner, at: usize, head: u32) -> Result<usize, Fault> {
+        if !is_well_begun(head) {
+            return Err(Fault { number: 11, node: 0, from: at });
+        }
+        let first = first_part(scanner, at, head);
+        if first.is_broken() {
+            return Err(Fault { number: 10, node: 0, from: first.to });
+        }
+        let node = self.choose(cut::tag_of(head), &first)?;
+        self.put(node, first.to)?;
+        self.before(node);
+        let end = self.components(scanner, node, first)?;
+        self.after(node, at, end)?;
+        Ok(end + 1)
+    }
+
+    /// The node for a tag and code, or 13.
+    #[inline(always)]
+    fn choose(&self, tag: u32, first: &Part) -> Result<usize, Fault> {
+        let nodes = guide::nodes_of(tag, || text::key_of(self.d, first)) & AFTER[self.last];
+        if nodes == 0 {
+            return Err(Fault { number: 13, node: 0, from: first.to });
+        }
+        Ok(nodes.trailing_zeros() as usize)
+    }
+
+    /// Puts the segment at its node: limits (15, 16), then missing nodes (14).
+    #[inline(always)]
+    fn put(&mut self, node: usize, from: usize) -> Result<(), Fault> {
+        let count = if self.seen & bit(node) != 0 { self.counts[node] + 1 } else { 1 };
+        if count > LIMIT[node] {
+            let number = if node == 16 || node == 23 { 16 } else { 15 };
+            return Err(Fault { number, node, from });
+        }
+        if NEEDED[self.last][node] & !self.seen != 0 {
+            return Err(Fault { number: 14, node: guide::missing(self.last, node, self.seen), from });
+        }
+        self.counts[node] = count;
+        self.seen = self.seen & !BELOW[node] | bit(node);
+        self.last = node;
+        Ok(())
+    }
+
+    /// Sets back what the components of a position or price will fill in.
+    #[inline(always)]
+    fn before(&mut self, node: usize) {
+        match node {
+            16 | 23 => self.hash = FIRST_HASH,
+            19 | 24 => self.unit = 0,
+            _ => {}
+        }
+    }
+
+    /// Judges the components from left to right and gives the place of the terminator.
+    #[inline(always)]
+    fn components(&mut self, scanner: &mut Scanner, node: usize, first: Part) -> Result<usize, Fault> {
+        let rows = PAGES[node];
+        let mut part = first;
+        let mut at = 0;
+        loop {
+            let row = &rows[at];
+            let number = match part.is_empty() {
+                true => 17 * row.must as u32,
+                false => self.component(&row.rule, &part),
+            };
+            if number != 0 {
+                return Err(Fault { number, node, from: part.to });
+            }
+            let is_missing = match part.stop {
+                Class::Colon => {
+                    at = row.next_component as usize;
+                    false
+                }
+                Class::Plus => {
+                    at = row.next_element as usize;
+                    row.must_follow_in_element
+                }
+                _ if row.must_follow => true,
+                _ => return Ok(part.to),
+            };
+            if is_missing {
+                return Err(Fault { number: 17, node, from: part.to });
+            }
+            part = scanner.part(part.to + 1);
+            if part.is_broken() {
+                return Err(Fault { number: 10, node: 0, from: part.to });
+            }
+        }
+    }
+
+    /// Judges one component that is not empty: 18, 19, 20, or 0. Keeps what is needed later.
+    #[inline(always)]
+    fn component(&mut self, rule: &Rule, part: &Part) -> u32 {
+        match *rule {
+            Rule::NotUsed => 18,
+            Rule::Text(most) => self.text(most, part),
+            Rule::Code(most, codes) => self.code(most, codes, part),
+            Rule::Number(most) => self.number(part, |digits| digits <= most).0,
+            Rule::Exactly(digits, codes) => match self.number(part, |count| count == digits).0 {
+                0 => self.code(usize::MAX, codes, part),
+                number => number,
+            },
+            Rule::Reference => {
+                self.reference = *part;
+                self.text(14, part)
+            }
+            Rule::LastReference => {
+                self.last_reference = *part;
+                self.text(14, part)
+            }
+            Rule::Document(codes) => {
+                self.compares = text::key_of(self.d, part) != key(b"Z04");
+                self.code(3, codes, part)
+            }
+            Rule::Count => {
+                let (number, count) = self.number(part, |digits| digits <= 6);
+                self.count = count;
+                number
+            }
+            Rule::Article => {
+                self.article = *part;
+                self.compare(1, part);
+                self.text(35, part)
+            }
+            Rule::ComparedText(most, which) => {
+                self.compare(which, part);
+                self.text(most, part)
+            }
+            Rule::ComparedCode(most, codes, which) => {
+                self.compare(which, part);
+                self.code(most, codes, part)
+            }
+            Rule::Amount => {
+                let (number, amount) = self.number(part, |digits| digits <= 15);
+                self.amount = amount;
+                number
+            }
+            Rule::Unit(codes) => {
+                // The page has one code, so its rank is 1.
+                self.unit = 1;
+                self.code(8, codes, part)
+            }
+        }
+    }
+
+    #[inline(always)]
+    fn text(&self, most: usize, part: &Part) -> u32 {
+        19 * (part.length() > most) as u32
+    }
+
+    /// The lists are short, so a loop in place is quicker than the library's call for long ones.
+    #[inline(always)]
+    #[allow(clippy::manual_contains)]
+    fn code(&self, most: usize, codes: &[u64], part: &Part) -> u32 {
+        if part.length() > most {
+            return 19;
+        }
+        let key = text::key_of(self.d, part);
+        20 * !codes.iter().any(|&code| code == key) as u32
+    }
+
+    #[inline(always)]
+    fn number(&mut self, part: &Part, fits: impl FnOnce(usize) -> bool) -> (u32, Number) {
+        match text::number(self.room.decode(self.d, part)) {
+            Some(number) if fits(number.digits) => (0, number),
+            _ => (19, Number::default()),
+        }
+    }
+
+    #[inline(always)]
+    fn compare(&mut self, which: u8, part: &Part) {
+        if self.compares {
+            self.hash = with_component(self.hash, which, self.room.decode(self.d, part));
+        }
+    }
+
+    /// What a right segment means for the message: 21 and 22, positions and prices.
+    #[inline(always)]
+    fn after(&mut self, node: usize, at: usize, end: usize) -> Result<(), Fault> {
+        match node {
+            16 | 23 => self.open_position(node, at, end)?,
+            17 | 18 => self.extend_position(),
+            19 | 24 => self.hand_out_price(at),
+            20 | 25 => self.prices.range(at),
+            26 if !self.is_counted_right() => return Err(Fault { number: 21, node, from: end }),
+            _ => {}
+        }
+        Ok(())
+    }
+
+    #[inline(always)]
+    fn open_position(&mut self, node: usize, at: usize, end: usize) -> Result<(), Fault> {
+        self.lins += 1;
+        if !self.count.is_plain || self.count.amount != self.lins as i64 {
+            return Err(Fault { number: 22, node, from: end });
+        }
+        if self.compares {
+            self.positions.all.push(Position::new(self.hash, at, self.segment, node));
+        }
+        Ok(())
+    }
+
+    /// PIA and IMD belong to the last position; the hash has gone on from LIN's.
+    fn extend_position(&mut self) {
+        if let Some(position) = self.positions.all.last_mut() {
+            position.hash = self.hash;
+        }
+    }
+
+    #[inline(always)]
+    fn hand_out_price(&mut self, at: usize) {
+        self.prices.price(&Price {
+            position: self.lins,
+            article: self.article.from,
+            article_length: self.article.to - self.article.from,
+            amount: self.amount.amount,
+            decimals: self.amount.decimals,
+            unit: self.unit,
+            place: at,
+        });
+    }
+
+    /// UNT's count is the count of segments, and its reference UNH's.
+    fn is_counted_right(&self) -> bool {
+        self.count.is_plain
+            && self.count.amount == self.segment as i64
+            && text::same(self.d, &self.reference, &self.last_reference)
+    }
+}
+
+/// The first component of the first element; a segment of the tag alone has an empty one.
+#[inline(always)]
+fn first_part(scanner: &mut Scanner, at: usize, head: u32) -> Part {
+    // The byte behind the tag.
+    scanner.next();
+    if head >> 24 == b'\'' as u32 {
+        return Part { from: at + 3, to: at + 3, releases: 0, stop: Class::Terminator };
+    }
+    scanner.part(at + 4)
+}
+
+/// Three capital letters followed by `+` or `'`.
+#[inline(always)]
+fn is_well_begun(head: u32) -> bool {
+    let [a, b, c, fourth] = head.to_le_bytes();
+    a.is_ascii_uppercase() && b.is_ascii_uppercase() && c.is_ascii_uppercase() && (fourth == b'+' || fourth == b'\'')
+}

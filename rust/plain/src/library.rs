@@ -1,0 +1,52 @@
+//! The calls as a trait, so that another library can be put beside this reader.
+
+use crate::reader::{self, Article, Survey};
+use crate::Verdict;
+
+pub trait Library {
+    fn name(&self) -> &'static str;
+    fn survey(&self, d: &[u8]) -> Result<Survey, u32>;
+    fn next_message(&self, d: &[u8], from: usize) -> Option<(usize, usize)>;
+    fn judge_at(&self, d: &[u8], at: usize) -> Verdict;
+    fn prices(&self, d: &[u8], at: usize, k: usize, row: &mut [i64]) -> Result<(usize, usize), u32>;
+    fn article(&self, d: &[u8], at: usize, k: usize) -> Article;
+
+    /// Start, end and whether it is a piece, for every segment the segment reader gives; no list if there is no such
+    /// reader to compare.
+    fn segments(&self, _: &[u8]) -> Option<Vec<(usize, usize, bool)>> {
+        None
+    }
+}
+
+/// This reader.
+pub struct Plain;
+
+impl Library for Plain {
+    fn name(&self) -> &'static str {
+        "plain"
+    }
+
+    fn survey(&self, d: &[u8]) -> Result<Survey, u32> {
+        reader::survey(d)
+    }
+
+    fn next_message(&self, d: &[u8], from: usize) -> Option<(usize, usize)> {
+        reader::next_message(d, from)
+    }
+
+    fn judge_at(&self, d: &[u8], at: usize) -> Verdict {
+        reader::judge_at(d, at)
+    }
+
+    fn prices(&self, d: &[u8], at: usize, k: usize, row: &mut [i64]) -> Result<(usize, usize), u32> {
+        reader::prices(d, at, k, row)
+    }
+
+    fn article(&self, d: &[u8], at: usize, k: usize) -> Article {
+        reader::article(d, at, k)
+    }
+
+    fn segments(&self, d: &[u8]) -> Option<Vec<(usize, usize, bool)>> {
+        Some(reader::segments(d).collect())
+    }
+}

@@ -1,0 +1,181 @@
+//! Document 01's calls over a lent delivery.
+
+use crate::agree::Positions;
+use crate::cut;
+use crate::judge::{judge, Judged, NoPrices, Price, Prices, Verdict};
+
+#[derive(Clone, Copy, PartialEq, Eq, Debug)]
+pub struct Survey {
+    pub messages: usize,
+    pub accepted: usize,
+    pub outside: usize,
+}
+
+/// The article of a price: refusal number or 0, place from the delivery's start, length with releases.
+#[derive(Clone, Copy, PartialEq, Eq, Debug)]
+pub struct Article {
+    pub number: u32,
+    pub place: usize,
+    pub length: usize,
+}
+
+/// Eight numbers to a price.
+pub const WIDTH: usize = 8;
+
+/// Messages, accepted, segments outside; or refusal 1 or 2.
+pub fn survey(d: &[u8]) -> Result<Survey, u32> {
+    let mut at = cut::front(d)?;
+    let mut survey = Survey { messages: 0, accepted: 0, outside: 0 };
+    let mut positions = Positions::default();
+    while at < d.len() {
+        if cut::tag_of(cut::head(d, at)) != cut::UNH {
+            survey.outside += 1;
+            at = cut::segment_end(d, at);
+            continue;
+        }
+        let judged = judge(d, at, &mut positions, &mut NoPrices);
+        survey.messages += 1;
+        survey.accepted += is_accepted(&judged.verdict) as usize;
+        at = judged.end;
+    }
+    Ok(survey)
+}
+
+/// Every segment in turn: start, end and whether it is a piece; none on a delivery that is not admitted.
+pub fn segments(d: &[u8]) -> impl Iterator<Item = (usize, usize, bool)> + '_ {
+    let mut at = cut::front(d).unwrap_or(d.len());
+    std::iter::from_fn(move || {
+        let start = at;
+        if start >= d.len() {
+            return None;
+        }
+        let is_piece;
+        (at, is_piece) = cut::segment_at(d, start);
+        Some((start, at, is_piece))
+    })
+}
+
+pub fn is_accepted(verdict: &Verdict) -> bool {
+    matches!(verdict, Verdict::Accepted { .. })
+}
+
+/// The first message that begins at `from` or later: its start and end.
+pub fn next_message(d: &[u8], from: usize) -> Option<(usize, usize)> {
+    let front = cut::front(d).ok()?;
+    let mut at = cut::segment_from(d, front, from)?;
+    while at < d.len() {
+        let end = cut::segment_end(d, at);
+        if cut::tag_of(cut::head(d, at)) == cut::UNH {
+            return Some((at, cut::rest_of_message(d, end)));
+        }
+        at = end;
+    }
+    None
+}
+
+/// The verdict on the message that begins at `at`.
+pub fn judge_at(d: &[u8], at: usize) -> Verdict {
+    match judge_with(d, at, &mut NoPrices) {
+        Ok(judged) => judged.verdict,
+        Err(number) => Verdict::without_place(number),
+    }
+}
+
+/// 1, 2 and 31, else the judged message.
+fn judge_with<P: Prices>(d: &[u8], at: usize, prices: &mut P) -> Result<Judged, u32> {
+    let front = cut::front(d)?;
+    if !cut::begins_message(d, front, at) {
+        return Err(31);
+    }
+    Ok(judge(d, at, &mut Positions::default(), prices))
+}
+
+/// As `judge_with`, with 30 for a refused message.
+fn accept_with<P: Prices>(d: &[u8], at: usize, prices: &mut P) -> Result<(), u32> {
+    if is_accepted(&judge_with(d, at, prices)?.verdict) {
+        Ok(())
+    } else {
+        Err(30)
+    }
+}
+
+/// The prices from number `k` on, as many as fit whole into `row`: how many were written and how many there are.
+pub fn prices(d: &[u8], at: usize, k: usize, row: &mut [i64]) -> Result<(usize, usize), u32> {
+    let mut window = Window { start: at, first: k, room: row.len() / WIDTH, total: 0, kept: Vec::new() };
+    accept_with(d, at, &mut window)?;
+    for (slot, price) in row.chunks_exact_mut(WIDTH).zip(&window.kept) {
+        slot.copy_from_slice(price);
+    }
+    Ok((window.kept.len(), window.total))
+}
+
+/// Prices are kept aside until the message is accepted, since a refused one writes nothing.
+struct Window {
+    start: usize,
+    first: usize,
+    room: usize,
+    total: usize,
+    kept: Vec<[i64; WIDTH]>,
+}
+
+impl Prices for Window {
+    fn price(&mut self, price: &Price) {
+        if self.total >= self.first && self.kept.len() < self.room {
+            self.kept.push(numbers(self.start, price));
+        }
+        self.total += 1;
+    }
+
+    fn range(&mut self, place: usize) {
+        // The last price is the last one kept only if it was kept at all.
+        if self.total > self.first && self.total - self.first == self.kept.len() {
+            if let Some(price) = self.kept.last_mut() {
+                price[7] = (place - self.start) as i64;
+            }
+        }
+    }
+}
+
+/// The eight numbers of a price; its RNG may follow.
+fn numbers(start: usize, price: &Price) -> [i64; WIDTH] {
+    let article = if price.article_length == 0 { -1 } else { (price.article - start) as i64 };
+    [
+        price.position as i64,
+        article,
+        price.article_length as i64,
+        price.amount,
+        price.decimals as i64,
+        price.unit as i64,
+        (price.place - start) as i64,
+        -1,
+    ]
+}
+
+/// The article of price number `k`.
+pub fn article(d: &[u8], at: usize, k: usize) -> Article {
+    let mut one = One { wanted: k, total: 0, found: None };
+    let number = match (accept_with(d, at, &mut one), one.found) {
+        (Err(number), _) => number,
+        (Ok(()), None) => 32,
+        (Ok(()), Some(price)) if price.article_length == 0 => return Article { number: 0, place: at, length: 0 },
+        (Ok(()), Some(price)) => return Article { number: 0, place: price.article, length: price.article_length },
+    };
+    Article { number, place: 0, length: 0 }
+}
+
+struct One {
+    wanted: usize,
+    total: usize,
+    found: Option<Price>,
+}
+
+impl Prices for One {
+    fn price(&mut self, price: &Price) {
+        if self.total == self.wanted {
+            self.found = Some(*price);
+        }
+        self.total += 1;
+    }
+
+    fn range(&mut self, _: usize) {}
+}
