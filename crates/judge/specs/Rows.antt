@@ -1,11 +1,15 @@
--- A guide's table as numbers, row after row: what the code holds of it. No public promise cites these.
-use Prim.Native.Nat.{ℕ, zero, suc, _-_}
+-- The tables as columns of numbers: what the code holds of them. No public promise cites these.
+use Prim.Native.Nat.{ℕ, suc, _-_}
 use mathlib.Core.Bool.{Bool, true, false}
 use mathlib.Core.List.{List, [], _∷_, _++_, map}
-use lib.ListN.{length, take}
+use lib.ListN.{length}
 use lib.Dec.{eqb}
 use Rattle.guide.specs.Nodes.{Guide, node}
 use Rattle.guide.specs.Placing.{lowest, firstNode}
+use Rattle.guide.specs.Pricat.{pricat20d, pricat20c}
+use Rattle.guide.specs.Columns.{values}
+use Rattle.judge.specs.declared.editions.Edition.{Edition}
+use Rattle.judge.specs.declared.editions.Edition.the-variants.{D, C}
 use Rattle.judge.specs.Words.{packed}
 
 abbrev pub flag : Bool → ℕ
@@ -28,25 +32,11 @@ firstChild g p = firstNode g (childOf g p)
 unfoldable pub nextSibling : Guide → ℕ → ℕ
 nextSibling g n = lowest (childOf g (node g n .parent)) (suc n) (length g - suc n)
 
--- row n: tag, element and component of the selector, where its codes begin among all and how many they are, parent, counter, status, limit,
--- the number of a passed limit, and the links to the first child and the next sibling
-abbrev pub numbersOf : Guide → ℕ → List ℕ
-numbersOf g n =
-    packed (node g n .tag)
-    ∷ node g n .selector .element
-    ∷ node g n .selector .component
-    ∷ length (codesOf (take n g))
-    ∷ length (node g n .selector .codes)
-    ∷ node g n .parent
-    ∷ node g n .counter
-    ∷ flag (node g n .must)
-    ∷ node g n .limit
-    ∷ node g n .refusal
-    ∷ firstChild g n
-    ∷ nextSibling g n
-    ∷ []
+-- the columns hold the rows of 2.0d, then those of 2.0c: where an edition's begin
+abbrev pub startOf : Edition → ℕ
+startOf D = 0
+startOf C = 27
 
--- the k rows from i on
-unfoldable pub rowsFrom : Guide → ℕ → ℕ → List ℕ
-rowsFrom g i zero = []
-rowsFrom g i (suc k) = numbersOf g i ++ rowsFrom g (suc i) k
+-- a column: what f is of each row
+abbrev pub column : (Guide → ℕ → ℕ) → List ℕ
+column f = values (f pricat20d) 0 (length pricat20d) ++ values (f pricat20c) 0 (length pricat20c)

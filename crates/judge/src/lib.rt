@@ -1,14 +1,17 @@
 // Judges one message by the guide of an edition: placing its segments.
+mod code_columns;
 mod counting;
 mod editions;
 mod lacking;
+mod limit_columns;
+mod link_columns;
 mod matching;
 mod placing;
-mod pricat20c;
-mod pricat20d;
 mod rows;
 mod seeking;
+mod selector_columns;
 mod tags;
+mod widths;
 mod words;
 
 pub use editions::Edition;

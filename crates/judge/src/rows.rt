@@ -1,26 +1,37 @@
-// The tables, and what stands in a row.
+// What stands in a row of a table: a number of each column.
+use crate::code_columns;
 use crate::editions::Edition;
-use crate::pricat20c;
-use crate::pricat20d;
-ghost use Prim.Native.Nat.{_<_};
+use crate::limit_columns::COUNTER;
+use crate::limit_columns::LIMIT;
+use crate::limit_columns::REFUSAL;
+use crate::limit_columns::REQUIRED;
+use crate::link_columns::FIRST_CHILD;
+use crate::link_columns::NEXT_SIBLING;
+use crate::link_columns::PARENT;
+use crate::selector_columns::CODE_COUNT;
+use crate::selector_columns::COMPONENT;
+use crate::selector_columns::ELEMENT;
+use crate::selector_columns::FIRST_CODE;
+use crate::selector_columns::TAG;
+use crate::widths::number_of;
+use crate::widths::of_u8;
+use crate::widths::of_u16;
+ghost use Prim.Native.Nat.{_+_, _<_};
 ghost use mathlib.Core.Path.{_≡_};
 ghost use lib.ListN.{length, getD, take};
 ghost use Rattle.guide.specs.Nodes.{node};
 ghost use Rattle.judge.specs.Editions.{guideOf};
-ghost use Rattle.judge.specs.Rows.{numbersOf, codesOf, firstChild, nextSibling};
+ghost use Rattle.judge.specs.Rows.{startOf, codesOf, firstChild, nextSibling};
 ghost use Rattle.judge.specs.Words.{packed};
 
-const WIDTH: usize = 12;
-
-// Number k of row n.
-fn cell(edition: Edition, n: usize, k: usize) -> u32
-    requires { ⌜ (n < length (guideOf edition)) × (k < 12) ⌝ }
-    ensures { λ r. ⌜ r ≡ getD (numbersOf (guideOf edition) n) k 0 ⌝ }
+// Where row n stands in the columns.
+fn place_of(edition: Edition, n: usize) -> usize
+    requires { ⌜ n < length (guideOf edition) ⌝ }
+    ensures { λ r. ⌜ (r ≡ startOf edition + n) × (r < 52) ⌝ }
 {
-    let at = n * WIDTH + k;
     match edition {
-        Edition::D => pricat20d::ROWS[at],
-        Edition::C => pricat20c::ROWS[at],
+        Edition::D => n,
+        Edition::C => 27 + n,
     }
 }
 
@@ -29,7 +40,7 @@ pub(crate) fn tag_of(edition: Edition, n: usize) -> u32
     requires { ⌜ n < length (guideOf edition) ⌝ }
     ensures { λ r. ⌜ r ≡ packed (node (guideOf edition) n .tag) ⌝ }
 {
-    cell(edition, n, 0)
+    TAG[place_of(edition, n)]
 }
 
 // The element of the selector, counted from 0.
@@ -37,7 +48,7 @@ pub(crate) fn element_of(edition: Edition, n: usize) -> usize
     requires { ⌜ n < length (guideOf edition) ⌝ }
     ensures { λ r. ⌜ r ≡ node (guideOf edition) n .selector .element ⌝ }
 {
-    cell(edition, n, 1) as usize
+    of_u8(ELEMENT[place_of(edition, n)])
 }
 
 // The component of the selector, counted from 0.
@@ -45,7 +56,7 @@ pub(crate) fn component_of(edition: Edition, n: usize) -> usize
     requires { ⌜ n < length (guideOf edition) ⌝ }
     ensures { λ r. ⌜ r ≡ node (guideOf edition) n .selector .component ⌝ }
 {
-    cell(edition, n, 2) as usize
+    of_u8(COMPONENT[place_of(edition, n)])
 }
 
 // Where the codes of the row begin among all.
@@ -53,7 +64,7 @@ pub(crate) fn codes_from(edition: Edition, n: usize) -> usize
     requires { ⌜ n < length (guideOf edition) ⌝ }
     ensures { λ r. ⌜ r ≡ length (codesOf (take n (guideOf edition))) ⌝ }
 {
-    cell(edition, n, 3) as usize
+    of_u8(FIRST_CODE[place_of(edition, n)])
 }
 
 // How many codes the row has.
@@ -61,7 +72,7 @@ pub(crate) fn codes_count(edition: Edition, n: usize) -> usize
     requires { ⌜ n < length (guideOf edition) ⌝ }
     ensures { λ r. ⌜ r ≡ length (node (guideOf edition) n .selector .codes) ⌝ }
 {
-    cell(edition, n, 4) as usize
+    of_u8(CODE_COUNT[place_of(edition, n)])
 }
 
 // The parent.
@@ -69,7 +80,7 @@ pub(crate) fn parent_of(edition: Edition, n: usize) -> usize
     requires { ⌜ n < length (guideOf edition) ⌝ }
     ensures { λ r. ⌜ r ≡ node (guideOf edition) n .parent ⌝ }
 {
-    cell(edition, n, 5) as usize
+    of_u16(PARENT[place_of(edition, n)])
 }
 
 // The counter.
@@ -77,7 +88,7 @@ pub(crate) fn counter_of(edition: Edition, n: usize) -> u32
     requires { ⌜ n < length (guideOf edition) ⌝ }
     ensures { λ r. ⌜ r ≡ node (guideOf edition) n .counter ⌝ }
 {
-    cell(edition, n, 6)
+    number_of(COUNTER[place_of(edition, n)])
 }
 
 // Whether the node is required.
@@ -85,7 +96,7 @@ pub(crate) fn is_required(edition: Edition, n: usize) -> bool
     requires { ⌜ n < length (guideOf edition) ⌝ }
     ensures { λ r. ⌜ r ≡ node (guideOf edition) n .must ⌝ }
 {
-    cell(edition, n, 7) == 1
+    REQUIRED[place_of(edition, n)] == 1
 }
 
 // The limit in the parent.
@@ -93,7 +104,7 @@ pub(crate) fn limit_of(edition: Edition, n: usize) -> u32
     requires { ⌜ n < length (guideOf edition) ⌝ }
     ensures { λ r. ⌜ r ≡ node (guideOf edition) n .limit ⌝ }
 {
-    cell(edition, n, 8)
+    LIMIT[place_of(edition, n)]
 }
 
 // The number of a passed limit.
@@ -101,7 +112,7 @@ pub(crate) fn refusal_of(edition: Edition, n: usize) -> u32
     requires { ⌜ n < length (guideOf edition) ⌝ }
     ensures { λ r. ⌜ r ≡ node (guideOf edition) n .refusal ⌝ }
 {
-    cell(edition, n, 9)
+    number_of(REFUSAL[place_of(edition, n)])
 }
 
 // The first child, or 0.
@@ -109,7 +120,7 @@ pub(crate) fn first_child(edition: Edition, n: usize) -> usize
     requires { ⌜ n < length (guideOf edition) ⌝ }
     ensures { λ r. ⌜ r ≡ firstChild (guideOf edition) n ⌝ }
 {
-    cell(edition, n, 10) as usize
+    of_u8(FIRST_CHILD[place_of(edition, n)])
 }
 
 // The next node with the same parent, or 0.
@@ -117,7 +128,7 @@ pub(crate) fn next_sibling(edition: Edition, n: usize) -> usize
     requires { ⌜ n < length (guideOf edition) ⌝ }
     ensures { λ r. ⌜ r ≡ nextSibling (guideOf edition) n ⌝ }
 {
-    cell(edition, n, 11) as usize
+    of_u8(NEXT_SIBLING[place_of(edition, n)])
 }
 
 // Code j of all codes, as a number.
@@ -126,7 +137,7 @@ pub(crate) fn code(edition: Edition, j: usize) -> u32
     ensures { λ r. ⌜ r ≡ getD (codesOf (guideOf edition)) j 0 ⌝ }
 {
     match edition {
-        Edition::D => pricat20d::CODES[j],
-        Edition::C => pricat20c::CODES[j],
+        Edition::D => code_columns::CODES_20D[j],
+        Edition::C => code_columns::CODES_20C[j],
     }
 }

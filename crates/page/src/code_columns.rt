@@ -1,10 +1,11 @@
 // The codes of all rows as columns of numbers: where those of each row begin, and where the bytes of each begin.
+use crate::widths::of_u8;
 ghost use Prim.Native.Nat.{_<_};
 ghost use mathlib.Core.Path.{_≡_};
 ghost use lib.ListN.{getD};
 ghost use Rattle.page.specs.PageColumns.{codeStarts, byteStarts};
 
-const FIRST_CODE: [usize; 85] = [
+const FIRST_CODE: [u8; 85] = [
     0,
     0,
     1,
@@ -92,7 +93,7 @@ const FIRST_CODE: [usize; 85] = [
     84,
 ];
 
-const FIRST_BYTE: [usize; 85] = [
+const FIRST_BYTE: [u8; 85] = [
     0,
     6,
     7,
@@ -184,12 +185,12 @@ pub(crate) fn code_start(n: usize) -> usize
     requires { ⌜ n < 85 ⌝ }
     ensures { λ r. ⌜ r ≡ getD codeStarts n 0 ⌝ }
 {
-    FIRST_CODE[n]
+    of_u8(FIRST_CODE[n])
 }
 
 pub(crate) fn byte_start(n: usize) -> usize
     requires { ⌜ n < 85 ⌝ }
     ensures { λ r. ⌜ r ≡ getD byteStarts n 0 ⌝ }
 {
-    FIRST_BYTE[n]
+    of_u8(FIRST_BYTE[n])
 }

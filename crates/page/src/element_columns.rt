@@ -1,11 +1,12 @@
 // The elements of all pages as columns of numbers: where those of each node begin, whether each is required, and where its rows begin.
+use crate::widths::of_u8;
 ghost use Prim.Native.Nat.{_<_};
 ghost use mathlib.Core.Path.{_≡_};
 ghost use lib.ListN.{getD};
 ghost use Rattle.guide.specs.Page.{beyond};
 ghost use Rattle.page.specs.PageColumns.{allElements, elementStarts, rowStarts, bit};
 
-const FIRST_ELEMENT: [usize; 28] = [
+const FIRST_ELEMENT: [u8; 28] = [
     0,
     0,
     2,
@@ -36,7 +37,7 @@ const FIRST_ELEMENT: [usize; 28] = [
     45,
 ];
 
-const REQUIRED: [usize; 45] = [
+const REQUIRED: [u8; 45] = [
     1,
     1,
     1,
@@ -84,7 +85,7 @@ const REQUIRED: [usize; 45] = [
     1,
 ];
 
-const FIRST_ROW: [usize; 46] = [
+const FIRST_ROW: [u8; 46] = [
     0,
     1,
     6,
@@ -137,19 +138,19 @@ pub(crate) fn element_start(n: usize) -> usize
     requires { ⌜ n < 28 ⌝ }
     ensures { λ r. ⌜ r ≡ getD elementStarts n 0 ⌝ }
 {
-    FIRST_ELEMENT[n]
+    of_u8(FIRST_ELEMENT[n])
 }
 
 pub(crate) fn required(n: usize) -> usize
     requires { ⌜ n < 45 ⌝ }
     ensures { λ r. ⌜ r ≡ bit (getD allElements n beyond .required) ⌝ }
 {
-    REQUIRED[n]
+    of_u8(REQUIRED[n])
 }
 
 pub(crate) fn row_start(n: usize) -> usize
     requires { ⌜ n < 46 ⌝ }
     ensures { λ r. ⌜ r ≡ getD rowStarts n 0 ⌝ }
 {
-    FIRST_ROW[n]
+    of_u8(FIRST_ROW[n])
 }

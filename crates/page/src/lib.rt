@@ -6,5 +6,6 @@ mod formed;
 mod pages;
 mod row_columns;
 mod rows;
+mod widths;
 
 pub use pages::page_fault;

@@ -1,11 +1,13 @@
 // The rows of all elements as columns of numbers: status (0 not used, 1 may, 2 must), kind of format (0 an..k, 1 ank, 2 n..k, 3 nk) and k.
+use crate::widths::of_u8;
+use crate::widths::of_u16;
 ghost use Prim.Native.Nat.{_<_};
 ghost use mathlib.Core.Path.{_≡_};
 ghost use lib.ListN.{getD};
 ghost use Rattle.guide.specs.Page.{unused};
 ghost use Rattle.page.specs.PageColumns.{allRows, statusOf, formatOf, kindOf, sizeOf};
 
-const STATUS: [usize; 84] = [
+const STATUS: [u8; 84] = [
     2,
     2,
     2,
@@ -92,7 +94,7 @@ const STATUS: [usize; 84] = [
     2,
 ];
 
-const KIND: [usize; 84] = [
+const KIND: [u8; 84] = [
     0,
     0,
     0,
@@ -179,7 +181,7 @@ const KIND: [usize; 84] = [
     0,
 ];
 
-const SIZE: [usize; 84] = [
+const SIZE: [u16; 84] = [
     14,
     6,
     3,
@@ -270,19 +272,19 @@ pub(crate) fn status(n: usize) -> usize
     requires { ⌜ n < 84 ⌝ }
     ensures { λ r. ⌜ r ≡ statusOf (getD allRows n unused) ⌝ }
 {
-    STATUS[n]
+    of_u8(STATUS[n])
 }
 
 pub(crate) fn kind(n: usize) -> usize
     requires { ⌜ n < 84 ⌝ }
     ensures { λ r. ⌜ r ≡ kindOf (formatOf (getD allRows n unused)) ⌝ }
 {
-    KIND[n]
+    of_u8(KIND[n])
 }
 
 pub(crate) fn size(n: usize) -> usize
     requires { ⌜ n < 84 ⌝ }
     ensures { λ r. ⌜ r ≡ sizeOf (formatOf (getD allRows n unused)) ⌝ }
 {
-    SIZE[n]
+    of_u16(SIZE[n])
 }

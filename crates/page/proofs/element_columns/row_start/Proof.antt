@@ -1,20 +1,19 @@
 -- `page::element_columns::row_start` meets its contract: a cell of its column, which is the definition by computation.
-use mathlib.Core.Path.{refl}
 use Rattle.guide.specs.Pages20d.{pages20d}
 use Rattle.page.specs.PageColumns.{rowStarts, startsFrom, column, allElements, joined}
 use borrow.Author.Needs.{needs}
 use Rattle.page.proofs.element_columns.row_start.Statement.{statement}
 use Rattle.page.proofs.element_columns.row_start.Tie as tie
 
-mul-result : tie.Need-mul-result
-mul-result c = search needs
+array-read-of-u8 : tie.Need-array-read-of-u8
+array-read-of-u8 c = search needs
 
-array-read-result : tie.Need-array-read-result
-array-read-result c = search needs
+of-u8-requires : tie.Need-of-u8-requires
+of-u8-requires c κs = search needs
 
 returns : tie.Need-returns
 unfolding pages20d rowStarts startsFrom column allElements joined
-returns c = refl
+returns c = c .of-u8 .ensures
 
 pub row-start-spec : {M : Type 1} → statement M
-row-start-spec = tie.close (tie.spec mul-result array-read-result returns)
+row-start-spec = tie.close (tie.spec array-read-of-u8 of-u8-requires returns)
