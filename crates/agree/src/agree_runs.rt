@@ -1,0 +1,151 @@
+// The search run by run: a run's positions are marked in a table, and only what may agree with one of them is compared with them.
+use crate::agree_earlier::agrees_earlier;
+use crate::agree_headings::has_tag;
+use crate::agree_headings::head_at;
+use crate::agree_marks::is_marked;
+use crate::agree_marks::mark;
+use crate::agree_prints::print_of;
+use cut::Cut;
+use cut::Syntax;
+use cut::segment_at;
+ghost use Prim.Native.Nat.{_≤_, _+_, max};
+ghost use mathlib.Core.Bool.{true, _&&_};
+ghost use mathlib.Core.Path.{_≡_};
+ghost use lib.ListN.{length};
+ghost use Rattle.cut.specs.Bytes.{part, begins, bytesOf};
+ghost use Rattle.agree.specs.AgreePositions.{headingFrom, agreesAny};
+ghost use Rattle.agree.specs.AgreeParts.{segmentsAt, headingsIn};
+ghost use Rattle.agree.specs.AgreeMarks.{allMarked};
+ghost use Rattle.agree.specs.AgreeRuns.{meets, notedIn, Running, Searched};
+
+// How many segments it has, and the place where they end.
+pub struct Run {
+    pub count: usize,
+    pub end: usize,
+}
+
+// Whether the segment from `place` to `end` begins a position that agrees with one that begins within the first n segments from `at` on,
+// which are marked.
+fn agrees_in(
+    y: Syntax,
+    d: &[u8],
+    at: usize,
+    n: usize,
+    place: usize,
+    end: usize,
+    t: &[u8; 8192],
+) -> bool
+    requires { ⌜ (place ≤ end) × (end ≤ length (now d)) ⌝ }
+    requires { ⌜ allMarked y (now t) (headingsIn n (segmentsAt y (now d) at)) ≡ true ⌝ }
+    ensures { λ r. ⌜ r ≡ begins (bytesOf "LIN") (part place end (now (d .entry))) && agreesAny y (headingFrom (part place end (now (d .entry))) (segmentsAt y (now (d .entry)) end)) (headingsIn n (segmentsAt y (now (d .entry)) at)) ⌝ }
+{
+    if !has_tag(d, place, end, 76, 73, 78) {
+        return false;
+    }
+    let h = head_at(y, d, place, end);
+    if !is_marked(t, print_of(y, d, h)) {
+        return false;
+    }
+    agrees_earlier(y, d, at, n, h)
+}
+
+// Marks the position that the segment from `place` to `end` begins, if it begins one, and answers how many positions there is room for.
+fn note(y: Syntax, d: &[u8], place: usize, end: usize, room: usize, t: &mut [u8; 8192]) -> usize
+    requires { ⌜ (place ≤ end) × (end ≤ length (now d)) ⌝ }
+    ensures { λ _. ⌜ now (t .exit) ≡ notedIn y (now (d .entry)) end (part place end (now (d .entry))) (now (t .entry)) ⌝ }
+{
+    if !has_tag(d, place, end, 76, 73, 78) {
+        return room;
+    }
+    let h = head_at(y, d, place, end);
+    mark(t, print_of(y, d, h));
+    if room == 0 {
+        return 0;
+    }
+    room - 1
+}
+
+// A run of segments from `at` on whose positions do not agree with each other, and their marks.
+fn run_from(y: Syntax, d: &[u8], at: usize, t: &mut [u8; 8192]) -> Run
+    requires { ⌜ length (now t) ≡ 8192 ⌝ }
+    ensures { λ r. ⌜ Running y (now (d .entry)) at (now (t .exit)) r ⌝ }
+{
+    let mut here = at;
+    let mut n = 0;
+    let mut room = 512;
+    while 0 < room {
+        let s = segment_at(y, d, here);
+        let Cut::Segment {
+            start: place,
+            end,
+            piece: _,
+        } = s
+        else {
+            return Run {
+                count: n,
+                end: here,
+            };
+        };
+        if agrees_in(y, d, at, n, place, end, t) {
+            return Run {
+                count: n,
+                end: here,
+            };
+        }
+        room = note(y, d, place, end, room, t);
+        n += 1;
+        here = end;
+    }
+    Run {
+        count: n,
+        end: here,
+    }
+}
+
+// Whether a position that begins within the first n segments from `start` on agrees with one of the first `count` segments from `at` on,
+// which are marked.
+fn meets_run(
+    y: Syntax,
+    d: &[u8],
+    start: usize,
+    n: usize,
+    at: usize,
+    count: usize,
+    t: &[u8; 8192],
+) -> bool
+    requires { ⌜ allMarked y (now t) (headingsIn count (segmentsAt y (now d) at)) ≡ true ⌝ }
+    ensures { λ r. ⌜ r ≡ meets y (headingsIn n (segmentsAt y (now (d .entry)) start)) (headingsIn count (segmentsAt y (now (d .entry)) at)) ⌝ }
+{
+    let mut here = start;
+    let mut left = n;
+    while 0 < left {
+        let s = segment_at(y, d, here);
+        let Cut::Segment {
+            start: place,
+            end,
+            piece: _,
+        } = s
+        else {
+            return false;
+        };
+        if agrees_in(y, d, at, count, place, end, t) {
+            return true;
+        }
+        left -= 1;
+        here = end;
+    }
+    false
+}
+
+// A run of segments from `at` on whose positions agree with none before them; it is empty where that is not known.
+pub(crate) fn fresh_run(y: Syntax, d: &[u8], start: usize, at: usize, n: usize) -> Run
+    requires { ⌜ Searched y (now d) start at n ⌝ }
+    ensures { λ r. ⌜ Searched y (now (d .entry)) start (r .end) (n + r .count) × (at + r .count ≤ r .end) × (r .end ≤ max at (length (now (d .entry)))) ⌝ }
+{
+    let mut t = [0u8; 8192];
+    let run = run_from(y, d, at, &mut t);
+    if meets_run(y, d, start, n, at, run.count, &t) {
+        return Run { count: 0, end: at };
+    }
+    run
+}
