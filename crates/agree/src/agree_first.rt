@@ -28,20 +28,26 @@ pub fn first_agreeing(y: Syntax, d: &[u8], start: usize, end: usize) -> Agreeing
     first_from(y, &d[0..end], start)
 }
 
-// The same among all segments from `start` on.
+// The same among all segments from `start` on. A run that does not pass is tried again shorter, so that the search begins right before the
+// position that it finds.
 fn first_from(y: Syntax, d: &[u8], start: usize) -> Agreeing
     ensures { λ r. ⌜ r ≡ firstAgreeing y (positionsOf (segmentsAt y (now (d .entry)) start)) ⌝ }
 {
     let mut at = start;
     let mut n = 0;
+    let mut most = 512;
     loop {
-        let run = fresh_run(y, d, start, at, n);
+        let run = fresh_run(y, d, start, at, n, most);
         let count = run.count;
-        if count == 0 {
+        if 0 < count {
+            n += count;
+            at = run.end;
+            continue;
+        }
+        if most < 2 {
             return search_from(y, d, start, at, n);
         }
-        n += count;
-        at = run.end;
+        most /= 8;
     }
 }
 

@@ -65,14 +65,14 @@ fn note(y: Syntax, d: &[u8], place: usize, end: usize, room: usize, t: &mut [u8;
     room - 1
 }
 
-// A run of segments from `at` on whose positions do not agree with each other, and their marks.
-fn run_from(y: Syntax, d: &[u8], at: usize, t: &mut [u8; 8192]) -> Run
+// A run of segments from `at` on with at most so many positions, which do not agree with each other, and their marks.
+fn run_from(y: Syntax, d: &[u8], at: usize, most: usize, t: &mut [u8; 8192]) -> Run
     requires { ⌜ length (now t) ≡ 8192 ⌝ }
     ensures { λ r. ⌜ Running y (now (d .entry)) at (now (t .exit)) r ⌝ }
 {
     let mut here = at;
     let mut n = 0;
-    let mut room = 512;
+    let mut room = most;
     while 0 < room {
         let s = segment_at(y, d, here);
         let Cut::Segment {
@@ -137,14 +137,18 @@ fn meets_run(
     false
 }
 
-// A run of segments from `at` on whose positions agree with none before them; it is empty where that is not known.
-pub(crate) fn fresh_run(y: Syntax, d: &[u8], start: usize, at: usize, n: usize) -> Run
+// A run of segments from `at` on with at most so many positions, which agree with none before them; it is empty where that is not known.
+pub(crate) fn fresh_run(y: Syntax, d: &[u8], start: usize, at: usize, n: usize, most: usize) -> Run
     requires { ⌜ Searched y (now d) start at n ⌝ }
     ensures { λ r. ⌜ Searched y (now (d .entry)) start (r .end) (n + r .count) × (at + r .count ≤ r .end) × (r .end ≤ max at (length (now (d .entry)))) ⌝ }
 {
     let mut t = [0u8; 8192];
-    let run = run_from(y, d, at, &mut t);
-    if meets_run(y, d, start, n, at, run.count, &t) {
+    let run = run_from(y, d, at, most, &mut t);
+    let count = run.count;
+    if count == 0 {
+        return Run { count: 0, end: at };
+    }
+    if meets_run(y, d, start, n, at, count, &t) {
         return Run { count: 0, end: at };
     }
     run

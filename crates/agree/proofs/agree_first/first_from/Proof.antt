@@ -1,5 +1,6 @@
 -- `agree::agree_first::first_from` meets its contract. The loop's invariant: `Searched`.
-use Prim.Native.Nat.{_-_}
+use borrow.Author.Needs.{needs}
+use Prim.Native.Nat.{_+_, _-_}
 use native.Mathlib.Omega.{arith}
 use lib.ListN.{length}
 use Rattle.agree.specs.AgreeRuns.{Searched}
@@ -8,22 +9,16 @@ use Rattle.agree.proofs.agree_first.first_from.Statement.{statement}
 use Rattle.agree.proofs.agree_first.first_from.Tie as tie
 
 abbrev Inv-loop : tie.InvT-loop
-Inv-loop y d start at₀ n₀ at n = Searched y d start at n
+Inv-loop y d start at₀ n₀ most₀ at n most = Searched y d start at n
 
 abbrev μ-loop : tie.MeasureT-loop
-μ-loop y d start at₀ n₀ at n = length d - at
+μ-loop y d start at₀ n₀ most₀ at n most = length d - at + most
 
 loop-holds : tie.Need-loop-holds Inv-loop μ-loop
 loop-holds c = search-first _ _ _
 
 fresh-run-requires : tie.Need-fresh-run-requires Inv-loop μ-loop
 fresh-run-requires c κs = c .loop .inv
-
-search-from-requires : tie.Need-search-from-requires Inv-loop μ-loop
-search-from-requires c κs = c .before .before .loop .inv
-
-returns : tie.Need-returns Inv-loop μ-loop
-returns c = c .search-from .ensures
 
 add-n : tie.Need-add-n Inv-loop μ-loop
 add-n c =
@@ -33,10 +28,22 @@ add-n c =
 loop-less : tie.Need-loop-less Inv-loop μ-loop
 loop-less c =
     let r = c .before .fresh-run .ensures in
-    omega (arith, r .1, r .2, c .if1 .left)
+    omega (arith, r .1, r .2, c .if1 .taken)
 
 loop-again : tie.Need-loop-again Inv-loop μ-loop
 loop-again c = c .before .fresh-run .ensures .0
+
+search-from-requires : tie.Need-search-from-requires Inv-loop μ-loop
+search-from-requires c κs = c .before .before .before .loop .inv
+
+returns : tie.Need-returns Inv-loop μ-loop
+returns c = c .search-from .ensures
+
+loop-less-2 : tie.Need-loop-less-2 Inv-loop μ-loop
+loop-less-2 c = search needs
+
+loop-again-2 : tie.Need-loop-again-2 Inv-loop μ-loop
+loop-again-2 c = c .before .before .before .loop .inv
 
 pub first-from-spec : {M : Type 1} → statement M
 first-from-spec =
@@ -46,8 +53,10 @@ first-from-spec =
     μ-loop
     loop-holds
     fresh-run-requires
-    search-from-requires
-    returns
     add-n
     loop-less
-    loop-again)
+    loop-again
+    search-from-requires
+    returns
+    loop-less-2
+    loop-again-2)

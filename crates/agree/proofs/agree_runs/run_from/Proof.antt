@@ -11,10 +11,10 @@ use Rattle.agree.proofs.agree_runs.run_from.Statement.{statement}
 use Rattle.agree.proofs.agree_runs.run_from.Tie as tie
 
 abbrev Inv-loop : tie.InvT-loop
-Inv-loop y d at t₀ here₀ n₀ room₀ t here n room = Growing y d at t n here
+Inv-loop y d at most t₀ here₀ n₀ room₀ t here n room = Growing y d at t n here
 
 abbrev μ-loop : tie.MeasureT-loop
-μ-loop y d at t₀ here₀ n₀ room₀ t here n room = length d - here
+μ-loop y d at most t₀ here₀ n₀ room₀ t here n room = length d - here
 
 took
     : (c : tie.After-known-told Inv-loop μ-loop)
