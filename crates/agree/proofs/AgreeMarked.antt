@@ -12,7 +12,7 @@ use Rattle.cut.specs.declared.service.Syntax.{Syntax}
 use Rattle.agree.specs.Agreement.{Heading, agree}
 use Rattle.agree.specs.AgreePositions.{agreesAny}
 use Rattle.agree.specs.AgreePrints.{printOf}
-use Rattle.agree.specs.AgreeMarks.{cellOf, markOf, mergedBy, heldBy, markedIn, markIn, allMarked}
+use Rattle.agree.specs.AgreeMarks.{cellOf, markOf, mergedBy, heldBy, heldIn, setIn, secondOf, markedIn, markIn, allMarked}
 use Rattle.agree.proofs.AgreeTexts.{and-both, both-and}
 use Rattle.agree.proofs.AgreePrinted.{agree-print}
 
@@ -57,17 +57,17 @@ merged-keeps v m l n h = go (eqb v 0) refl (eqb v m) refl
     go false p false q = refl
 
 module _ (t : List ℕ) (f : ℕ) where
-  pub mark-length : length (markIn t f) ≡ length t
-  unfolding markIn
-  mark-length = length-set t _ _
+  set-length : length (setIn t f) ≡ length t
+  unfolding setIn
+  set-length = length-set t _ _
 
-  mark-marks : cellOf f < length t → markedIn (markIn t f) f ≡ true
-  unfolding markedIn markIn
-  mark-marks h = rw (getD-set-same t (cellOf f) (mergedBy (getD t (cellOf f) 0) (markOf f)) 0 h) (merged-holds (getD t (cellOf f) 0) (markOf f))
+  set-holds : cellOf f < length t → heldIn (setIn t f) f ≡ true
+  unfolding heldIn setIn
+  set-holds h = rw (getD-set-same t (cellOf f) (mergedBy (getD t (cellOf f) 0) (markOf f)) 0 h) (merged-holds (getD t (cellOf f) 0) (markOf f))
 
-  mark-keeps : (g : ℕ) → cellOf f < length t → markedIn t g ≡ true → markedIn (markIn t f) g ≡ true
-  unfolding markedIn markIn
-  mark-keeps g h k = go (eqb (cellOf g) (cellOf f)) refl
+  set-keeps : (g : ℕ) → cellOf f < length t → heldIn t g ≡ true → heldIn (setIn t f) g ≡ true
+  unfolding heldIn setIn
+  set-keeps g h k = go (eqb (cellOf g) (cellOf f)) refl
     where
       go : (b : Bool) → eqb (cellOf g) (cellOf f) ≡ b → heldBy (getD (set t (cellOf f) (mergedBy (getD t (cellOf f) 0) (markOf f))) (cellOf g) 0) (markOf g) ≡ true
       go true e =
@@ -76,13 +76,41 @@ module _ (t : List ℕ) (f : ℕ) where
           rw (z, getD-set-same t (cellOf f) (mergedBy (getD t (cellOf f) 0) (markOf f)) 0 h) (merged-keeps (getD t (cellOf f) 0) (markOf f) (markOf g) (mark-some g) l)
       go false e = rw (getD-set-other t (cellOf f) (cellOf g) (mergedBy (getD t (cellOf f) 0) (markOf f)) 0 (eqb-false (cellOf g) (cellOf f) e)) k
 
+module _ (t : List ℕ) (f : ℕ) where
+  pub mark-length : length (markIn t f) ≡ length t
+  unfolding markIn
+  mark-length = set-length (setIn t f) (secondOf f) ∙ set-length t f
+
+  module _ (size : length t ≡ 8192) where
+    first-cell : (g : ℕ) → cellOf g < length t
+    first-cell g = omega (arith, cell-inside g)
+
+    second-cell : (g : ℕ) → cellOf g < length (setIn t f)
+    second-cell g = omega (arith, cell-inside g, set-length t f)
+
+    mark-marks : markedIn (markIn t f) f ≡ true
+    unfolding markedIn markIn
+    mark-marks =
+        both-and _ _ (set-keeps (setIn t f) (secondOf f) f (second-cell (secondOf f)) (set-holds t f (first-cell f)))
+        (set-holds (setIn t f) (secondOf f) (second-cell (secondOf f)))
+
+    held-keeps : (g : ℕ) → heldIn t g ≡ true → heldIn (markIn t f) g ≡ true
+    unfolding markIn
+    held-keeps g h = set-keeps (setIn t f) (secondOf f) g (second-cell (secondOf f)) (set-keeps t f g (first-cell f) h)
+
+    mark-keeps : (g : ℕ) → markedIn t g ≡ true → markedIn (markIn t f) g ≡ true
+    unfolding markedIn
+    mark-keeps g h =
+        let p = and-both (heldIn t g) (heldIn t (secondOf g)) h in
+        both-and _ _ (held-keeps g (p .0)) (held-keeps (secondOf g) (p .1))
+
 module _ (y : Syntax) (t : List ℕ) where
-  all-keeps : (f : ℕ) (hs : List Heading) → cellOf f < length t → allMarked y t hs ≡ true → allMarked y (markIn t f) hs ≡ true
+  all-keeps : (f : ℕ) (hs : List Heading) → length t ≡ 8192 → allMarked y t hs ≡ true → allMarked y (markIn t f) hs ≡ true
   unfolding allMarked
   all-keeps f [] l h = refl
   all-keeps f (q ∷ hs) l h =
       let p = and-both (markedIn t (printOf y q)) (allMarked y t hs) h in
-      both-and _ _ (mark-keeps t f (printOf y q) l (p .0)) (all-keeps f hs l (p .1))
+      both-and _ _ (mark-keeps t f l (printOf y q) (p .0)) (all-keeps f hs l (p .1))
 
   all-more : (hs : List Heading) (q : Heading) → allMarked y t hs ≡ true → markedIn t (printOf y q) ≡ true → allMarked y t (hs ++ (q ∷ [])) ≡ true
   unfolding allMarked
@@ -110,5 +138,4 @@ pub all-marked
     : (y : Syntax) (t : List ℕ) (hs : List Heading) (q : Heading) → length t ≡ 8192 → allMarked y t hs ≡ true
     → allMarked y (markIn t (printOf y q)) (hs ++ (q ∷ [])) ≡ true
 all-marked y t hs q l h =
-    let n : cellOf (printOf y q) < length t = omega (arith, cell-inside (printOf y q)) in
-    all-more y (markIn t (printOf y q)) hs q (all-keeps y t (printOf y q) hs n h) (mark-marks t (printOf y q) n)
+    all-more y (markIn t (printOf y q)) hs q (all-keeps y t (printOf y q) hs l h) (mark-marks t (printOf y q) l)

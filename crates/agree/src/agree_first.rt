@@ -35,7 +35,7 @@ fn first_from(y: Syntax, d: &[u8], start: usize) -> Agreeing
 {
     let mut at = start;
     let mut n = 0;
-    let mut most = 512;
+    let mut most = 1024;
     loop {
         let run = fresh_run(y, d, start, at, n, most);
         let count = run.count;

@@ -17,7 +17,7 @@ ghost use Rattle.agree.specs.AgreeParts.{partIn, headingIn};
 ghost use Rattle.agree.specs.AgreePrints.{mixedBy, mixedUnless, namedBy, printBytes, printSegment, printIn, printOf};
 
 // The divisor is the greatest prime below 2^32.
-fn mixed(a: u32, w: u8, x: u8) -> u32
+pub(crate) fn mixed(a: u32, w: u8, x: u8) -> u32
     ensures { λ r. ⌜ r ≡ mixedBy a w x ⌝ }
 {
     (((a as u64) * 16777619 + (w as u64) * 256 + (x as u64)) % 4294967291) as u32

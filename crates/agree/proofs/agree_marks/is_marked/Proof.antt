@@ -1,30 +1,28 @@
 -- `agree::agree_marks::is_marked` meets its contract.
 use mathlib.Core.Path.{sym, _∙_}
-use native.Mathlib.Omega.{arith}
-use borrow.Author.Tests.{eq-eqb, ne-eqb}
-use Rattle.agree.specs.AgreeMarks.{heldBy, markedIn}
-use Rattle.agree.proofs.AgreeMarked.{cell-inside}
+use borrow.Author.Tests.{not-true, not-false}
+use Rattle.agree.specs.AgreeMarks.{markedIn}
 use borrow.Author.Needs.{needs}
 use Rattle.agree.proofs.agree_marks.is_marked.Statement.{statement}
 use Rattle.agree.proofs.agree_marks.is_marked.Tie as tie
 
-cell-of-requires : tie.Need-cell-of-requires
-cell-of-requires c κs = search needs
-
-element-copy-out-v : tie.Need-element-copy-out-v
-element-copy-out-v c = rw (c .cell-of .ensures) (cell-inside _)
+holds-requires : tie.Need-holds-requires
+holds-requires c κs = search needs
 
 returns : tie.Need-returns
-unfolding markedIn heldBy
-returns c = rw (← c .before .before .cell-of .ensures, eq-eqb _ _ (c .if1 .taken))
+unfolding markedIn
+returns c = rw (sym (c .before .holds .ensures) ∙ not-true _ (c .if1 .taken))
 
-mark-of-requires : tie.Need-mark-of-requires
-mark-of-requires c κs = search needs
+mixed-requires : tie.Need-mixed-requires
+mixed-requires c κs = search needs
+
+holds-requires-2 : tie.Need-holds-requires-2
+holds-requires-2 c κs = search needs
 
 returns-2 : tie.Need-returns-2
-unfolding markedIn heldBy
-returns-2 c = rw (← c .before .before .before .cell-of .ensures, ← c .mark-of .ensures, ne-eqb _ _ (c .before .if1 .left))
+unfolding markedIn
+returns-2 c = rw (sym (c .before .before .before .holds .ensures) ∙ not-false _ (c .before .before .if1 .left), ← c .before .mixed .ensures) (c .holds2 .ensures)
 
 pub is-marked-spec : {M : Type 1} → statement M
 is-marked-spec =
-    tie.close (tie.spec cell-of-requires element-copy-out-v returns mark-of-requires returns-2)
+    tie.close (tie.spec holds-requires returns mixed-requires holds-requires-2 returns-2)

@@ -1,36 +1,22 @@
 -- `agree::agree_marks::mark` meets its contract.
-use Rattle.agree.specs.AgreeMarks.{markIn}
-use Rattle.agree.proofs.AgreeMarked.{cell-inside}
+use mathlib.Core.Path.{ap₂, _∙_}
+use Rattle.agree.specs.AgreeMarks.{setIn, markIn}
 use borrow.Author.Needs.{needs}
 use Rattle.agree.proofs.agree_marks.mark.Statement.{statement}
 use Rattle.agree.proofs.agree_marks.mark.Tie as tie
 
-cell-of-requires : tie.Need-cell-of-requires
-cell-of-requires c κs = search needs
+hold-requires : tie.Need-hold-requires
+hold-requires c κs = search needs
 
-element-copy-out-v : tie.Need-element-copy-out-v
-element-copy-out-v c = rw (c .cell-of .ensures) (cell-inside _)
+mixed-requires : tie.Need-mixed-requires
+mixed-requires c κs = search needs
 
-mark-of-requires : tie.Need-mark-of-requires
-mark-of-requires c κs = search needs
-
-merged-requires : tie.Need-merged-requires
-merged-requires c κs = search needs
-
-element-write-t : tie.Need-element-write-t
-element-write-t c = rw (c .before .before .before .cell-of .ensures) (cell-inside _)
+hold-requires-2 : tie.Need-hold-requires-2
+hold-requires-2 c κs = search needs
 
 returns : tie.Need-returns
 unfolding markIn
-returns c = rw (← c .before .before .before .cell-of .ensures, ← c .before .mark-of .ensures, ← c .merged .ensures)
+returns c = c .hold2 .ensures ∙ ap₂ setIn (c .before .before .before .hold .ensures) (c .before .mixed .ensures)
 
 pub mark-spec : {M : Type 1} → statement M
-mark-spec =
-    tie.close
-    (tie.spec
-    cell-of-requires
-    element-copy-out-v
-    mark-of-requires
-    merged-requires
-    element-write-t
-    returns)
+mark-spec = tie.close (tie.spec hold-requires mixed-requires hold-requires-2 returns)
