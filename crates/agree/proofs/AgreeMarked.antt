@@ -1,7 +1,7 @@
 -- The table of prints: a mark stays, and a position whose print is not marked agrees with none that is.
-use Prim.Native.Nat.{ℕ, _+_, _%_, _<_}
+use Prim.Native.Nat.{ℕ, _+_, _<_}
 use mathlib.Core.Path.{_≡_, refl, sym, ap, _∙_}
-use mathlib.Core.Bool.{Bool, true, false, cond, _&&_, _||_, or-true, true≢false}
+use mathlib.Core.Bool.{Bool, true, false, cond, _||_, or-true, true≢false}
 use mathlib.Core.List.{List, [], _∷_, _++_}
 use native.Mathlib.Omega.{arith}
 use lib.ListN.{length, getD, set, length-set}
@@ -23,6 +23,10 @@ cell-inside f = omega arith
 mark-some : (f : ℕ) → markOf f ≡ 0 → ⊥
 unfolding markOf
 mark-some f h = omega arith
+
+pub merged-several : (v m : ℕ) → (v ≡ 0 → ⊥) → (v ≡ m → ⊥) → 255 ≡ mergedBy v m
+unfolding mergedBy
+merged-several v m h k = rw (ne-eqb v 0 h, ne-eqb v m k)
 
 -- a cell holds the mark that is set, and all that it held
 merged-holds : (v m : ℕ) → heldBy (mergedBy v m) m ≡ true

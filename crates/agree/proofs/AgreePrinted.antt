@@ -1,24 +1,16 @@
 -- Positions that agree have the same print.
-use Prim.Native.Nat.{ℕ, _+_, _<_, _≤_}
+use Prim.Native.Nat.{ℕ, _+_}
 use mathlib.Core.Path.{_≡_, refl, sym, ap, _∙_}
-use mathlib.Core.Bool.{Bool, true, false, cond, _&&_, _||_, false≢true}
-use mathlib.Core.List.{List, [], _∷_, _++_}
-use native.Mathlib.Omega.{arith}
-use lib.ListN.{length, getD, drop}
-use lib.Dec.{eqb, leb}
-use borrow.Author.Tests.{eqb-true, le-leb, lt-leb}
+use mathlib.Core.Bool.{Bool, true, false, cond, _||_, false≢true}
+use mathlib.Core.List.{List, [], _∷_}
+use lib.ListN.{getD, drop}
+use lib.Dec.{eqb}
 use Rattle.cut.specs.declared.service.Syntax.{Syntax}
-use Rattle.cut.specs.Bytes.{part}
-use Rattle.cut.specs.Segments.{frees}
-use Rattle.cut.proofs.Parts.{part-next, part-none}
 use Rattle.element.specs.Elements.{elements}
-use Rattle.element.specs.Components.{Component, inElement, inElements, width, components}
-use Rattle.element.specs.Plain.{plain, unlessMark, decoded, same}
-use Rattle.element.specs.declared.components.Span.{Span}
+use Rattle.element.specs.Plain.{plain}
 use Rattle.element.proofs.ValueFace.{same-true}
 use Rattle.agree.specs.Agreement.{sameText, allEmpty, sameComponents, emptyElements, sameElements, agreeBut, agreeIn, Heading, agree}
-use Rattle.agree.specs.AgreeParts.{partIn}
-use Rattle.agree.specs.AgreePrints.{mixedBy, mixedUnless, namedBy, printBytes, printComponents, printElements, printSegment, printIn, printOf}
+use Rattle.agree.specs.AgreePrints.{namedBy, printBytes, printComponents, printElements, printSegment, printIn, printOf}
 use Rattle.agree.proofs.AgreeTexts.{and-both}
 
 module _ (y : Syntax) where

@@ -1,9 +1,8 @@
 -- The walks that make the print of a position.
 use Prim.Native.Nat.{ℕ, _+_, _<_, _≤_}
-use mathlib.Core.Path.{_≡_, refl, sym, ap, _∙_}
+use mathlib.Core.Path.{_≡_, refl, ap, _∙_}
 use mathlib.Core.Bool.{Bool, true, false, cond}
 use mathlib.Core.List.{List, [], _∷_, _++_}
-use native.Mathlib.Omega.{arith}
 use lib.ListN.{length, getD}
 use lib.Dec.{eqb}
 use borrow.Author.Tests.{le-leb, lt-leb}
@@ -18,9 +17,9 @@ use Rattle.element.specs.Plain.{plain, unlessMark, decoded}
 use Rattle.element.specs.declared.components.Span.{Span}
 use Rattle.element.specs.declared.cursor.Cursor.{Cursor}
 use Rattle.element.specs.declared.cursor.Visit.the-variants.{At, Nothing}
-use Rattle.element.proofs.ComponentFace.{rest-new, Visited, visited, nothing-left}
+use Rattle.element.proofs.ComponentFace.{rest-new, visited, nothing-left}
 use Rattle.agree.specs.AgreeParts.{partIn, headingIn}
-use Rattle.agree.specs.AgreePrints.{mixedBy, mixedUnless, namedBy, printBytes, printComponents, printElements, printSegment, printIn, printOf}
+use Rattle.agree.specs.AgreePrints.{mixedUnless, namedBy, printBytes, printComponents, printElements, printSegment, printIn, printOf}
 use Rattle.agree.specs.declared.agree_headings.Head.{Head}
 
 -- one byte of a component

@@ -1,6 +1,6 @@
 -- A run of segments: its positions agree with none before them, so the search passes it at once.
 use Prim.Native.Nat.{ℕ, zero, suc, _+_, _≤_, max}
-use mathlib.Core.Path.{_≡_, refl, sym, ap, ap₂, _∙_}
+use mathlib.Core.Path.{_≡_, refl, sym, ap, _∙_}
 use mathlib.Core.Bool.{Bool, true, false, cond, not, _&&_, _||_, true≢false}
 use mathlib.Core.List.{List, [], _∷_, _++_, append-nil, append-assoc}
 use native.Mathlib.Nat.{zero-add, suc-add}
@@ -13,13 +13,11 @@ use Rattle.cut.specs.Bytes.{part}
 use Rattle.cut.specs.Segments.{Segment}
 use Rattle.cut.proofs.First.{Cutting}
 use Rattle.agree.specs.Agreement.{Heading, agree}
-use Rattle.agree.specs.AgreePositions.{Listed, headingFrom, positionsFrom, positionsOf, agreesAny, firstAfter, firstAgreeing}
+use Rattle.agree.specs.AgreePositions.{headingFrom, positionsFrom, agreesAny, firstAfter}
 use Rattle.agree.specs.AgreeParts.{segmentsAt, headingsIn}
 use Rattle.agree.specs.AgreePrints.{printOf}
 use Rattle.agree.specs.AgreeMarks.{markIn, allMarked}
 use Rattle.agree.specs.AgreeRuns.{fresh, meets, notedIn, Running, Searched}
-use Rattle.agree.specs.declared.agree_first.Agreeing.{Agreeing}
-use Rattle.agree.specs.declared.agree_first.Agreeing.the-variants.{At}
 use Rattle.agree.specs.declared.agree_runs.Run.{Run}
 use Rattle.agree.proofs.AgreeTexts.{and-both, both-and, agree-turned}
 use Rattle.agree.proofs.AgreeMarked.{mark-length, all-marked}

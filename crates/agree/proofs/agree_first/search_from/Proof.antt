@@ -6,7 +6,7 @@ use native.Mathlib.Omega.{arith}
 use lib.ListN.{length}
 use Rattle.cut.proofs.First.{Cutting, cutting, nothing}
 use Rattle.agree.specs.AgreeRuns.{Searched}
-use Rattle.agree.proofs.AgreeSearch.{search-first, search-none, search-found, search-on}
+use Rattle.agree.proofs.AgreeSearch.{search-none, search-found, search-on}
 use borrow.Author.Needs.{needs}
 use Rattle.agree.proofs.agree_first.search_from.Statement.{statement}
 use Rattle.agree.proofs.agree_first.search_from.Tie as tie

@@ -1,6 +1,4 @@
 -- `agree::agree_marks::holds` meets its contract.
-use mathlib.Core.Path.{sym, _∙_}
-use native.Mathlib.Omega.{arith}
 use borrow.Author.Tests.{eq-eqb, ne-eqb}
 use Rattle.agree.specs.AgreeMarks.{heldBy, heldIn}
 use Rattle.agree.proofs.AgreeMarked.{cell-inside}
