@@ -197,6 +197,11 @@ module _ (y : Syntax) (d : List ℕ) (at : ℕ) where
     abbrev k : Running y d at t (run n here)
     k = g .is
 
+    pub run-stops : (r : Bool) (t′ u : List ℕ) → r ≡ true → t′ ≡ cond r t u → Running y d at t′ (run n here)
+    run-stops r t′ u h w =
+        let m : t′ ≡ t = rw h at w in
+        rw m k
+
     abbrev inside : List Heading
     inside = headingsIn n (segmentsAt y d at)
 
@@ -221,9 +226,10 @@ module _ (y : Syntax) (d : List ℕ) (at : ℕ) where
     pub run-on
         : (s e : ℕ) (p : Bool) → Cutting y d here false s e p → (r : Bool)
         → r ≡ isLin (part s e d) && agreesAny y (headingFrom (part s e d) (segmentsAt y d e)) inside → r ≡ false
-        → (t′ : List ℕ) → t′ ≡ notedIn y d e (part s e d) t → Growing y d at t′ (n + 1) e
+        → (t′ : List ℕ) → t′ ≡ cond r t (notedIn y d e (part s e d) t) → Growing y d at t′ (n + 1) e
     unfolding notedIn
-    run-on s e p q r is f t′ m =
+    run-on s e p q r is f t′ w =
+        let m : t′ ≡ notedIn y d e (part s e d) t = rw f at w in
         let next : Segment = record { start = here; bytes = part here e d; piece = p } in
         let l : drop n (segmentsAt y d at) ≡ next ∷ segmentsAt y d e = k .passed ∙ q .list in
         let o = headings-next n (segmentsAt y d at) next (segmentsAt y d e) l in

@@ -1,5 +1,6 @@
 // The search run by run: a run's positions are marked in a table, and only what may agree with one of them is compared with them.
 use crate::agree_earlier::agrees_earlier;
+use crate::agree_headings::Head;
 use crate::agree_headings::has_tag;
 use crate::agree_headings::head_at;
 use crate::agree_marks::is_marked;
@@ -9,12 +10,13 @@ use cut::Cut;
 use cut::Syntax;
 use cut::segment_at;
 ghost use Prim.Native.Nat.{_≤_, _+_, max};
-ghost use mathlib.Core.Bool.{true, _&&_};
+ghost use mathlib.Core.Bool.{true, cond, _&&_};
 ghost use mathlib.Core.Path.{_≡_};
 ghost use lib.ListN.{length};
 ghost use Rattle.cut.specs.Bytes.{part, begins, bytesOf};
 ghost use Rattle.agree.specs.AgreePositions.{headingFrom, agreesAny};
-ghost use Rattle.agree.specs.AgreeParts.{segmentsAt, headingsIn};
+ghost use Rattle.agree.specs.AgreeParts.{segmentsAt, headingIn, headingsIn};
+ghost use Rattle.agree.specs.AgreePrints.{printOf};
 ghost use Rattle.agree.specs.AgreeMarks.{allMarked};
 ghost use Rattle.agree.specs.AgreeRuns.{meets, notedIn, Running, Searched};
 
@@ -24,8 +26,25 @@ pub struct Run {
     pub end: usize,
 }
 
-// Whether the segment from `place` to `end` begins a position that agrees with one that begins within the first n segments from `at` on,
-// which are marked.
+// Whether one may join a run, and how many there is room for behind it.
+pub struct Joined {
+    pub stops: bool,
+    pub room: usize,
+}
+
+// Whether a position with this print agrees with one that begins within the first n segments from `at` on, which are marked.
+fn agrees_marked(y: Syntax, d: &[u8], at: usize, n: usize, h: Head, f: u32, t: &[u8; 8192]) -> bool
+    requires { ⌜ f ≡ printOf y (headingIn h (now d)) ⌝ }
+    requires { ⌜ allMarked y (now t) (headingsIn n (segmentsAt y (now d) at)) ≡ true ⌝ }
+    ensures { λ r. ⌜ r ≡ agreesAny y (headingIn h (now (d .entry))) (headingsIn n (segmentsAt y (now (d .entry)) at)) ⌝ }
+{
+    if !is_marked(t, f) {
+        return false;
+    }
+    agrees_earlier(y, d, at, n, h)
+}
+
+// Whether the segment from `place` to `end` begins a position that agrees with one of those.
 fn agrees_in(
     y: Syntax,
     d: &[u8],
@@ -43,26 +62,46 @@ fn agrees_in(
         return false;
     }
     let h = head_at(y, d, place, end);
-    if !is_marked(t, print_of(y, d, h)) {
-        return false;
-    }
-    agrees_earlier(y, d, at, n, h)
+    agrees_marked(y, d, at, n, h, print_of(y, d, h), t)
 }
 
-// Marks the position that the segment from `place` to `end` begins, if it begins one, and answers how many positions there is room for.
-fn note(y: Syntax, d: &[u8], place: usize, end: usize, room: usize, t: &mut [u8; 8192]) -> usize
-    requires { ⌜ (place ≤ end) × (end ≤ length (now d)) ⌝ }
-    ensures { λ _. ⌜ now (t .exit) ≡ notedIn y (now (d .entry)) end (part place end (now (d .entry))) (now (t .entry)) ⌝ }
-{
-    if !has_tag(d, place, end, 76, 73, 78) {
-        return room;
-    }
-    let h = head_at(y, d, place, end);
-    mark(t, print_of(y, d, h));
+fn one_less(room: usize) -> usize {
     if room == 0 {
         return 0;
     }
     room - 1
+}
+
+// The same, and if it begins another position, that is marked.
+fn join(
+    y: Syntax,
+    d: &[u8],
+    at: usize,
+    n: usize,
+    place: usize,
+    end: usize,
+    room: usize,
+    t: &mut [u8; 8192],
+) -> Joined
+    requires { ⌜ (place ≤ end) × (end ≤ length (now d)) ⌝ }
+    requires { ⌜ allMarked y (now t) (headingsIn n (segmentsAt y (now d) at)) ≡ true ⌝ }
+    ensures { λ r. ⌜ r .stops ≡ begins (bytesOf "LIN") (part place end (now (d .entry))) && agreesAny y (headingFrom (part place end (now (d .entry))) (segmentsAt y (now (d .entry)) end)) (headingsIn n (segmentsAt y (now (d .entry)) at)) ⌝ }
+    ensures { λ r. ⌜ now (t .exit) ≡ cond (r .stops) (now (t .entry)) (notedIn y (now (d .entry)) end (part place end (now (d .entry))) (now (t .entry))) ⌝ }
+{
+    if !has_tag(d, place, end, 76, 73, 78) {
+        return Joined { stops: false, room };
+    }
+    let h = head_at(y, d, place, end);
+    let f = print_of(y, d, h);
+    if agrees_marked(y, d, at, n, h, f, t) {
+        return Joined { stops: true, room };
+    }
+    mark(t, f);
+    let left = one_less(room);
+    Joined {
+        stops: false,
+        room: left,
+    }
 }
 
 // A run of segments from `at` on with at most so many positions, which do not agree with each other, and their marks.
@@ -86,13 +125,14 @@ fn run_from(y: Syntax, d: &[u8], at: usize, most: usize, t: &mut [u8; 8192]) -> 
                 end: here,
             };
         };
-        if agrees_in(y, d, at, n, place, end, t) {
+        let joined = join(y, d, at, n, place, end, room, t);
+        if joined.stops {
             return Run {
                 count: n,
                 end: here,
             };
         }
-        room = note(y, d, place, end, room, t);
+        room = joined.room;
         n += 1;
         here = end;
     }

@@ -1,6 +1,5 @@
 -- `agree::agree_runs::agrees_in` meets its contract.
 use borrow.Author.Tests.{not-true, not-false}
-use Rattle.agree.proofs.AgreeMarked.{unmarked}
 use Rattle.agree.proofs.AgreeSearch.{no-lin, lin-agrees-any}
 use borrow.Author.Needs.{needs}
 use Rattle.agree.proofs.agree_runs.agrees_in.Statement.{statement}
@@ -18,19 +17,11 @@ head-at-requires c κs = search needs
 print-of-requires : tie.Need-print-of-requires
 print-of-requires c κs = search needs
 
-is-marked-requires : tie.Need-is-marked-requires
-is-marked-requires c κs = search needs
+agrees-marked-requires : tie.Need-agrees-marked-requires
+agrees-marked-requires c κs = search needs
 
 returns-2 : tie.Need-returns-2
-returns-2 c =
-    let n = unmarked _ _ _ _ _ _ (c .before .before .before .before .before .before .before .pre .1) (c .before .before .print-of .ensures) (c .before .is-marked .ensures) (not-true _ (c .if2 .taken)) in
-    lin-agrees-any _ _ (c .before .before .before .before .before .has-tag .ensures) _ _ _ _ _ (not-false _ (c .before .before .before .before .if1 .left)) (c .before .before .before .head-at .ensures) n
-
-agrees-earlier-requires : tie.Need-agrees-earlier-requires
-agrees-earlier-requires c κs = search needs
-
-returns-3 : tie.Need-returns-3
-returns-3 c = lin-agrees-any _ _ (c .before .before .before .before .before .before .has-tag .ensures) _ _ _ _ _ (not-false _ (c .before .before .before .before .before .if1 .left)) (c .before .before .before .before .head-at .ensures) (c .agrees-earlier .ensures)
+returns-2 c = lin-agrees-any _ _ (c .before .before .before .before .has-tag .ensures) _ _ _ _ _ (not-false _ (c .before .before .before .if1 .left)) (c .before .before .head-at .ensures) (c .agrees-marked .ensures)
 
 pub agrees-in-spec : {M : Type 1} → statement M
 agrees-in-spec =
@@ -40,7 +31,5 @@ agrees-in-spec =
     returns
     head-at-requires
     print-of-requires
-    is-marked-requires
-    returns-2
-    agrees-earlier-requires
-    returns-3)
+    agrees-marked-requires
+    returns-2)

@@ -6,7 +6,7 @@ use mathlib.Core.Bool.{false}
 use native.Mathlib.Omega.{arith}
 use lib.ListN.{length}
 use Rattle.cut.proofs.First.{Cutting, cutting}
-use Rattle.agree.proofs.AgreeRunning.{Growing, run-begins, run-on}
+use Rattle.agree.proofs.AgreeRunning.{Growing, run-begins, run-stops, run-on}
 use Rattle.agree.proofs.agree_runs.run_from.Statement.{statement}
 use Rattle.agree.proofs.agree_runs.run_from.Tie as tie
 
@@ -37,31 +37,26 @@ enum-told c = search needs
 returns : tie.Need-returns Inv-loop μ-loop
 returns c = c .before .before .before .before .loop .inv .is
 
-agrees-in-requires : tie.Need-agrees-in-requires Inv-loop μ-loop
-agrees-in-requires c κs =
+join-requires : tie.Need-join-requires Inv-loop μ-loop
+join-requires c κs =
     let q = took (c .before) in
     ((omega (arith, q .starts, q .some), q .fits), c .before .before .before .before .before .before .loop .inv .is .marked)
 
 returns-2 : tie.Need-returns-2 Inv-loop μ-loop
-returns-2 c = c .before .before .before .before .before .before .before .before .loop .inv .is
-
-note-requires : tie.Need-note-requires Inv-loop μ-loop
-note-requires c κs =
-    let q = took (c .before .before .before .before) in
-    (omega (arith, q .starts, q .some), q .fits)
+returns-2 c = run-stops _ _ _ _ _ _ (c .before .before .before .before .before .before .before .before .loop .inv) _ _ _ (c .if1 .taken) (c .before .join .ensures .1)
 
 add-n : tie.Need-add-n Inv-loop μ-loop
 add-n c =
-    let q = took (c .before .before .before .before .before) in
-    omega (arith, q .some, c .before .before .before .before .before .before .before .before .before .before .loop .inv .is .few)
+    let q = took (c .before .before .before) in
+    omega (arith, q .some, c .before .before .before .before .before .before .before .before .loop .inv .is .few)
 
 loop-less : tie.Need-loop-less Inv-loop μ-loop
 loop-less c =
-    let q = took (c .before .before .before .before .before) in
+    let q = took (c .before .before .before) in
     omega (arith, q .some, q .fits)
 
 loop-again : tie.Need-loop-again Inv-loop μ-loop
-loop-again c = run-on _ _ _ _ _ _ (c .before .before .before .before .before .before .before .before .before .before .loop .inv) _ _ _ (took (c .before .before .before .before .before)) _ (c .before .before .before .agrees-in .ensures) (c .before .before .if1 .left) _ (c .note .ensures)
+loop-again c = run-on _ _ _ _ _ _ (c .before .before .before .before .before .before .before .before .loop .inv) _ _ _ (took (c .before .before .before)) _ (c .before .join .ensures .0) (c .if1 .left) _ (c .before .join .ensures .1)
 
 returns-3 : tie.Need-returns-3 Inv-loop μ-loop
 returns-3 c = c .before .loop .inv .is
@@ -77,9 +72,8 @@ run-from-spec =
     enum-known-s
     enum-told
     returns
-    agrees-in-requires
+    join-requires
     returns-2
-    note-requires
     add-n
     loop-less
     loop-again
