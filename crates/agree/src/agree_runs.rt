@@ -26,7 +26,7 @@ pub struct Run {
     pub end: usize,
 }
 
-// Whether one may join a run, and how many there is room for behind it.
+// Whether a segment stops a run, and for how many positions there is room behind it.
 pub struct Joined {
     pub stops: bool,
     pub room: usize,
@@ -65,6 +65,7 @@ fn agrees_in(
     agrees_marked(y, d, at, n, h, print_of(y, d, h), t)
 }
 
+// How much room there is decides only how long a run gets, so nothing is promised of it.
 fn one_less(room: usize) -> usize {
     if room == 0 {
         return 0;
@@ -72,7 +73,7 @@ fn one_less(room: usize) -> usize {
     room - 1
 }
 
-// The same, and if it begins another position, that is marked.
+// The same, which stops the run; a position that agrees with none of those is marked.
 fn join(
     y: Syntax,
     d: &[u8],
