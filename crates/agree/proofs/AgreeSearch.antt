@@ -16,6 +16,7 @@ use Rattle.cut.specs.Bytes.{bytesOf}
 use Rattle.agree.specs.Agreement.{Heading, agree}
 use Rattle.agree.specs.AgreePositions.{headingFrom, positionsFrom, positionsOf, agreesAny, firstAfter, firstAgreeing}
 use Rattle.agree.specs.AgreeParts.{segmentsAt, headingsIn}
+use Rattle.agree.specs.AgreeRuns.{meets, Searched}
 use Rattle.agree.specs.declared.agree_first.Agreeing.{Agreeing}
 use Rattle.agree.specs.declared.agree_first.Agreeing.the-variants.{At, Nothing}
 
@@ -23,33 +24,47 @@ use Rattle.agree.specs.declared.agree_first.Agreeing.the-variants.{At, N
 abbrev pub isLin : List ℕ → Bool
 isLin b = begins (bytesOf "LIN") b
 
-module _ (y : Syntax) (h : Heading) where
-  abbrev any : ℕ → List Segment → Bool
-  any n ss = agreesAny y h (headingsIn n ss)
+-- f looks whether g holds of one of some positions
+pub record Seeks (f : List Heading → Bool) (g : Heading → Bool) : Type 0 where
+  pub none : f [] ≡ false
+  pub more : (q : Heading) (qs : List Heading) → f (q ∷ qs) ≡ g q || f qs
 
-  any-step : (n : ℕ) (s : Segment) (ss : List Segment) → any (suc n) (s ∷ ss) ≡ (isLin (s .bytes) && agree y (headingFrom (s .bytes) ss) h) || any n ss
-  unfolding headingsIn agreesAny
+pub seeks-agree : (y : Syntax) (h : Heading) → Seeks (agreesAny y h) (λ q. agree y q h)
+unfolding agreesAny
+seeks-agree y h = record { none = refl; more = λ q qs. refl }
+
+pub seeks-meet : (y : Syntax) (hs : List Heading) → Seeks (λ es. meets y es hs) (λ e. agreesAny y e hs)
+unfolding meets
+seeks-meet y hs = record { none = refl; more = λ q qs. refl }
+
+-- a walk over the first n of some segments
+module _ {f : List Heading → Bool} {g : Heading → Bool} (k : Seeks f g) where
+  abbrev any : ℕ → List Segment → Bool
+  any n ss = f (headingsIn n ss)
+
+  any-step : (n : ℕ) (s : Segment) (ss : List Segment) → any (suc n) (s ∷ ss) ≡ (isLin (s .bytes) && g (headingFrom (s .bytes) ss)) || any n ss
+  unfolding headingsIn
   any-step n s ss = go (isLin (s .bytes))
     where
-      go : (b : Bool) → agreesAny y h (cond b (headingFrom (s .bytes) ss ∷ headingsIn n ss) (headingsIn n ss)) ≡ (b && agree y (headingFrom (s .bytes) ss) h) || any n ss
-      go true = refl
+      go : (b : Bool) → f (cond b (headingFrom (s .bytes) ss ∷ headingsIn n ss) (headingsIn n ss)) ≡ (b && g (headingFrom (s .bytes) ss)) || any n ss
+      go true = k .more _ _
       go false = refl
 
   pub any-out : (n : ℕ) (ss : List Segment) → n ≤ 0 → any n ss ≡ false
-  unfolding headingsIn agreesAny
-  any-out zero ss k = refl
-  any-out (suc n) ss k = absurd (omega arith)
+  unfolding headingsIn
+  any-out zero ss l = k .none
+  any-out (suc n) ss l = absurd (omega arith)
 
   any-nil : (n : ℕ) → any n [] ≡ false
-  unfolding headingsIn agreesAny
-  any-nil zero = refl
-  any-nil (suc n) = refl
+  unfolding headingsIn
+  any-nil zero = k .none
+  any-nil (suc n) = k .none
 
   pub any-none : (n : ℕ) (ss : List Segment) → ss ≡ [] → any n ss ≡ false
-  any-none n ss k = rw k (any-nil n)
+  any-none n ss l = rw l (any-nil n)
 
-  module _ (d : List ℕ) (at n s e : ℕ) (p : Bool) (q : Cutting y d at false s e p) (some : 0 < n) (r : Bool)
-      (is : r ≡ isLin (part s e d) && agree y (headingFrom (part s e d) (segmentsAt y d e)) h) where
+  module _ (y : Syntax) (d : List ℕ) (at n s e : ℕ) (p : Bool) (q : Cutting y d at false s e p) (some : 0 < n) (r : Bool)
+      (is : r ≡ isLin (part s e d) && g (headingFrom (part s e d) (segmentsAt y d e))) where
     any-first : any n (segmentsAt y d at) ≡ r || any (n - 1) (segmentsAt y d e)
     any-first =
         let z : n ≡ suc (n - 1) = omega arith in
@@ -59,7 +74,7 @@ module _ (y : Syntax) (h : Heading) where
     any-found t = any-first ∙ rw t
 
     pub any-on : r ≡ false → any n (segmentsAt y d at) ≡ any (n - 1) (segmentsAt y d e)
-    any-on f = any-first ∙ rw f
+    any-on t = any-first ∙ rw t
 
 -- the segment from s to e is no LIN, or it is one and its position is looked at
 module _ (b : List ℕ) (t : Bool) (tag : t ≡ begins (76 ∷ 73 ∷ 78 ∷ []) b) where
@@ -73,7 +88,7 @@ module _ (b : List ℕ) (t : Bool) (tag : t ≡ begins (76 ∷ 73 ∷ 78 ∷ [])
   lin-agrees-any y h g qs r u e a = rw (sym tag ∙ u, ← e) a
 
 -- the positions among one segment more
-headings-next
+pub headings-next
     : (n : ℕ) (ts : List Segment) (s : Segment) (ss : List Segment) → drop n ts ≡ s ∷ ss
     → headingsIn (n + 1) ts ≡ headingsIn n ts ++ cond (isLin (s .bytes)) (headingFrom (s .bytes) ss ∷ []) []
 unfolding headingsIn
@@ -114,13 +129,6 @@ module _ (y : Syntax) (earlier : List Heading) (n : ℕ) (s : Segment) (ss : Lis
           → here b ≡ firstAfter y (earlier ++ cond b (headingFrom (s .bytes) ss ∷ []) []) (positionsFrom (n + 1) ss)
       go true h = rw h
       go false h = rw (append-nil earlier)
-
--- the search has passed the first n segments, which end at the place `at`, and has not found it yet
-pub record Searched (y : Syntax) (d : List ℕ) (start at n : ℕ) : Type 0 where
-  pub found :
-      firstAfter y (headingsIn n (segmentsAt y d start)) (positionsFrom (n + 1) (segmentsAt y d at)) ≡ firstAgreeing y (positionsOf (segmentsAt y d start))
-  pub passed : drop n (segmentsAt y d start) ≡ segmentsAt y d at
-  pub few : n ≤ at
 
 module _ (y : Syntax) (d : List ℕ) (start : ℕ) where
   pub search-first : Searched y d start start 0

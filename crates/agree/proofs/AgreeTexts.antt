@@ -16,7 +16,7 @@ use Rattle.element.proofs.ValueFace.{same-refl, same-true}
 use Rattle.guide.specs.Content.{text}
 use Rattle.guide.specs.Sheet.{Position}
 use Rattle.guide.specs.Accepted.{AgreeBut, AgreeIn, Agree}
-use Rattle.agree.specs.Agreement.{sameText, allEmpty, sameComponents, emptyElements, sameElements, agreeBut, agreeIn, bytesIn, headingOf, agree}
+use Rattle.agree.specs.Agreement.{sameText, allEmpty, sameComponents, emptyElements, sameElements, agreeBut, agreeIn, Heading, bytesIn, headingOf, agree}
 
 pub and-both : (a b : Bool) → a && b ≡ true → (a ≡ true) × (b ≡ true)
 and-both true b h = (refl, h)
@@ -151,6 +151,27 @@ module _ (y : Syntax) where
   pub agree-but : (x : ℕ) (s t : Segment) → AgreeBut y x s t → agreeBut y x (s .bytes) (t .bytes) ≡ true
   unfolding agreeBut text component
   agree-but x s t h = same-elements x 0 (elements y (s .bytes)) (elements y (t .bytes)) (λ e n c. h e c (λ q. n (zero-add e ∙ q)))
+
+  -- and the other way round
+  but-turned : (x : ℕ) (s t : List ℕ) → agreeBut y x s t ≡ true → agreeBut y x t s ≡ true
+  unfolding agreeBut
+  but-turned x s t h = same-elements x 0 (elements y t) (elements y s) (λ i n c. sym (elements-same x 0 (elements y s) (elements y t) h i n c))
+
+  in-turned : (ss ts : List (List ℕ)) → agreeIn y ss ts ≡ true → agreeIn y ts ss ≡ true
+  unfolding agreeIn
+  in-turned [] [] h = refl
+  in-turned [] (t ∷ ts) h = absurd (false≢true h)
+  in-turned (s ∷ ss) [] h = absurd (false≢true h)
+  in-turned (s ∷ ss) (t ∷ ts) h =
+      let p = and-both (agreeBut y 0 s t) (agreeIn y ss ts) h in
+      both-and _ _ (but-turned 0 s t (p .0)) (in-turned ss ts (p .1))
+
+  pub agree-turned : (p q : Heading) → agree y p q ≡ true → agree y q p ≡ true
+  unfolding agree
+  agree-turned p q h =
+      let a = and-both _ _ h in
+      let b = and-both _ _ (a .1) in
+      both-and _ _ (but-turned 1 (p .lin) (q .lin) (a .0)) (both-and _ _ (in-turned (p .pia) (q .pia) (b .0)) (in-turned (p .imd) (q .imd) (b .1)))
 
   pub in-agree : (ss ts : List Segment) → agreeIn y (bytesIn ss) (bytesIn ts) ≡ true → AgreeIn y ss ts
   unfolding agreeIn AgreeIn

@@ -2,7 +2,11 @@ pub mod AgreeTexts
 pub mod AgreeSides
 pub mod AgreeWalk
 pub mod AgreeHeads
+pub mod AgreePrinted
+pub mod AgreePrinting
+pub mod AgreeMarked
 pub mod AgreeSearch
+pub mod AgreeRunning
 pub mod AgreeDistinct
 pub mod AgreeTree
 pub mod AgreeLines

@@ -1,21 +1,16 @@
-// The first position that agrees with an earlier one. Every position is compared with all before it.
-use crate::agree_headings::Head;
-use crate::agree_headings::has_tag;
-use crate::agree_headings::head_at;
-use crate::agree_headings::heads_agree;
+// The first position that agrees with an earlier one: run by run, and where a run may hold it, segment by segment.
+use crate::agree_earlier::repeats;
+use crate::agree_runs::fresh_run;
 use cut::Cut;
 use cut::Syntax;
 use cut::segment_at;
-ghost use Prim.Native.Nat.{_≤_};
-ghost use mathlib.Core.Bool.{false, _&&_};
+ghost use mathlib.Core.Bool.{false};
 ghost use mathlib.Core.Path.{_≡_};
-ghost use lib.ListN.{length};
-ghost use Rattle.cut.specs.Bytes.{part, begins};
+ghost use Rattle.cut.specs.Bytes.{part};
 ghost use Rattle.cut.specs.Segments.{segmentsFrom};
-ghost use Rattle.cut.specs.Bytes.{bytesOf};
-ghost use Rattle.agree.specs.Agreement.{agree};
-ghost use Rattle.agree.specs.AgreePositions.{headingFrom, positionsOf, agreesAny, firstAgreeing};
-ghost use Rattle.agree.specs.AgreeParts.{segmentsAt, headingIn, headingsIn};
+ghost use Rattle.agree.specs.AgreePositions.{positionsOf, firstAgreeing};
+ghost use Rattle.agree.specs.AgreeParts.{segmentsAt};
+ghost use Rattle.agree.specs.AgreeRuns.{Searched};
 
 // The number of a LIN among the message's segments, from 1, and the place of its first byte; or that no position agrees with an earlier one.
 pub enum Agreeing {
@@ -33,12 +28,36 @@ pub fn first_agreeing(y: Syntax, d: &[u8], start: usize, end: usize) -> Agreeing
     first_from(y, &d[0..end], start)
 }
 
-// The same among all segments from `start` on.
+// The same among all segments from `start` on. A run that does not pass is tried again shorter, so that the search begins right before the
+// position that it finds. The marks of 1,024 positions fill at most a quarter of the table.
 fn first_from(y: Syntax, d: &[u8], start: usize) -> Agreeing
     ensures { λ r. ⌜ r ≡ firstAgreeing y (positionsOf (segmentsAt y (now (d .entry)) start)) ⌝ }
 {
     let mut at = start;
     let mut n = 0;
+    let mut most = 1024;
+    loop {
+        let run = fresh_run(y, d, start, at, n, most);
+        let count = run.count;
+        if 0 < count {
+            n += count;
+            at = run.end;
+            continue;
+        }
+        if most < 2 {
+            return search_from(y, d, start, at, n);
+        }
+        most /= 8;
+    }
+}
+
+// The same where it is not within the first `before` segments, which end at `passed`: every position is compared with all before it.
+fn search_from(y: Syntax, d: &[u8], start: usize, passed: usize, before: usize) -> Agreeing
+    requires { ⌜ Searched y (now d) start passed before ⌝ }
+    ensures { λ r. ⌜ r ≡ firstAgreeing y (positionsOf (segmentsAt y (now (d .entry)) start)) ⌝ }
+{
+    let mut at = passed;
+    let mut n = before;
     loop {
         let s = segment_at(y, d, at);
         let Cut::Segment {
@@ -58,51 +77,4 @@ fn first_from(y: Syntax, d: &[u8], start: usize) -> Agreeing
         n += 1;
         at = end;
     }
-}
-
-// Whether the segment from `place` to `end` begins a position that agrees with one that begins within the first n segments from `start` on.
-fn repeats(y: Syntax, d: &[u8], start: usize, n: usize, place: usize, end: usize) -> bool
-    requires { ⌜ (place ≤ end) × (end ≤ length (now d)) ⌝ }
-    ensures { λ r. ⌜ r ≡ begins (bytesOf "LIN") (part place end (now (d .entry))) && agreesAny y (headingFrom (part place end (now (d .entry))) (segmentsAt y (now (d .entry)) end)) (headingsIn n (segmentsAt y (now (d .entry)) start)) ⌝ }
-{
-    if !has_tag(d, place, end, 76, 73, 78) {
-        return false;
-    }
-    agrees_earlier(y, d, start, n, head_at(y, d, place, end))
-}
-
-// Whether a position agrees with one that begins within the first n segments from `start` on.
-fn agrees_earlier(y: Syntax, d: &[u8], start: usize, n: usize, h: Head) -> bool
-    ensures { λ r. ⌜ r ≡ agreesAny y (headingIn h (now (d .entry))) (headingsIn n (segmentsAt y (now (d .entry)) start)) ⌝ }
-{
-    let mut at = start;
-    let mut left = n;
-    while 0 < left {
-        let s = segment_at(y, d, at);
-        let Cut::Segment {
-            start: place,
-            end,
-            piece: _,
-        } = s
-        else {
-            return false;
-        };
-        if agrees_at(y, d, place, end, h) {
-            return true;
-        }
-        left -= 1;
-        at = end;
-    }
-    false
-}
-
-// Whether the segment from `place` to `end` begins a position that agrees with this one.
-fn agrees_at(y: Syntax, d: &[u8], place: usize, end: usize, h: Head) -> bool
-    requires { ⌜ (place ≤ end) × (end ≤ length (now d)) ⌝ }
-    ensures { λ r. ⌜ r ≡ begins (bytesOf "LIN") (part place end (now (d .entry))) && agree y (headingFrom (part place end (now (d .entry))) (segmentsAt y (now (d .entry)) end)) (headingIn h (now (d .entry))) ⌝ }
-{
-    if !has_tag(d, place, end, 76, 73, 78) {
-        return false;
-    }
-    heads_agree(y, d, head_at(y, d, place, end), h)
 }

@@ -1,6 +1,10 @@
 // Rule 23: which position of a message agrees with an earlier one.
+mod agree_earlier;
 mod agree_first;
 mod agree_headings;
+mod agree_marks;
+mod agree_prints;
+mod agree_runs;
 mod agreement;
 
 pub use agree_first::Agreeing;

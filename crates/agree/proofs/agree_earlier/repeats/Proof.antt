@@ -1,9 +1,9 @@
--- `agree::agree_first::repeats` meets its contract.
+-- `agree::agree_earlier::repeats` meets its contract.
 use borrow.Author.Tests.{not-true, not-false}
 use Rattle.agree.proofs.AgreeSearch.{no-lin, lin-agrees-any}
 use borrow.Author.Needs.{needs}
-use Rattle.agree.proofs.agree_first.repeats.Statement.{statement}
-use Rattle.agree.proofs.agree_first.repeats.Tie as tie
+use Rattle.agree.proofs.agree_earlier.repeats.Statement.{statement}
+use Rattle.agree.proofs.agree_earlier.repeats.Tie as tie
 
 has-tag-requires : tie.Need-has-tag-requires
 has-tag-requires c κs = search needs

@@ -1,9 +1,9 @@
--- `agree::agree_first::agrees_at` meets its contract.
+-- `agree::agree_earlier::agrees_at` meets its contract.
 use borrow.Author.Tests.{not-true, not-false}
 use Rattle.agree.proofs.AgreeSearch.{no-lin, lin-agrees}
 use borrow.Author.Needs.{needs}
-use Rattle.agree.proofs.agree_first.agrees_at.Statement.{statement}
-use Rattle.agree.proofs.agree_first.agrees_at.Tie as tie
+use Rattle.agree.proofs.agree_earlier.agrees_at.Statement.{statement}
+use Rattle.agree.proofs.agree_earlier.agrees_at.Tie as tie
 
 has-tag-requires : tie.Need-has-tag-requires
 has-tag-requires c κs = search needs

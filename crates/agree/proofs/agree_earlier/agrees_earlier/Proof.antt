@@ -1,13 +1,13 @@
--- `agree::agree_first::agrees_earlier` meets its contract. The loop's invariant: the segments that are left give the answer.
+-- `agree::agree_earlier::agrees_earlier` meets its contract. The loop's invariant: the segments that are left give the answer.
 use mathlib.Core.Path.{_≡_, refl, sym, _∙_}
 use mathlib.Core.Bool.{false}
 use Rattle.cut.proofs.First.{Cutting, cutting, nothing}
 use Rattle.agree.specs.AgreePositions.{agreesAny}
 use Rattle.agree.specs.AgreeParts.{segmentsAt, headingIn, headingsIn}
-use Rattle.agree.proofs.AgreeSearch.{any-none, any-found, any-on, any-out}
+use Rattle.agree.proofs.AgreeSearch.{seeks-agree, any-none, any-found, any-on, any-out}
 use borrow.Author.Needs.{needs}
-use Rattle.agree.proofs.agree_first.agrees_earlier.Statement.{statement}
-use Rattle.agree.proofs.agree_first.agrees_earlier.Tie as tie
+use Rattle.agree.proofs.agree_earlier.agrees_earlier.Statement.{statement}
+use Rattle.agree.proofs.agree_earlier.agrees_earlier.Tie as tie
 
 abbrev Inv-loop : tie.InvT-loop
 Inv-loop y d start n h at₀ left₀ at left =
@@ -36,7 +36,7 @@ enum-told c = search needs
 
 returns : tie.Need-returns Inv-loop μ-loop
 returns c =
-    sym (any-none _ _ _ _ (nothing _ _ _ _ (sym (c .before .before .segment-at .ensures) ∙ c .enum-told .given .1))) ∙ c .before .before .before .before .loop .inv
+    sym (any-none (seeks-agree _ _) _ _ (nothing _ _ _ _ (sym (c .before .before .segment-at .ensures) ∙ c .enum-told .given .1))) ∙ c .before .before .before .before .loop .inv
 
 agrees-at-requires : tie.Need-agrees-at-requires Inv-loop μ-loop
 agrees-at-requires c κs =
@@ -45,7 +45,7 @@ agrees-at-requires c κs =
 
 returns-2 : tie.Need-returns-2 Inv-loop μ-loop
 returns-2 c =
-    sym (any-found _ _ _ _ _ _ _ _ (took (c .before .before)) (c .before .before .before .before .before .before .loop-test .taken) _ (c .before .agrees-at .ensures) (c .if1 .taken)) ∙ c .before .before .before .before .before .before .before .loop .inv
+    sym (any-found (seeks-agree _ _) _ _ _ _ _ _ _ (took (c .before .before)) (c .before .before .before .before .before .before .loop-test .taken) _ (c .before .agrees-at .ensures) (c .if1 .taken)) ∙ c .before .before .before .before .before .before .before .loop .inv
 
 sub-left : tie.Need-sub-left Inv-loop μ-loop
 sub-left c = search needs
@@ -55,10 +55,10 @@ loop-less c = search needs
 
 loop-again : tie.Need-loop-again Inv-loop μ-loop
 loop-again c =
-    sym (any-on _ _ _ _ _ _ _ _ (took (c .before .before)) (c .before .before .before .before .before .before .loop-test .taken) _ (c .before .agrees-at .ensures) (c .if1 .left)) ∙ c .before .before .before .before .before .before .before .loop .inv
+    sym (any-on (seeks-agree _ _) _ _ _ _ _ _ _ (took (c .before .before)) (c .before .before .before .before .before .before .loop-test .taken) _ (c .before .agrees-at .ensures) (c .if1 .left)) ∙ c .before .before .before .before .before .before .before .loop .inv
 
 returns-3 : tie.Need-returns-3 Inv-loop μ-loop
-returns-3 c = sym (any-out _ _ _ _ (c .loop-test .left)) ∙ c .before .loop .inv
+returns-3 c = sym (any-out (seeks-agree _ _) _ _ (c .loop-test .left)) ∙ c .before .loop .inv
 
 pub agrees-earlier-spec : {M : Type 1} → statement M
 agrees-earlier-spec =

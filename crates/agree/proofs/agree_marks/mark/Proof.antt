@@ -1,0 +1,22 @@
+-- `agree::agree_marks::mark` meets its contract.
+use mathlib.Core.Path.{ap₂, _∙_}
+use Rattle.agree.specs.AgreeMarks.{setIn, markIn}
+use borrow.Author.Needs.{needs}
+use Rattle.agree.proofs.agree_marks.mark.Statement.{statement}
+use Rattle.agree.proofs.agree_marks.mark.Tie as tie
+
+hold-requires : tie.Need-hold-requires
+hold-requires c κs = search needs
+
+mixed-requires : tie.Need-mixed-requires
+mixed-requires c κs = search needs
+
+hold-requires-2 : tie.Need-hold-requires-2
+hold-requires-2 c κs = search needs
+
+returns : tie.Need-returns
+unfolding markIn
+returns c = c .hold2 .ensures ∙ ap₂ setIn (c .before .before .before .hold .ensures) (c .before .mixed .ensures)
+
+pub mark-spec : {M : Type 1} → statement M
+mark-spec = tie.close (tie.spec hold-requires mixed-requires hold-requires-2 returns)

@@ -1,0 +1,19 @@
+-- `agree::agree_prints::mixed_unless` meets its contract.
+use Rattle.agree.specs.AgreePrints.{mixedUnless}
+use borrow.Author.Needs.{needs}
+use Rattle.agree.proofs.agree_prints.mixed_unless.Statement.{statement}
+use Rattle.agree.proofs.agree_prints.mixed_unless.Tie as tie
+
+returns : tie.Need-returns
+unfolding mixedUnless
+returns c = rw (c .if1 .taken)
+
+mixed-requires : tie.Need-mixed-requires
+mixed-requires c κs = search needs
+
+returns-2 : tie.Need-returns-2
+unfolding mixedUnless
+returns-2 c = rw (c .before .if1 .left) (c .mixed .ensures)
+
+pub mixed-unless-spec : {M : Type 1} → statement M
+mixed-unless-spec = tie.close (tie.spec returns mixed-requires returns-2)

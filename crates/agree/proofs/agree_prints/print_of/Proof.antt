@@ -1,0 +1,22 @@
+-- `agree::agree_prints::print_of` meets its contract.
+use Rattle.agree.proofs.AgreePrinting.{head-print}
+use borrow.Author.Needs.{needs}
+use Rattle.agree.proofs.agree_prints.print_of.Statement.{statement}
+use Rattle.agree.proofs.agree_prints.print_of.Tie as tie
+
+print-segment-requires : tie.Need-print-segment-requires
+print-segment-requires c κs = search needs
+
+print-optional-requires : tie.Need-print-optional-requires
+print-optional-requires c κs = search needs
+
+print-optional-requires-2 : tie.Need-print-optional-requires-2
+print-optional-requires-2 c κs = search needs
+
+returns : tie.Need-returns
+returns c = head-print _ _ _ _ _ _ (c .before .before .print-segment .ensures) (c .before .print-optional .ensures) (c .print-optional2 .ensures)
+
+pub print-of-spec : {M : Type 1} → statement M
+print-of-spec =
+    tie.close
+    (tie.spec print-segment-requires print-optional-requires print-optional-requires-2 returns)

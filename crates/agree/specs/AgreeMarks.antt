@@ -1,0 +1,47 @@
+-- The table of the prints that came: where a print is not marked, no position with that print came; no public call cites these.
+use Prim.Native.Nat.{ℕ, _+_, _/_, _%_}
+use mathlib.Core.Bool.{Bool, true, cond, _&&_, _||_}
+use mathlib.Core.List.{List, [], _∷_}
+use lib.ListN.{getD, set}
+use lib.Dec.{eqb}
+use Rattle.cut.specs.declared.service.Syntax.{Syntax}
+use Rattle.agree.specs.Agreement.{Heading}
+use Rattle.agree.specs.AgreePrints.{mixedBy, printOf}
+
+-- the cell of a print, and its mark there
+unfoldable pub cellOf : ℕ → ℕ
+cellOf f = f % 8192
+
+unfoldable pub markOf : ℕ → ℕ
+markOf f = f / 8192 % 254 + 1
+
+-- a cell that holds v, after the mark m: 0 says that no print came, 255 that several came
+unfoldable pub mergedBy : ℕ → ℕ → ℕ
+mergedBy v m = cond (eqb v 0) m (cond (eqb v m) m 255)
+
+-- whether a cell that holds v may have had the mark m
+unfoldable pub heldBy : ℕ → ℕ → Bool
+heldBy v m = eqb v 255 || eqb v m
+
+-- whether the cell of f may have had its mark, and the table after it
+unfoldable pub heldIn : List ℕ → ℕ → Bool
+heldIn t f = heldBy (getD t (cellOf f) 0) (markOf f)
+
+unfoldable pub setIn : List ℕ → ℕ → List ℕ
+setIn t f = set t (cellOf f) (mergedBy (getD t (cellOf f) 0) (markOf f))
+
+-- a second number made of a print: each print is marked in two cells
+abbrev pub secondOf : ℕ → ℕ
+secondOf f = mixedBy f 0 0
+
+-- whether the print f may have come, and the table after it
+unfoldable pub markedIn : List ℕ → ℕ → Bool
+markedIn t f = heldIn t f && heldIn t (secondOf f)
+
+unfoldable pub markIn : List ℕ → ℕ → List ℕ
+markIn t f = setIn (setIn t f) (secondOf f)
+
+-- the prints of all these positions are marked
+unfoldable pub allMarked : Syntax → List ℕ → List Heading → Bool
+allMarked y t [] = true
+allMarked y t (h ∷ hs) = markedIn t (printOf y h) && allMarked y t hs

@@ -1,0 +1,49 @@
+-- The print of a position: a number made of all that is compared of it, so that positions that agree have the same; no public call cites these.
+use Prim.Native.Nat.{ℕ, _+_, _*_, _%_}
+use mathlib.Core.Bool.{Bool, false, cond}
+use mathlib.Core.List.{List, [], _∷_}
+use lib.Dec.{eqb}
+use Rattle.cut.specs.declared.service.Syntax.{Syntax}
+use Rattle.element.specs.Elements.{elements}
+use Rattle.element.specs.Plain.{plain}
+use Rattle.agree.specs.Agreement.{Heading}
+
+-- the print a, and then a byte x of the component that w names
+unfoldable pub mixedBy : ℕ → ℕ → ℕ → ℕ
+mixedBy a w x = (a * 16777619 + w * 256 + x) % 4294967291
+
+-- the same unless the byte is a release mark
+unfoldable pub mixedUnless : Bool → ℕ → ℕ → ℕ → ℕ
+mixedUnless m a w x = cond m a (mixedBy a w x)
+
+-- component c of element e, in one byte
+unfoldable pub namedBy : ℕ → ℕ → ℕ
+namedBy e c = e % 16 * 16 + c % 16
+
+-- the print a, and then the bytes of the component that w names: one without bytes changes nothing, as one that is missing
+unfoldable pub printBytes : ℕ → List ℕ → ℕ → ℕ
+printBytes w [] a = a
+printBytes w (x ∷ xs) a = printBytes w xs (mixedBy a w x)
+
+-- ... the components of the element e, of which the first has the number c, "releases removed"
+unfoldable pub printComponents : Syntax → ℕ → ℕ → List (List ℕ) → ℕ → ℕ
+printComponents y e c [] a = a
+printComponents y e c (b ∷ bs) a = printComponents y e (c + 1) bs (printBytes (namedBy e c) (plain y false b) a)
+
+-- ... the elements, of which the first has the number e, but for the element x
+unfoldable pub printElements : Syntax → ℕ → ℕ → List (List (List ℕ)) → ℕ → ℕ
+printElements y x e [] a = a
+printElements y x e (bs ∷ es) a = printElements y x (e + 1) es (cond (eqb e x) a (printComponents y e 0 bs a))
+
+-- ... the bytes of a segment, but for its element x
+unfoldable pub printSegment : Syntax → ℕ → List ℕ → ℕ → ℕ
+printSegment y x s a = printElements y x 0 (elements y s) a
+
+-- ... a segment that may be missing
+unfoldable pub printIn : Syntax → List (List ℕ) → ℕ → ℕ
+printIn y [] a = a
+printIn y (s ∷ ss) a = printIn y ss (printSegment y 0 s a)
+
+-- the print of a position: "LIN (without its number), PIA and IMD"
+unfoldable pub printOf : Syntax → Heading → ℕ
+printOf y h = printIn y (h .imd) (printIn y (h .pia) (printSegment y 1 (h .lin) 0))

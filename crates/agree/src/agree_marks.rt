@@ -1,0 +1,67 @@
+// The table of the prints that came: a cell for each remainder, in which one byte of the quotient stands, and so a second time for another
+// number made of the print. What is not marked did not come.
+use crate::agree_prints::mixed;
+ghost use mathlib.Core.Path.{_≡_};
+ghost use Rattle.agree.specs.AgreeMarks.{cellOf, markOf, mergedBy, heldIn, setIn, markedIn, markIn};
+
+fn cell_of(f: u32) -> usize
+    ensures { λ r. ⌜ r ≡ cellOf f ⌝ }
+{
+    (f % 8192) as usize
+}
+
+fn mark_of(f: u32) -> u8
+    ensures { λ r. ⌜ r ≡ markOf f ⌝ }
+{
+    (f / 8192 % 254 + 1) as u8
+}
+
+// A cell that holds v, after the mark m.
+fn merged(v: u8, m: u8) -> u8
+    ensures { λ r. ⌜ r ≡ mergedBy v m ⌝ }
+{
+    if v == 0 {
+        return m;
+    }
+    if v == m {
+        return m;
+    }
+    255
+}
+
+// Whether the cell of f may have had its mark.
+fn holds(t: &[u8; 8192], f: u32) -> bool
+    ensures { λ r. ⌜ r ≡ heldIn (now (t .entry)) f ⌝ }
+{
+    let i = cell_of(f);
+    let v = t[i];
+    if v == 255 {
+        return true;
+    }
+    v == mark_of(f)
+}
+
+fn hold(t: &mut [u8; 8192], f: u32)
+    ensures { λ _. ⌜ now (t .exit) ≡ setIn (now (t .entry)) f ⌝ }
+{
+    let i = cell_of(f);
+    let v = t[i];
+    t[i] = merged(v, mark_of(f));
+}
+
+// Whether the print may have come.
+pub(crate) fn is_marked(t: &[u8; 8192], f: u32) -> bool
+    ensures { λ r. ⌜ r ≡ markedIn (now (t .entry)) f ⌝ }
+{
+    if !holds(t, f) {
+        return false;
+    }
+    holds(t, mixed(f, 0, 0))
+}
+
+pub(crate) fn mark(t: &mut [u8; 8192], f: u32)
+    ensures { λ _. ⌜ now (t .exit) ≡ markIn (now (t .entry)) f ⌝ }
+{
+    hold(t, f);
+    hold(t, mixed(f, 0, 0));
+}
