@@ -5,13 +5,13 @@ use mathlib.Core.Bool.{Bool, true, false, cond, _&&_, _||_, false≢true}
 use mathlib.Core.List.{List, [], _∷_, _++_, append-nil, nil≢cons}
 use native.Mathlib.Nat.{suc-add}
 use native.Mathlib.Omega.{arith}
-use lib.ListN.{length, take, drop, length-drop}
-use lib.Seq.{drop-drop, take-all}
+use lib.ListN.{length, take, drop}
+use lib.Seq.{drop-drop}
 use Rattle.cut.specs.declared.service.Syntax.{Syntax}
 use Rattle.cut.specs.Bytes.{part, begins}
 use Rattle.cut.specs.Segments.{Segment, segmentsFrom}
 use Rattle.cut.proofs.First.{Cutting}
-use Rattle.element.proofs.Limits.{drop-part}
+use Rattle.element.proofs.Limits.{part-out, part-front}
 use Rattle.cut.specs.Bytes.{bytesOf}
 use Rattle.agree.specs.Agreement.{Heading, agree}
 use Rattle.agree.specs.AgreePositions.{headingFrom, positionsFrom, positionsOf, agreesAny, firstAfter, firstAgreeing}
@@ -168,26 +168,13 @@ module _ (y : Syntax) (d : List ℕ) (start : ℕ) where
             few = omega (arith, i .few, q .some);
           }
 
--- the part from start to end: all that follows, where it ends with the delivery; else what follows in the bytes before its end
-part-all : (d : List ℕ) (start end : ℕ) → length d ≤ end → drop start d ≡ part start end d
-unfolding part
-part-all d start end h =
-    let n : length (drop start d) ≤ end - start = rw (length-drop start d) (omega arith) in
-    sym (take-all (end - start) (drop start d) n)
-
-part-front : (d : List ℕ) (start end : ℕ) → end ≤ length d → drop start (take (end - 0) (drop 0 d)) ≡ part start end d
-unfolding part
-part-front d start end h =
-    let z : 0 + start ≡ start = omega arith in
-    drop-part d 0 end start (omega arith) h ∙ rw z
-
 -- the answer for a part, from the answer for all segments from its start on
 module _ (y : Syntax) (d : List ℕ) (start end : ℕ) (r : Agreeing) where
   abbrev InPart : Type 0
   InPart = r ≡ firstAgreeing y (positionsOf (segmentsFrom y start false (part start end d)))
 
   pub answer-all : length d ≤ end → r ≡ firstAgreeing y (positionsOf (segmentsAt y d start)) → InPart
-  answer-all h a = rw (← part-all d start end h) a
+  answer-all h a = rw (part-out d start end h) a
 
   pub answer-front : end ≤ length d → r ≡ firstAgreeing y (positionsOf (segmentsAt y (take (end - 0) (drop 0 d)) start)) → InPart
   answer-front h a = rw (← part-front d start end h) a
