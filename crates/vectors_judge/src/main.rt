@@ -85,7 +85,7 @@ fn read_lines() {
     lines(&buffer[..n]);
 }
 
-pub fn main() {
+fn main() {
     read_lines();
     show(
         1,
