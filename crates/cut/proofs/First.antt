@@ -102,7 +102,7 @@ pub record Cutting (y : Syntax) (d : List ℕ) (at : ℕ) (r : Bool) (s e : ℕ)
   pub fits : e ≤ length d
   pub list : segmentsFrom y at r (drop at d) ≡ record { start = at; bytes = part at e d; piece = p } ∷ segmentsFrom y e false (drop e d)
 
-cutting-first
+pub cutting-first
     : (y : Syntax) (d : List ℕ) (at : ℕ) (r : Bool) (t : Segment) (ts : List Segment) (s e : ℕ) (p : Bool)
     → segmentsFrom y at r (drop at d) ≡ t ∷ ts → First y at r (drop at d) t ts → t .start ≡ s → endOf t ≡ e → t .piece ≡ p
     → Cutting y d at r s e p

@@ -22,5 +22,6 @@ pub mod Ordering
 pub mod Members
 pub mod ByItself
 pub mod TailFirst
+pub mod Holding
 pub mod Face
 pub mod Kept

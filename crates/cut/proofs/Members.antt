@@ -38,12 +38,12 @@ follow-front Unz s ss bs h = refl
 follow-front Other s ss bs h = ap (λ (us : List Segment). s ∷ us) h
 
 -- what a message takes are the first of the segments
-body-front : (ss : List Segment) → ss ≡ body ss ++ drop (length (body ss)) ss
+pub body-front : (ss : List Segment) → ss ≡ body ss ++ drop (length (body ss)) ss
 unfolding body
 body-front [] = refl
 body-front (s ∷ ss) = follow-front (tagOf (s .bytes)) s ss (body ss) (body-front ss)
 
-joined-fits : (y : Syntax) (p : ℕ) (r : Bool) (xs : List ℕ) (ss : List Segment) → segmentsFrom y p r (take (length (joined ss)) xs) ≡ ss → length (joined ss) ≤ length xs
+pub joined-fits : (y : Syntax) (p : ℕ) (r : Bool) (xs : List ℕ) (ss : List Segment) → segmentsFrom y p r (take (length (joined ss)) xs) ≡ ss → length (joined ss) ≤ length xs
 joined-fits y p r xs ss h =
     let e = ap length (ap joined (sym h) ∙ segments-joined y p r (take (length (joined ss)) xs)) in
     omega (arith, rw (length-take (length (joined ss)) xs) at e)

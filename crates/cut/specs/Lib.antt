@@ -2,6 +2,7 @@ pub mod Bytes
 pub mod Segments
 pub mod Admission
 pub mod Messages
+pub mod Held
 pub mod Calls
 pub mod Fronts
 pub mod Workers

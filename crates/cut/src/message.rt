@@ -72,7 +72,7 @@ fn next_from(y: Syntax, d: &[u8], from: usize) -> Found
 }
 
 // Where the message ends whose first segment ends at `from`.
-fn message_end(y: Syntax, d: &[u8], from: usize) -> usize
+pub fn message_end(y: Syntax, d: &[u8], from: usize) -> usize
     ensures { λ r. ⌜ r ≡ lastEnd from (body (segmentsFrom y from false (drop from (now (d .entry))))) ⌝ }
 {
     let mut at = from;

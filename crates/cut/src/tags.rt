@@ -44,7 +44,7 @@ pub(crate) fn spot_at(y: Syntax, d: &[u8], at: usize) -> Spot
     }
 }
 
-fn tag_of(d: &[u8], start: usize, end: usize) -> Tag
+pub(crate) fn tag_of(d: &[u8], start: usize, end: usize) -> Tag
     requires { ⌜ (start ≤ end) × (end ≤ length (now d)) ⌝ }
     ensures { λ r. ⌜ r ≡ tagOf (part start end (now (d .entry))) ⌝ }
 {
