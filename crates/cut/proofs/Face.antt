@@ -1,10 +1,10 @@
 -- The face of the cutting layer: what the crates above cite of it, beside specs/, `Cutting` of First, the laws of Parts, and Demand3.
 use Prim.Native.Nat.{ℕ, _≤_, _<_}
-use mathlib.Core.Path.{_≡_, refl, sym, ap₂, subst₂}
+use mathlib.Core.Path.{_≡_, refl, sym, ap₂, subst, subst₂}
 use mathlib.Core.Bool.{Bool, true, false}
 use mathlib.Core.List.{List, [], _∷_}
 use native.Mathlib.Omega.{arith}
-use lib.ListN.{length}
+use lib.ListN.{length, drop}
 use lib.Dec.{eqb, leb}
 use borrow.Author.Tests.{eq-eqb, ne-eqb, le-leb, lt-leb, leb-true, leb-false, eqb-true}
 use Rattle.cut.specs.declared.service.Syntax.{Syntax}
@@ -13,6 +13,7 @@ use Rattle.cut.specs.declared.tags.Tag.the-variants.{Unh}
 use Rattle.cut.specs.Bytes.{part}
 use Rattle.cut.specs.Segments.{segmentsFrom}
 use Rattle.cut.specs.Messages.{Message, startOf, closeOf, tagOf, messages}
+use Rattle.cut.specs.Held.{held}
 use Rattle.cut.specs.Calls.{beginsSegment, pickFound, asFound, foundAt, messageAt, foundFrom, nextMessage}
 use Rattle.cut.proofs.Ordering.{InOrder}
 use Rattle.cut.proofs.Members.{Each, Lies, messages-lie, messages-in-order}
@@ -131,6 +132,8 @@ pub record Next (y : Syntax) (d : List ℕ) (from s e : ℕ) : Type 0 where
   pub here : messageAt y d s ≡ found.Message s e
   -- its bytes alone hold its segments
   pub alone : segmentsFrom y s false (part s e d) ≡ message .first ∷ message .rest
+  -- its segments are those that the message takes from its place on
+  pub takes : held (segmentsFrom y s false (drop s d)) ≡ message .first ∷ message .rest
   -- the search from its end skips nothing
   pub next : messagesFrom from (messages y d) ≡ message ∷ messagesFrom e (messages y d)
 
@@ -160,6 +163,7 @@ module _ (y : Syntax) (d : List ℕ) where
         begins-UNH = l .begins-UNH;
         here = k .here;
         alone = subst₂ (λ (a b : ℕ). segmentsFrom y a false (part a b d) ≡ k .message .first ∷ k .message .rest) (k .starts) (k .closes) (l .alone);
+        takes = subst (λ (a : ℕ). held (segmentsFrom y a false (drop a d)) ≡ k .message .first ∷ k .message .rest) (k .starts) (l .takes);
         next = k .next;
       }
 

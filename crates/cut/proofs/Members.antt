@@ -12,6 +12,7 @@ use Rattle.cut.specs.declared.tags.Tag.the-variants.{Unh, Unt, Unz, Othe
 use Rattle.cut.specs.Bytes.{part}
 use Rattle.cut.specs.Segments.{Segment, endOf, segmentsFrom, joined}
 use Rattle.cut.specs.Messages.{Message, startOf, closeOf, tagOf, lastEnd, follow, body, begin, messagesIn, messages}
+use Rattle.cut.specs.Held.{isUnt, unless, held}
 use Rattle.cut.proofs.First.{First, first}
 use Rattle.cut.proofs.Appended.{segments-joined}
 use Rattle.cut.specs.Admission.{openingOf, segments}
@@ -30,6 +31,7 @@ pub record Lies (y : Syntax) (d : List ℕ) (m : Message) : Type 0 where
   pub fits : closeOf m ≤ length d
   pub begins-UNH : tagOf (m .first .bytes) ≡ Unh
   pub alone : segmentsFrom y (startOf m) false (part (startOf m) (closeOf m) d) ≡ m .first ∷ m .rest
+  pub takes : held (segmentsFrom y (startOf m) false (drop (startOf m) d)) ≡ m .first ∷ m .rest
 
 follow-front : (t : Tag) (s : Segment) (ss bs : List Segment) → ss ≡ bs ++ drop (length bs) ss → s ∷ ss ≡ follow t s bs ++ drop (length (follow t s bs)) (s ∷ ss)
 follow-front Unh s ss bs h = refl
@@ -53,7 +55,7 @@ module _ (y : Syntax) (d : List ℕ) where
   lies-first
       : (p : ℕ) (s : Segment) (ss : List Segment) → segmentsFrom y p false (drop p d) ≡ s ∷ ss → First y p false (drop p d) s ss → tagOf (s .bytes) ≡ Unh
       → Lies y d (record { first = s; rest = body ss })
-  unfolding part joined lastEnd
+  unfolding part joined lastEnd held
   lies-first p s ss l f u =
       let l′ : segmentsFrom y p false (drop p d) ≡ (s ∷ body ss) ++ drop (length (body ss)) ss = l ∙ ap (λ (us : List Segment). s ∷ us) (body-front ss) in
       let a = segments-alone y p false (drop p d) (s ∷ body ss) (drop (length (body ss)) ss) l′ in
@@ -65,6 +67,7 @@ module _ (y : Syntax) (d : List ℕ) where
         fits = omega (arith, f .some, length-append (s .bytes) (joined (body ss)));
         begins-UNH = u;
         alone = rw k (ap (λ (q : ℕ). segmentsFrom y q false (take (length (joined (s ∷ body ss))) (drop q d))) (f .starts) ∙ a);
+        takes = ap (λ (q : ℕ). held (segmentsFrom y q false (drop q d))) (f .starts) ∙ ap held l ∙ ap (λ (t : Tag). s ∷ unless (isUnt t) (body ss)) u;
       }
 
   each-step
