@@ -1,15 +1,16 @@
 -- The end of a message whose segments have no fault: 24, 23 or accepted.
 use Prim.Native.Nat.{ℕ, suc, _+_, _-_, _≤_}
-use mathlib.Core.Path.{_≡_, refl, sym, _∙_, ap}
+use mathlib.Core.Path.{_≡_, sym, _∙_}
 use mathlib.Core.Bool.{Bool, true, false}
 use mathlib.Core.List.{List}
 use native.Mathlib.Omega.{arith}
 use lib.ListN.{length, take, drop}
 use Rattle.cut.specs.declared.service.Syntax.{Syntax}
 use Rattle.cut.specs.Bytes.{bytesOf, part}
-use Rattle.cut.specs.Segments.{segmentsFrom}
+use Rattle.cut.specs.Segments.{Segment, segmentsFrom}
+use Rattle.cut.specs.Held.{unless}
+use Rattle.cut.specs.Messages.{lastEnd}
 use Rattle.element.proofs.Limits.{part-out, part-front}
-use Rattle.guide.specs.Pages20d.{pageOf}
 use Rattle.guide.specs.Pricat.{pricat20d}
 use Rattle.guide.specs.Sheet.{isTag}
 use Rattle.agree.specs.AgreePositions.{positionsOf, firstAgreeing}
@@ -19,21 +20,21 @@ use Rattle.verdict.specs.declared.answers.Verdict.{Verdict}
 use Rattle.verdict.specs.declared.answers.Verdict.the-variants.{Accepted, Refused}
 use Rattle.verdict.specs.declared.kept.Kept.{Kept}
 use Rattle.verdict.specs.Answers.{declared}
-use Rattle.verdict.specs.Verdicts.{nodeOf, unlessAgreeing, verdictFrom}
+use Rattle.verdict.specs.Verdicts.{nodeOf, unlessAgreeing}
 use Rattle.verdict.specs.Workers.{segmentsAt, agreementAt, endedWith}
 
 module _ (y : Syntax) (d : List ℕ) (start n at : ℕ) where
-  module _ (a : Agreeing) (is : a ≡ firstAgreeing y (positionsOf (segmentsFrom y start false (part start (length d) d)))) where
-    same-agreeing : firstAgreeing y (positionsOf (segmentsAt y d start)) ≡ a
-    same-agreeing = sym (is ∙ rw (part-out d start (length d) (omega arith)))
+  abbrev ss : List Segment
+  ss = segmentsFrom y start false (part start at d)
 
-    pub agrees : (i p : ℕ) → a ≡ At i p → (m : ℕ) → m ≡ nodeOf y pricat20d (segmentsAt y d start) i → Refused 23 i p m ≡ declared (agreementAt y d start n at)
+  module _ (a : Agreeing) (is : a ≡ firstAgreeing y (positionsOf ss)) where
+    pub agrees : (i p : ℕ) → a ≡ At i p → (m : ℕ) → m ≡ nodeOf y pricat20d ss i → Refused 23 i p m ≡ declared (agreementAt y d start n at)
     unfolding agreementAt unlessAgreeing
-    agrees i p h m k = rw (same-agreeing ∙ h, k)
+    agrees i p h m k = rw (sym is ∙ h, k)
 
     pub none-agrees : a ≡ Nothing → Accepted n at ≡ declared (agreementAt y d start n at)
     unfolding agreementAt unlessAgreeing
-    none-agrees h = rw (same-agreeing ∙ h)
+    none-agrees h = rw (sym is ∙ h)
 
   module _ (kept : Kept) (u : Bool) (unt : u ≡ isTag pricat20d (bytesOf "UNT") (kept .last)) where
     abbrev Ended : Verdict → Type 0
@@ -54,14 +55,22 @@ module _ (y : Syntax) (d : List ℕ) (start n at : ℕ) where
       unfolding endedWith
       compared h r e = rw (← unt, ends, h) e
 
--- the verdict of a part, from that of all segments from its start on
-module _ (y : Syntax) (d : List ℕ) (start end : ℕ) (r : Verdict) where
+-- the node of a segment of a part, from all segments from its start on
+module _ (y : Syntax) (d : List ℕ) (start end i r : ℕ) where
   abbrev InPart : Type 0
-  InPart = r ≡ declared (verdictFrom y pricat20d pageOf start (segmentsFrom y start false (part start end d)))
+  InPart = r ≡ nodeOf y pricat20d (segmentsFrom y start false (part start end d)) i
 
-  pub verdict-all : length d ≤ end → r ≡ declared (verdictFrom y pricat20d pageOf start (segmentsAt y d start)) → InPart
-  verdict-all h a = rw (part-out d start end h) a
+  pub node-all : length d ≤ end → r ≡ nodeOf y pricat20d (segmentsAt y d start) i → InPart
+  node-all h a = rw (part-out d start end h) a
 
-  pub verdict-front
-      : end ≤ length d → r ≡ declared (verdictFrom y pricat20d pageOf start (segmentsAt y (take (end - 0) (drop 0 d)) start)) → InPart
-  verdict-front h a = rw (← part-front d start end h) a
+  pub node-front : end ≤ length d → r ≡ nodeOf y pricat20d (segmentsAt y (take (end - 0) (drop 0 d)) start) i → InPart
+  node-front h a = rw (← part-front d start end h) a
+
+-- where the message ends of which a segment ends at e
+module _ (e : ℕ) (b : Bool) (ss : List Segment) where
+  pub close-last : b ≡ true → e ≡ lastEnd e (unless b ss)
+  unfolding lastEnd
+  close-last h = rw h
+
+  pub close-more : b ≡ false → (r : ℕ) → r ≡ lastEnd e ss → r ≡ lastEnd e (unless b ss)
+  close-more h r k = rw h k

@@ -7,8 +7,11 @@ use native.Mathlib.Omega.{arith}
 use lib.ListN.{length, replicate}
 use Rattle.cut.specs.declared.service.Syntax.{Syntax}
 use Rattle.cut.specs.Bytes.{bytesOf, part}
-use Rattle.cut.specs.Segments.{Segment, endOf}
+use Rattle.cut.specs.Segments.{Segment, endOf, segmentsFrom}
+use Rattle.cut.specs.Held.{unless, held}
+use Rattle.cut.specs.Messages.{lastEnd}
 use Rattle.cut.proofs.First.{Cutting}
+use Rattle.cut.proofs.Holding.{held-alone}
 use Rattle.cut.proofs.Parts.{length-part}
 use Rattle.element.specs.Plain.{same}
 use Rattle.element.specs.declared.components.Span.{Span}
@@ -27,9 +30,11 @@ use Rattle.judge.specs.Answers.{answerOf}
 use Rattle.judge.specs.declared.placing.Placed.{Placed}
 use Rattle.judge.specs.declared.placing.Placed.the-variants as told
 use Rattle.judge.proofs.Face.{answer-at, answer-refused}
+use Rattle.verdict.specs.declared.answers.Judged.{Judged}
+use Rattle.verdict.specs.declared.answers.Verdict.{Verdict as Told}
 use Rattle.verdict.specs.declared.answers.Verdict.the-variants.{Refused}
 use Rattle.verdict.specs.declared.kept.Kept.{Kept}
-use Rattle.verdict.specs.Answers.{declared}
+use Rattle.verdict.specs.Answers.{declared, judgedAs}
 use Rattle.verdict.specs.Verdicts.{nodesOf, forIntervals, settled, verdictFrom}
 use Rattle.verdict.specs.Workers.{segmentsAt, segmentIn, spanned, noted, KeptAfter, countsLeft, agreementAt, endedWith}
 
@@ -73,19 +78,19 @@ module _ (y : Syntax) (i : ℕ) (m : Memory) (s : Segment) where
       (a .0, then-placed sought n (a .1))
 
 module _ (y : Syntax) (d : List ℕ) (start : ℕ) where
+  -- the message's segments
   abbrev all : List Segment
-  all = segmentsAt y d start
+  all = held (segmentsAt y d start)
 
-  -- whether one of the segments from the place `at` on is a BGM with Z04, in a state
-  abbrev aheadFor : ℕ → Kept → List ℕ → Bool
-  aheadFor at k cs =
-      forIntervals y pricat20d (given pricat20d (map (seen y) (segmentsAt y d at)) (record { last = k .last; counts = cs })) (segmentsAt y d at)
+  -- whether one of the segments ss is a BGM with Z04, in a state
+  abbrev aheadFor : List Segment → Kept → List ℕ → Bool
+  aheadFor ss k cs = forIntervals y pricat20d (given pricat20d (map (seen y) ss) (record { last = k .last; counts = cs })) ss
 
-  -- n segments have been judged without a fault, up to the place `at`
-  pub record Passed (cs : List ℕ) (k : Kept) (at n : ℕ) : Type 0 where
-    pub judged :
-        judgeFrom y pricat20d pageOf n at (noted y k cs d) (segmentsAt y d at) ≡ judgeFrom y pricat20d pageOf 0 start fresh all
-    pub document : k .intervals || aheadFor at k cs ≡ forIntervals y pricat20d (nodesOf y pricat20d all) all
+  -- n segments have been judged without a fault, up to the place `at`, and ss are the message's others
+  pub record Passed (ss : List Segment) (cs : List ℕ) (k : Kept) (at n : ℕ) : Type 0 where
+    pub judged : judgeFrom y pricat20d pageOf n at (noted y k cs d) ss ≡ judgeFrom y pricat20d pageOf 0 start fresh all
+    pub document : k .intervals || aheadFor ss k cs ≡ forIntervals y pricat20d (nodesOf y pricat20d all) all
+    pub closes : lastEnd at ss ≡ lastEnd start all
     pub few : n ≤ at
     pub short : n ≤ length d
     pub lines : k .positions ≤ n
@@ -93,20 +98,21 @@ module _ (y : Syntax) (d : List ℕ) (start : ℕ) where
   abbrev begun : Kept
   begun = record { last = 0; positions = 0; reference = record { start = start; end = start }; intervals = false }
 
-  pub passed-first : Passed (replicate 96 0) begun start 0
+  pub passed-first : Passed all (replicate 96 0) begun start 0
   unfolding nodesOf spanned
   passed-first =
       record {
         judged = rw (decoded-none y d start start (omega arith));
         document = refl;
+        closes = refl;
         few = omega arith;
         short = omega arith;
         lines = omega arith;
       }
 
-  module _ (cs : List ℕ) (k : Kept) (at n : ℕ) (p : Passed cs k at n) where
+  module _ (ss : List Segment) (cs : List ℕ) (k : Kept) (at n : ℕ) (p : Passed ss cs k at n) where
     -- no segment is left
-    module _ (none : segmentsAt y d at ≡ []) where
+    module _ (none : ss ≡ []) where
       is-judged : judgeFrom y pricat20d pageOf 0 start fresh all ≡ pickVerdict (isTag pricat20d (bytesOf "UNT") (k .last)) (accepts n at) (refuses 24 (suc n) at 0)
       unfolding judgeFrom
       is-judged = sym (p .judged) ∙ rw none
@@ -115,19 +121,31 @@ module _ (y : Syntax) (d : List ℕ) (start : ℕ) where
       unfolding given forIntervals
       is-document = sym (rw none at (p .document)) ∙ or-none (k .intervals)
 
-      pub all-ended : endedWith y d start k n at ≡ verdictFrom y pricat20d pageOf start all
+      is-end : at ≡ lastEnd start all
+      unfolding lastEnd
+      is-end = rw none at (p .closes)
+
+      alone : segmentsFrom y start false (part start at d) ≡ all
+      alone = ap (λ (e : ℕ). segmentsFrom y start false (part start e d)) is-end ∙ held-alone y d start
+
+      is-ended : endedWith y d start k n at ≡ verdictFrom y pricat20d pageOf start all
       unfolding endedWith agreementAt verdictFrom settled
-      all-ended = rw (is-judged) (go (isTag pricat20d (bytesOf "UNT") (k .last)))
+      is-ended = rw (is-judged) (go (isTag pricat20d (bytesOf "UNT") (k .last)))
         where
           go
               : (u : Bool)
               → pickVerdict u (pickVerdict (k .intervals) (accepts n at) (agreementAt y d start n at)) (refuses 24 (suc n) at 0)
               ≡ settled y pricat20d all (pickVerdict u (accepts n at) (refuses 24 (suc n) at 0))
-          go true = rw is-document
+          go true = rw (is-document, alone)
           go false = refl
 
-    -- the next segment
-    module _ (s e : ℕ) (piece : Bool) (q : Cutting y d at false s e piece) where
+      pub all-ended
+          : (v : Told) → v ≡ declared (endedWith y d start k n at) → (r : Judged) → r ≡ judgedAs v at
+          → r ≡ judgedAs (declared (verdictFrom y pricat20d pageOf start all)) (lastEnd start all)
+      all-ended v h r j = j ∙ ap₂ judgedAs (h ∙ ap declared is-ended) is-end
+
+    -- the next segment, and the message's others after it
+    module _ (s e : ℕ) (piece : Bool) (q : Cutting y d at false s e piece) (rest : List Segment) (next : ss ≡ segmentIn at e piece d ∷ rest) where
       abbrev here : Segment
       here = segmentIn at e piece d
 
@@ -141,21 +159,36 @@ module _ (y : Syntax) (d : List ℕ) (start : ℕ) where
 
       judged-here
           : decide y pricat20d pageOf (suc n) at answer
-          (judgeFrom y pricat20d pageOf (suc n) (endOf here) (remember y pricat20d pageOf answer here (noted y k cs d)) (segmentsAt y d e))
+          (judgeFrom y pricat20d pageOf (suc n) (endOf here) (remember y pricat20d pageOf answer here (noted y k cs d)) rest)
           ≡ judgeFrom y pricat20d pageOf 0 start fresh all
       unfolding judgeFrom
-      judged-here = rw (q .list) at (p .judged)
+      judged-here = rw next at (p .judged)
+
+      ends : endOf here ≡ e
+      ends =
+          let l : length (part at e d) ≡ e - at = length-part d at e (q .fits) in
+          let h = q .some in
+          rw l (omega arith)
+
+      more-closes : lastEnd e rest ≡ lastEnd start all
+      unfolding lastEnd
+      more-closes = ap (λ (a : ℕ). lastEnd a rest) (sym ends) ∙ (rw next at (p .closes))
 
       module _ (r : Placed) (is : r ≡ answerOf (segmentAnswer y pricat20d pageOf (n + 1) (noted y k cs d) (segmentIn s e piece d))) where
         is-answer : r ≡ answerOf answer
         is-answer = is ∙ ap answerOf same-answer
 
-        pub passed-refused : (j m : ℕ) → r ≡ told.Refused j m → Refused j (n + 1) s m ≡ declared (verdictFrom y pricat20d pageOf start all)
+        is-refused : (j m : ℕ) → r ≡ told.Refused j m → Refused j (n + 1) s m ≡ declared (verdictFrom y pricat20d pageOf start all)
         unfolding verdictFrom settled
-        passed-refused j m h =
+        is-refused j m h =
             let a : answer ≡ refused j m = answer-refused answer j m (sym is-answer ∙ h) in
             let z : n + 1 ≡ suc n = omega arith in
             rw (← judged-here, a, z, q .starts)
+
+        pub passed-refused
+            : (j m : ℕ) → r ≡ told.Refused j m → (c : ℕ) → c ≡ lastEnd e rest → (o : Judged) → o ≡ judgedAs (Refused j (n + 1) s m) c
+            → o ≡ judgedAs (declared (verdictFrom y pricat20d pageOf start all)) (lastEnd start all)
+        passed-refused j m h c l o g = g ∙ ap₂ judgedAs (is-refused j m h) (l ∙ more-closes)
 
         module _ (m : ℕ) (taken : r ≡ told.At m) (cs′ : List ℕ) (k′ : Kept) (after-it : KeptAfter y d s e m k k′)
             (left : cs′ ≡ countsLeft (bytesFault y pricat20d pageOf (segmentIn s e piece d)) (place pricat20d (viewOf y (part s e d)) (k .last) cs) cs) where
@@ -169,27 +202,21 @@ module _ (y : Syntax) (d : List ℕ) (start : ℕ) where
           unfolding countsLeft
           is-left = rw (q .starts, sound .0, sound .1) at left
 
-          ends : endOf here ≡ e
-          ends =
-              let l : length (part at e d) ≡ e - at = length-part d at e (q .fits) in
-              let h = q .some in
-              rw l (omega arith)
-
           is-kept : remember y pricat20d pageOf (placed m) here (noted y k cs d) ≡ noted y k′ cs′ d
           unfolding lastAfter
           is-kept = rw (← q .starts, is-left, after-it .last, after-it .positions, after-it .reference)
 
-          more-judged : judgeFrom y pricat20d pageOf (suc n) e (noted y k′ cs′ d) (segmentsAt y d e) ≡ judgeFrom y pricat20d pageOf 0 start fresh all
+          more-judged : judgeFrom y pricat20d pageOf (suc n) e (noted y k′ cs′ d) rest ≡ judgeFrom y pricat20d pageOf 0 start fresh all
           more-judged =
-              ap₂ (λ (a : ℕ) (v : Memory). judgeFrom y pricat20d pageOf (suc n) a v (segmentsAt y d e)) (sym ends) (sym is-kept) ∙ (rw is-placed at judged-here)
+              ap₂ (λ (a : ℕ) (v : Memory). judgeFrom y pricat20d pageOf (suc n) a v rest) (sym ends) (sym is-kept) ∙ (rw is-placed at judged-here)
 
-          more-document : k′ .intervals || aheadFor e k′ cs′ ≡ forIntervals y pricat20d (nodesOf y pricat20d all) all
+          more-document : k′ .intervals || aheadFor rest k′ cs′ ≡ forIntervals y pricat20d (nodesOf y pricat20d all) all
           unfolding lastAfter given forIntervals
           more-document =
               rw (after-it .intervals, after-it .last, is-left, q .starts)
-              (sym (or-more (k .intervals) _ _) ∙ (rw (q .list, sound .1) at (p .document)))
+              (sym (or-more (k .intervals) _ _) ∙ (rw (next, sound .1) at (p .document)))
 
-          pub passed-on : Passed cs′ k′ e (n + 1)
+          pub passed-on : Passed rest cs′ k′ e (n + 1)
           passed-on =
               let z : n + 1 ≡ suc n = omega arith in
               let h = q .some in
@@ -200,7 +227,17 @@ module _ (y : Syntax) (d : List ℕ) (start : ℕ) where
               record {
                 judged = rw z more-judged;
                 document = more-document;
+                closes = more-closes;
                 few = omega arith;
                 short = omega arith;
                 lines = rw (after-it .positions) (omega arith);
               }
+
+-- a message whose UNT has been judged has no other segment; any other goes on with what its body takes
+module _ (y : Syntax) (d : List ℕ) (start : ℕ) (l : Bool) (ss : List Segment) (cs : List ℕ) (k : Kept) (at n : ℕ)
+    (p : Passed y d start (unless l ss) cs k at n) where
+  pub none-left : l ≡ true → unless l ss ≡ []
+  none-left h = rw h
+
+  pub passed-more : l ≡ false → Passed y d start ss cs k at n
+  passed-more h = rw h at p

@@ -58,7 +58,8 @@ countsLeft (suc k) a cs = cs
 -- 23 or accepted, for n segments from `start` up to `at`
 unfoldable pub agreementAt : Syntax → List ℕ → ℕ → ℕ → ℕ → Verdict
 agreementAt y d start n at =
-    unlessAgreeing y pricat20d (segmentsAt y d start) (firstAgreeing y (positionsOf (segmentsAt y d start))) (accepts n at)
+    unlessAgreeing y pricat20d (segmentsFrom y start false (part start at d))
+    (firstAgreeing y (positionsOf (segmentsFrom y start false (part start at d)))) (accepts n at)
 
 -- 24, 23 or accepted
 unfoldable pub endedWith : Syntax → List ℕ → ℕ → Kept → ℕ → ℕ → Verdict

@@ -14,3 +14,9 @@ pub enum Verdict {
         node: usize,
     },
 }
+
+// A message's verdict, and the byte after the message.
+pub struct Judged {
+    pub verdict: Verdict,
+    pub end: usize,
+}

@@ -1,9 +1,11 @@
 // The verdict of one message: its segments one after the other, then its end, then agreeing positions.
 mod answers;
+mod ended;
 mod faults;
 mod kept;
 mod message;
 mod segment;
 
+pub use answers::Judged;
 pub use answers::Verdict;
-pub use message::verdict_of;
+pub use message::judged;

@@ -1,42 +1,44 @@
-// The verdict of a message: one pass over its segments, then 24, then 23.
+// The verdict of a message: one pass over its segments, which finds its end too.
+use crate::answers::Judged;
 use crate::answers::Verdict;
+use crate::ended::ended;
 use crate::kept::Kept;
 use crate::kept::keep;
 use crate::segment::segment_answer;
-use agree::Agreeing;
-use agree::first_agreeing;
-use cut::Cut;
+use cut::Member;
 use cut::Syntax;
-use cut::segment_at;
+use cut::member_at;
+use cut::message_end;
 use element::Span;
-use judge::Edition;
 use judge::Placed;
-use judge::has_tag;
-use judge::place;
-ghost use Prim.Native.Nat.{suc, _<_, _^_};
-ghost use mathlib.Core.Bool.{false};
 ghost use mathlib.Core.Path.{_≡_};
-ghost use Rattle.cut.specs.Bytes.{part};
-ghost use Rattle.cut.specs.Segments.{segmentsFrom};
+ghost use Rattle.cut.specs.Held.{unless, held};
+ghost use Rattle.cut.specs.Messages.{lastEnd, body};
 ghost use Rattle.guide.specs.Pages20d.{pageOf};
 ghost use Rattle.guide.specs.Pricat.{pricat20d};
-ghost use Rattle.verdict.specs.Answers.{declared};
-ghost use Rattle.verdict.specs.Verdicts.{nodeOf, verdictFrom};
-ghost use Rattle.verdict.specs.Workers.{segmentsAt, agreementAt, endedWith};
+ghost use Rattle.verdict.specs.Answers.{declared, judgedAs};
+ghost use Rattle.verdict.specs.Verdicts.{verdictFrom};
+ghost use Rattle.verdict.specs.Workers.{segmentsAt};
 
-// The verdict of the segments from `start` to `end`.
-pub fn verdict_of(y: Syntax, d: &[u8], start: usize, end: usize) -> Verdict
-    ensures { λ r. ⌜ r ≡ declared (verdictFrom y pricat20d pageOf start (segmentsFrom y start false (part start end (now (d .entry))))) ⌝ }
+fn with_end(verdict: Verdict, end: usize) -> Judged
+    ensures { λ r. ⌜ r ≡ judgedAs verdict end ⌝ }
 {
-    if d.len() <= end {
-        return verdict_from(y, d, start);
-    }
-    verdict_from(y, &d[0..end], start)
+    Judged { verdict, end }
 }
 
-// The same of all segments from `start` on.
-fn verdict_from(y: Syntax, d: &[u8], start: usize) -> Verdict
-    ensures { λ r. ⌜ r ≡ declared (verdictFrom y pricat20d pageOf start (segmentsAt y (now (d .entry)) start)) ⌝ }
+// Where the message ends of which a segment ends at `end`; `last`: that is its UNT.
+fn close_of(y: Syntax, d: &[u8], end: usize, last: bool) -> usize
+    ensures { λ r. ⌜ r ≡ lastEnd end (unless last (body (segmentsAt y (now (d .entry)) end))) ⌝ }
+{
+    if last {
+        return end;
+    }
+    message_end(y, d, end)
+}
+
+// The verdict and the end of the message that the segment at `start` begins.
+pub fn judged(y: Syntax, d: &[u8], start: usize) -> Judged
+    ensures { λ r. ⌜ r ≡ judgedAs (declared (verdictFrom y pricat20d pageOf start (held (segmentsAt y (now (d .entry)) start)))) (lastEnd start (held (segmentsAt y (now (d .entry)) start))) ⌝ }
 {
     let mut counts = [0u32; 96];
     let mut kept = Kept {
@@ -47,99 +49,37 @@ fn verdict_from(y: Syntax, d: &[u8], start: usize) -> Verdict
     };
     let mut at = start;
     let mut n = 0;
+    let mut first = true;
     loop {
-        let s = segment_at(y, d, at);
-        let Cut::Segment {
+        let s = member_at(y, d, at, first);
+        let Member::Segment {
             start: place,
             end,
             piece,
+            last,
         } = s
         else {
-            return ended(y, d, start, kept, n, at);
+            return with_end(ended(y, d, start, kept, n, at), at);
         };
         let answer = segment_answer(y, d, place, end, piece, n + 1, kept, &mut counts);
         let node = match answer {
             Placed::At(node) => node,
             Placed::Refused { number, node } => {
-                return Verdict::Refused {
+                let verdict = Verdict::Refused {
                     number,
                     segment: n + 1,
                     place,
                     node,
                 };
+                return with_end(verdict, close_of(y, d, end, last));
             }
         };
         kept = keep(y, d, place, end, node, kept);
         n += 1;
         at = end;
+        if last {
+            return with_end(ended(y, d, start, kept, n, at), at);
+        }
+        first = false;
     }
-}
-
-// The verdict of n segments without a fault, which end at `at`: 24, 23 or accepted.
-fn ended(y: Syntax, d: &[u8], start: usize, kept: Kept, n: usize, at: usize) -> Verdict
-    requires { ⌜ suc n < 2 ^ 64 ⌝ }
-    ensures { λ r. ⌜ r ≡ declared (endedWith y (now (d .entry)) start kept n at) ⌝ }
-{
-    if !has_tag(Edition::D, kept.last, b'U', b'N', b'T') {
-        return Verdict::Refused {
-            number: 24,
-            segment: n + 1,
-            place: at,
-            node: 0,
-        };
-    }
-    if kept.intervals {
-        return Verdict::Accepted {
-            segments: n,
-            end: at,
-        };
-    }
-    agreement(y, d, start, n, at)
-}
-
-// 23, or accepted with n segments up to `at`.
-fn agreement(y: Syntax, d: &[u8], start: usize, n: usize, at: usize) -> Verdict
-    ensures { λ r. ⌜ r ≡ declared (agreementAt y (now (d .entry)) start n at) ⌝ }
-{
-    match first_agreeing(y, d, start, d.len()) {
-        Agreeing::At { segment, place } => Verdict::Refused {
-            number: 23,
-            segment,
-            place,
-            node: node_at(y, d, start, segment),
-        },
-        Agreeing::Nothing => Verdict::Accepted {
-            segments: n,
-            end: at,
-        },
-    }
-}
-
-// The node of segment i of those from `start` on; 0 if it is given none.
-fn node_at(y: Syntax, d: &[u8], start: usize, i: usize) -> usize
-    ensures { λ r. ⌜ r ≡ nodeOf y pricat20d (segmentsAt y (now (d .entry)) start) i ⌝ }
-{
-    let mut counts = [0u32; 96];
-    let mut last = 0;
-    let mut at = start;
-    let mut left = i;
-    while 0 < left {
-        let s = segment_at(y, d, at);
-        let Cut::Segment {
-            start: place_of,
-            end,
-            piece: _,
-        } = s
-        else {
-            return 0;
-        };
-        let placed = place(y, Edition::D, d, place_of, end, last, &mut counts);
-        let Placed::At(node) = placed else {
-            return 0;
-        };
-        last = node;
-        left -= 1;
-        at = end;
-    }
-    last
 }

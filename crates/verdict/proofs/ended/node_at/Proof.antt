@@ -1,12 +1,12 @@
--- `verdict::message::node_at` meets its contract. The loop's invariant: `Sought`.
+-- `verdict::ended::node_at` meets its contract. The loop's invariant: `Sought`.
 use mathlib.Core.Bool.{false}
 use mathlib.Core.Path.{sym, _∙_}
 use native.Mathlib.Omega.{arith}
 use Rattle.cut.proofs.First.{Cutting, cutting, nothing}
 use Rattle.verdict.proofs.NodeSought.{Sought, sought-first, sought-done, sought-none, sought-refused, sought-on}
 use borrow.Author.Needs.{needs}
-use Rattle.verdict.proofs.message.node_at.Statement.{statement}
-use Rattle.verdict.proofs.message.node_at.Tie as tie
+use Rattle.verdict.proofs.ended.node_at.Statement.{statement}
+use Rattle.verdict.proofs.ended.node_at.Tie as tie
 
 abbrev Inv-loop : tie.InvT-loop
 Inv-loop y d start i counts₀ last₀ at₀ left₀ counts last at left = Sought y d start i at last counts left

@@ -1,9 +1,9 @@
--- `verdict::message::ended` meets its contract.
+-- `verdict::ended::ended` meets its contract.
 use borrow.Author.Tests.{not-true, not-false}
 use Rattle.verdict.proofs.Ends.{no-end, not-compared, compared}
 use borrow.Author.Needs.{needs}
-use Rattle.verdict.proofs.message.ended.Statement.{statement}
-use Rattle.verdict.proofs.message.ended.Tie as tie
+use Rattle.verdict.proofs.ended.ended.Statement.{statement}
+use Rattle.verdict.proofs.ended.ended.Tie as tie
 
 has-tag-requires : tie.Need-has-tag-requires
 has-tag-requires c κs = search needs
