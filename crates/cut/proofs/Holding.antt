@@ -146,18 +146,18 @@ module _ (y : Syntax) (d : List ℕ) (at : ℕ) where
   abbrev whole : List Segment
   whole = held (segmentsFrom y at false (drop at d))
 
-  closes : lastEnd at whole ≡ at + length (joined whole)
-  closes = last-end y at false (drop at d) whole _ (held-front _)
+  pub held-closes : lastEnd at whole ≡ at + length (joined whole)
+  held-closes = last-end y at false (drop at d) whole _ (held-front _)
 
   -- the message's bytes alone hold its segments
   pub held-alone : segmentsFrom y at false (part at (lastEnd at whole) d) ≡ whole
   unfolding part
   held-alone =
       let n : at + length (joined whole) - at ≡ length (joined whole) = omega arith in
-      rw (closes, n) (segments-alone y at false (drop at d) whole _ (held-front _))
+      rw (held-closes, n) (segments-alone y at false (drop at d) whole _ (held-front _))
 
   -- it does not end past the delivery, unless it begins there
   pub held-fits : at ≤ length d → lastEnd at whole ≤ length d
   held-fits h =
       let n = rw (length-drop at d) at (joined-fits y at false (drop at d) whole (segments-alone y at false (drop at d) whole _ (held-front _))) in
-      omega (arith, closes)
+      omega (arith, held-closes)

@@ -23,5 +23,6 @@ pub mod Members
 pub mod ByItself
 pub mod TailFirst
 pub mod Holding
+pub mod Passing
 pub mod Face
 pub mod Kept

@@ -7,6 +7,8 @@ use Rattle.cut.specs.declared.tags.Tag.{Tag}
 use Rattle.cut.specs.declared.tags.Tag.the-variants.{Unh, Unt, Unz, Other}
 use Rattle.cut.specs.declared.member.Member.{Member}
 use Rattle.cut.specs.declared.member.Member.the-variants as member
+use Rattle.cut.specs.declared.outer.Outer.{Outer}
+use Rattle.cut.specs.declared.outer.Outer.the-variants as outer
 use Rattle.cut.specs.Segments.{Segment, endOf}
 use Rattle.cut.specs.Messages.{tagOf, body}
 
@@ -46,3 +48,15 @@ unfoldable pub headMember : Bool → List Segment → Member
 headMember b [] = member.Nothing
 headMember b (s ∷ ss) =
     pickMember (belongs b (tagOf (s .bytes))) (member.Segment (s .start) (endOf s) (s .piece) (isUnt (tagOf (s .bytes)))) member.Nothing
+
+-- a segment that lies in no message, by its tag; "A segment whose first three bytes are `UNH` begins a message"
+abbrev pub outerBy : Tag → ℕ → Outer
+outerBy Unh e = outer.Message
+outerBy Unt e = outer.Segment e
+outerBy Unz e = outer.Segment e
+outerBy Other e = outer.Segment e
+
+-- outer_at: what some segments begin with, where no message is open before them
+unfoldable pub headOuter : List Segment → Outer
+headOuter [] = outer.Nothing
+headOuter (s ∷ ss) = outerBy (tagOf (s .bytes)) (endOf s)

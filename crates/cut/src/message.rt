@@ -112,7 +112,7 @@ fn last_end(tag: Tag, at: usize, end: usize) -> usize
     }
 }
 
-fn begins_message(tag: Tag) -> bool
+pub(crate) fn begins_message(tag: Tag) -> bool
     ensures { λ r. ⌜ r ≡ isUnh tag ⌝ }
 {
     match tag {

@@ -1,0 +1,44 @@
+// Going through a delivery from message to message: what stands at a place that lies in no message.
+use crate::message::begins_message;
+use crate::scan::Cut;
+use crate::scan::segment_at;
+use crate::service::Syntax;
+use crate::tags::Tag;
+use crate::tags::tag_of;
+ghost use mathlib.Core.Path.{_≡_};
+ghost use mathlib.Core.Bool.{false};
+ghost use lib.ListN.{drop};
+ghost use Rattle.cut.specs.Segments.{segmentsFrom};
+ghost use Rattle.cut.specs.Held.{outerBy, headOuter};
+
+// A message begins there; or a segment outside, which ends at `end`; or nothing.
+pub enum Outer {
+    Message,
+    Segment { end: usize },
+    Nothing,
+}
+
+fn by_tag(tag: Tag, end: usize) -> Outer
+    ensures { λ r. ⌜ r ≡ outerBy tag end ⌝ }
+{
+    if begins_message(tag) {
+        return Outer::Message;
+    }
+    Outer::Segment { end }
+}
+
+// What the bytes from `at` on begin with, where no message is open.
+pub fn outer_at(y: Syntax, d: &[u8], at: usize) -> Outer
+    ensures { λ r. ⌜ r ≡ headOuter (segmentsFrom y at false (drop at (now (d .entry)))) ⌝ }
+{
+    let c = segment_at(y, d, at);
+    let Cut::Segment {
+        start,
+        end,
+        piece: _,
+    } = c
+    else {
+        return Outer::Nothing;
+    };
+    by_tag(tag_of(d, start, end), end)
+}
