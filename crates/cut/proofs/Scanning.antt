@@ -1,6 +1,6 @@
 -- Laws for the loop over bytes: the answer for the segment that is open, seen from the byte that is read next.
 use Prim.Native.Nat.{ℕ, suc, _+_, _≤_, _<_}
-use mathlib.Core.Path.{_≡_, refl}
+use mathlib.Core.Path.{_≡_, refl, _∙_}
 use mathlib.Core.Bool.{Bool, true, false}
 use mathlib.Core.List.{List, [], _∷_}
 use native.Mathlib.Numerals.{add-one}
@@ -14,11 +14,7 @@ use Rattle.cut.specs.declared.scan.Cut.{Cut}
 use Rattle.cut.specs.declared.scan.Cut.the-variants as cut
 use Rattle.cut.specs.Segments.{Segment, ends, frees, join, segmentsFrom}
 use Rattle.cut.specs.Calls.{headCut, cutFrom}
-
--- the answer for a segment that began at `at`, from the segments of the bytes from i on
-unfoldable pub openCut : ℕ → ℕ → List Segment → Cut
-openCut at i [] = cut.Segment at i true
-openCut at i (s ∷ ss) = cut.Segment at (i + length (s .bytes)) (s .piece)
+use Rattle.cut.specs.Workers.{openCut, Onward, Marked}
 
 open-more : (at i x : ℕ) (ss : List Segment) → openCut at i (join false i x ss) ≡ openCut at (i + 1) ss
 unfolding openCut join
@@ -54,24 +50,60 @@ module _ (y : Syntax) (d : List ℕ) where
   cut-open at r h = rw (segments-at at r h) (open-head (ends y r (getD d at 0)) at (getD d at 0) _)
 
   -- a released byte ends nothing and releases nothing
-  pub open-released
-      : (at i : ℕ) (r r′ : Bool) → i < length d → r ≡ true → r′ ≡ false
-      → openCut at i (segmentsFrom y i r (drop i d)) ≡ openCut at (i + 1) (segmentsFrom y (i + 1) r′ (drop (i + 1) d))
+  open-released
+      : (at i : ℕ) → i < length d
+      → openCut at i (segmentsFrom y i true (drop i d)) ≡ openCut at (i + 1) (segmentsFrom y (i + 1) false (drop (i + 1) d))
   unfolding ends frees
-  open-released at i r r′ h e f = rw (e, f, segments-at i true h) (open-more at i _ _)
+  open-released at i h = rw (segments-at i true h) (open-more at i _ _)
 
-  pub open-on
-      : (at i : ℕ) (r r′ : Bool) → i < length d → r ≡ false → (getD d i 0 ≡ y .terminator → ⊥) → r′ ≡ eqb (getD d i 0) (y .release)
-      → openCut at i (segmentsFrom y i r (drop i d)) ≡ openCut at (i + 1) (segmentsFrom y (i + 1) r′ (drop (i + 1) d))
+  open-on
+      : (at i : ℕ) (r : Bool) → i < length d → (getD d i 0 ≡ y .terminator → ⊥) → eqb (getD d i 0) (y .release) ≡ r
+      → openCut at i (segmentsFrom y i false (drop i d)) ≡ openCut at (i + 1) (segmentsFrom y (i + 1) r (drop (i + 1) d))
   unfolding ends frees
-  open-on at i r r′ h e n f = rw (e, f, segments-at i false h, ne-eqb _ _ n) (open-more at i _ _)
+  open-on at i r h n f = rw (← f, segments-at i false h, ne-eqb _ _ n) (open-more at i _ _)
 
   pub open-end
-      : (at i : ℕ) (r : Bool) → i < length d → r ≡ false → getD d i 0 ≡ y .terminator
-      → openCut at i (segmentsFrom y i r (drop i d)) ≡ cut.Segment at (i + 1) false
+      : (at i : ℕ) → i < length d → getD d i 0 ≡ y .terminator
+      → openCut at i (segmentsFrom y i false (drop i d)) ≡ cut.Segment at (i + 1) false
   unfolding ends openCut join
-  open-end at i r h e t = rw (e, segments-at i false h, eq-eqb _ _ t)
+  open-end at i h t = rw (segments-at i false h, eq-eqb _ _ t)
 
-  pub open-out : (at i : ℕ) (r : Bool) → length d ≤ i → openCut at i (segmentsFrom y i r (drop i d)) ≡ cut.Segment at i true
+  pub open-out : (at i : ℕ) → length d ≤ i → openCut at i (segmentsFrom y i false (drop i d)) ≡ cut.Segment at i true
   unfolding openCut
-  open-out at i r h = rw (segments-none i r h)
+  open-out at i h = rw (segments-none i false h)
+
+  pub onward-none : (i : ℕ) (r : Bool) → r ≡ false → i ≤ length d → Onward y d i r i
+  onward-none i r e h = record { onward = omega arith; inside = h; seen = λ at. rw e }
+
+  -- a released place past the end is as good as one that is not released
+  pub onward-past : (i : ℕ) (r : Bool) → i ≤ length d → length d ≤ i → Onward y d i r i
+  unfolding openCut
+  onward-past i r k h = record { onward = omega arith; inside = k; seen = λ at. rw (segments-none i r h, segments-none i false h) }
+
+  pub onward-released : (i : ℕ) (r : Bool) → r ≡ true → i < length d → Onward y d i r (i + 1)
+  onward-released i r e h = record { onward = omega arith; inside = omega arith; seen = λ at. rw e (open-released at i h) }
+
+  -- a byte that is neither mark is passed
+  pub onward-plain
+      : (i j : ℕ) → Onward y d i false j → j < length d → (getD d j 0 ≡ y .terminator → ⊥) → (getD d j 0 ≡ y .release → ⊥)
+      → Onward y d i false (j + 1)
+  onward-plain i j q h n f =
+      let o = q .onward in
+      record { onward = omega arith; inside = omega arith; seen = λ at. q .seen at ∙ open-on at j false h n (ne-eqb _ _ f) }
+
+  -- a mark, or the end, where no byte before it is one
+  module _ (i j : ℕ) (q : Onward y d i false j) where
+    pub marked-end : getD d j 0 ≡ y .terminator → Marked y d i j
+    marked-end e = record { passed = q; mark = λ h n. absurd (n e) }
+
+    pub marked-release : getD d j 0 ≡ y .release → Marked y d i j
+    marked-release e = record { passed = q; mark = λ h n. e }
+
+    pub marked-out : length d ≤ j → Marked y d i j
+    marked-out k = record { passed = q; mark = λ h n. absurd (omega arith) }
+
+  -- the answer for the open segment, at the next mark and past a release mark there
+  pub open-marked
+      : (at i k j : ℕ) → Marked y d i k → k < length d → (getD d k 0 ≡ y .terminator → ⊥) → Onward y d (k + 1) true j
+      → openCut at i (segmentsFrom y i false (drop i d)) ≡ openCut at j (segmentsFrom y j false (drop j d))
+  open-marked at i k j m h n q = m .passed .seen at ∙ open-on at k true h n (eq-eqb _ _ (m .mark h n)) ∙ q .seen at

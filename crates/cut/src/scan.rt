@@ -1,7 +1,10 @@
-// The one loop over bytes: where a segment ends.
+// The loop over bytes: where a segment ends.
 use crate::service::Syntax;
 ghost use mathlib.Core.Path.{_≡_};
+ghost use Prim.Native.Nat.{_≤_};
+ghost use lib.ListN.{length};
 ghost use Rattle.cut.specs.Calls.{cutFrom, segmentAt};
+ghost use Rattle.cut.specs.Workers.{Marked, Released};
 
 // A segment's first byte, the byte after its last, and whether it is an unterminated piece; or nothing.
 pub enum Cut {
@@ -27,27 +30,57 @@ pub(crate) fn cut_from(y: Syntax, d: &[u8], at: usize, released: bool) -> Cut
     if d.len() <= at {
         return Cut::Nothing;
     }
-    let mut i = at;
-    let mut freed = released;
+    let mut i = past_released(d, at, released);
+    loop {
+        let k = next_mark(y, d, i);
+        if d.len() <= k {
+            return Cut::Segment {
+                start: at,
+                end: k,
+                piece: true,
+            };
+        }
+        if d[k] == y.terminator {
+            return Cut::Segment {
+                start: at,
+                end: k + 1,
+                piece: false,
+            };
+        }
+        i = past_released(d, k + 1, true);
+    }
+}
+
+// The place of the next byte from `from` on that is the terminator or the release character; the delivery's end, if there is none.
+// A loop of its own, since it goes on by one byte whatever it has read: the step to the next place waits for no byte.
+fn next_mark(y: Syntax, d: &[u8], from: usize) -> usize
+    requires { ⌜ from ≤ length (now d) ⌝ }
+    ensures { λ r. ⌜ Marked y (now (d .entry)) from r ⌝ }
+{
+    let mut i = from;
     while i < d.len() {
         let x = d[i];
-        i += 1;
-        if freed {
-            freed = false;
-        } else {
-            if x == y.terminator {
-                return Cut::Segment {
-                    start: at,
-                    end: i,
-                    piece: false,
-                };
-            }
-            freed = x == y.release;
+        if x == y.terminator {
+            return i;
         }
+        if x == y.release {
+            return i;
+        }
+        i += 1;
     }
-    Cut::Segment {
-        start: at,
-        end: i,
-        piece: true,
+    i
+}
+
+// The place after the byte at `from` if that is released, else `from`.
+fn past_released(d: &[u8], from: usize, released: bool) -> usize
+    requires { ⌜ from ≤ length (now d) ⌝ }
+    ensures { λ r. ⌜ Released (now (d .entry)) from released r ⌝ }
+{
+    if !released {
+        return from;
     }
+    if d.len() <= from {
+        return from;
+    }
+    from + 1
 }

@@ -1,5 +1,5 @@
 -- Laws of the decoded bytes of a part, one byte at a time.
-use Prim.Native.Nat.{ℕ, _+_, _≤_, _<_, min}
+use Prim.Native.Nat.{ℕ, _+_, _-_, _≤_, _<_, min}
 use mathlib.Core.Bool.{Bool, true, false}
 use mathlib.Core.Path.{_≡_, ap, _∙_}
 use mathlib.Core.List.{List, [], _∷_}
@@ -39,6 +39,13 @@ module _ (y : Syntax) (d : List ℕ) where
   unfolding decoded plain
   decoded-next i e b h k f = rw (part-next d i e h k, f)
 
+  -- a byte that is no release mark
+  pub decoded-byte
+      : (i e : ℕ) → i < e → e ≤ length d → frees y false (getD d i 0) ≡ false
+      → decoded y i e d ≡ getD d i 0 ∷ decoded y (i + 1) e d
+  unfolding unlessMark decoded
+  decoded-byte i e h k f = decoded-next i e false h k f
+
   -- a released byte is literal, and nothing is released behind it
   pub released-next
       : (i e : ℕ) → i < e → e ≤ length d → plain y true (part i e d) ≡ getD d i 0 ∷ decoded y (i + 1) e d
@@ -55,12 +62,11 @@ module _ (y : Syntax) (d : List ℕ) where
 
   pub literal-byte
       : (i e : ℕ) → i < e → e ≤ length d → frees y false (getD d i 0) ≡ false → Literal y d i e i
-  unfolding unlessMark decoded
   literal-byte i e h k f =
       record {
         inside = omega arith;
         onward = omega arith;
-        found = λ _. decoded-next i e false h k f;
+        found = λ _. decoded-byte i e h k f;
         none = λ n. absurd (omega arith);
       }
 
@@ -83,5 +89,19 @@ module _ (y : Syntax) (d : List ℕ) where
 -- one byte more is counted
 pub count-more : {s t : List ℕ} {x : ℕ} (n m : ℕ) → n + length s ≡ m → s ≡ x ∷ t → n + 1 + length t ≡ m
 count-more n m h p =
+    let l = ap length p in
+    omega arith
+
+-- the same where the bytes up to i from a on are all counted
+pub count-start : (a n : ℕ) → a - a + n ≡ n
+count-start a n = omega arith
+
+pub count-passed : {s t : List ℕ} {x : ℕ} (a i m : ℕ) → a ≤ i → i - a + length s ≡ m → s ≡ x ∷ t → i + 1 - a + length t ≡ m
+count-passed a i m k h p =
+    let l = ap length p in
+    omega arith
+
+pub count-all : {s : List ℕ} (n m : ℕ) → n + length s ≡ m → s ≡ [] → n ≡ m
+count-all n m h p =
     let l = ap length p in
     omega arith

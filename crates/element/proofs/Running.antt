@@ -9,6 +9,7 @@ use native.Mathlib.Omega.{arith}
 use lib.ListN.{length, getD}
 use lib.Dec.{lit<}
 use Rattle.cut.specs.declared.service.Syntax.{Syntax}
+use Rattle.element.specs.declared.numeral.Run.{Run}
 use Rattle.element.specs.Plain.{decoded}
 use Rattle.element.specs.Numeral.{isDigit, digitsAhead, behindDigits}
 use Rattle.element.specs.Inner.{Literal, Pushed, DigitRun}
@@ -43,6 +44,28 @@ module _ (y : Syntax) (d : List ℕ) (e start value : ℕ) where
         behind = refl;
         small = λ n f. let z : n + 0 ≡ n = omega arith in rw z (f .0);
         valued = λ n f. refl;
+      }
+
+  -- a run that was read from i on, behind what is passed
+  pub along-join
+      : (i count sum : ℕ) → Along i count sum → (r : Run) → DigitRun y d i e sum r
+      → DigitRun y d start e value (record { count = count + r .count; value = r .value; next = r .next })
+  along-join i count sum a r q =
+      let k : count + r .count ≡ length (digitsAhead (decoded y start e d)) = omega (arith, a .ahead, q .counted) in
+      record {
+        counted = k;
+        valued =
+            λ n h b.
+            let f : Few n = (h, omega arith) in
+            q .valued (n + count) (a .small n f) (omega arith)
+            ∙ sym (onto-is sum _ (r .count) (q .counted))
+            ∙ a .valued n f
+            ∙ onto-is value _ (count + r .count) k;
+        bounded = q .bounded;
+        inside = λ b. q .inside (a .inside b);
+        passed = omega (arith, a .passed, q .passed);
+        found = λ b. sym (a .behind) ∙ q .found b;
+        none = λ b. sym (a .behind) ∙ q .none b;
       }
 
   module _ (i count sum at : ℕ) (a : Along i count sum) (l : Literal y d i e at) where

@@ -24,13 +24,12 @@ pub fn allowed(d: &[u8], a: usize, e: usize) -> bool
 {
     let end = limit_of(d, e);
     let mut i = a;
+    let mut clean = true;
     while i < end {
-        if !allowed_byte(d[i]) {
-            return false;
-        }
+        clean = clean & allowed_byte(d[i]);
         i += 1;
     }
-    true
+    clean
 }
 
 fn is_capital(x: u8) -> bool

@@ -50,8 +50,45 @@ fn pushed(value: u64, x: u8) -> u64
     value
 }
 
-// The digits from `from` on, put behind the value that was read so far.
+// The digits from `from` on, put behind the value that was read so far. Up to the first release mark each byte is literal.
 pub(crate) fn digits_from(y: Syntax, d: &[u8], from: usize, e: usize, value: u64) -> Run
+    requires { ⌜ e ≤ length (now d) ⌝ }
+    requires { ⌜ value < 10 ^ 16 ⌝ }
+    ensures { λ r. ⌜ DigitRun y (now (d .entry)) from e value r ⌝ }
+{
+    let mut i = from;
+    let mut count = 0;
+    let mut sum = value;
+    while i < e {
+        let x = d[i];
+        if cut::releases(y, x) {
+            let rest = released_digits(y, d, i, e, sum);
+            return Run {
+                count: count + rest.count,
+                value: rest.value,
+                next: rest.next,
+            };
+        }
+        if !is_digit(x) {
+            return Run {
+                count,
+                value: sum,
+                next: i,
+            };
+        }
+        sum = pushed(sum, x);
+        count += 1;
+        i += 1;
+    }
+    Run {
+        count,
+        value: sum,
+        next: i,
+    }
+}
+
+// The same where any byte may be a release mark.
+fn released_digits(y: Syntax, d: &[u8], from: usize, e: usize, value: u64) -> Run
     requires { ⌜ e ≤ length (now d) ⌝ }
     requires { ⌜ value < 10 ^ 16 ⌝ }
     ensures { λ r. ⌜ DigitRun y (now (d .entry)) from e value r ⌝ }

@@ -3,16 +3,32 @@ use crate::limit::limit_of;
 use crate::literal::literal;
 use cut::Syntax;
 ghost use mathlib.Core.Path.{_≡_};
-ghost use lib.ListN.{length};
+ghost use Prim.Native.Nat.{_+_, _≤_};
+ghost use lib.ListN.{length, drop};
 ghost use Rattle.element.specs.Plain.{decoded, same, fitting, copied};
 
-// How many bytes the part has, release marks not counted.
+// How many bytes the part has, release marks not counted. Up to the first release mark each byte counts.
 pub fn plain_length(y: Syntax, d: &[u8], a: usize, e: usize) -> usize
     ensures { λ r. ⌜ r ≡ length (decoded y a e (now (d .entry))) ⌝ }
 {
     let end = limit_of(d, e);
     let mut i = a;
-    let mut n = 0;
+    while i < end {
+        if cut::releases(y, d[i]) {
+            return length_on(y, d, i, end, i - a);
+        }
+        i += 1;
+    }
+    i - a
+}
+
+// The same from the place `from` on, where `count` bytes are counted before it.
+fn length_on(y: Syntax, d: &[u8], from: usize, end: usize, count: usize) -> usize
+    requires { ⌜ (end ≤ length (now d)) × (count ≤ from) ⌝ }
+    ensures { λ r. ⌜ r ≡ count + length (decoded y from end (now (d .entry))) ⌝ }
+{
+    let mut i = from;
+    let mut n = count;
     loop {
         let found = literal(y, d, i, end);
         if end <= found {
@@ -23,13 +39,37 @@ pub fn plain_length(y: Syntax, d: &[u8], a: usize, e: usize) -> usize
     }
 }
 
-// Whether the part, decoded, is just the bytes of word: a code, a tag, an edition.
+// Whether the part, decoded, is just the bytes of word: a code, a tag, an edition. Up to the first release mark each byte is literal.
 pub fn is_code(y: Syntax, d: &[u8], a: usize, e: usize, word: &[u8]) -> bool
     ensures { λ r. ⌜ r ≡ same (decoded y a e (now (d .entry))) (now (word .entry)) ⌝ }
 {
     let end = limit_of(d, e);
     let mut i = a;
     let mut k = 0;
+    while i < end {
+        let x = d[i];
+        if cut::releases(y, x) {
+            return code_on(y, d, i, end, word, k);
+        }
+        if word.len() <= k {
+            return false;
+        }
+        if x != word[k] {
+            return false;
+        }
+        i += 1;
+        k += 1;
+    }
+    k == word.len()
+}
+
+// The same from the place `from` on, for the bytes of word from its place `place` on.
+fn code_on(y: Syntax, d: &[u8], from: usize, end: usize, word: &[u8], place: usize) -> bool
+    requires { ⌜ (end ≤ length (now d)) × (place ≤ length (now word)) ⌝ }
+    ensures { λ r. ⌜ r ≡ same (decoded y from end (now (d .entry))) (drop place (now (word .entry))) ⌝ }
+{
+    let mut i = from;
+    let mut k = place;
     loop {
         let at = literal(y, d, i, end);
         if end <= at {

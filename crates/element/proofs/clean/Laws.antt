@@ -30,18 +30,18 @@ module _ (x : ℕ) where
       let l : 32 ≤ x = omega arith in
       rw (le-leb 32 x l, lt-leb x 126 h, le-leb x 255 k) (sym (and-true (leb 160 x)))
 
+-- whether all bytes are allowed, where b says it of those before the place i
 module _ (d : List ℕ) (i e : ℕ) where
-  pub allowed-end : e ≤ i → allowedBytes (part i e d) ≡ true
+  pub allowed-end : (b : Bool) → e ≤ i → b && allowedBytes (part i e d) ≡ b
   unfolding allowedBytes
-  allowed-end h = rw (part-none d i e h)
+  allowed-end b h = rw (part-none d i e h) (and-true b)
 
-  pub allowed-not : i < e → e ≤ length d → allowedByte (getD d i 0) ≡ false → allowedBytes (part i e d) ≡ false
+  pub allowed-next
+      : (b c : Bool) → i < e → e ≤ length d → c ≡ allowedByte (getD d i 0)
+      → b && allowedBytes (part i e d) ≡ (b && c) && allowedBytes (part (i + 1) e d)
   unfolding allowedBytes
-  allowed-not h k f = rw (part-next d i e h k, f)
-
-  pub allowed-next : i < e → e ≤ length d → allowedByte (getD d i 0) ≡ true → allowedBytes (part i e d) ≡ allowedBytes (part (i + 1) e d)
-  unfolding allowedBytes
-  allowed-next h k t = rw (part-next d i e h k, allowedBytes, t)
+  allowed-next true c h k f = rw (part-next d i e h k, f)
+  allowed-next false c h k f = refl
 
 module _ (y : Syntax) (x : ℕ) where
   pub ends-element : x ≡ y .element → true ≡ endsTag y x

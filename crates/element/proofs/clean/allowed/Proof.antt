@@ -1,22 +1,23 @@
--- `element::clean::allowed` meets its contract. The loop's invariant: the test of what is left is the test of the whole part. Assumes nothing.
+-- `element::clean::allowed` meets its contract. The loop's invariant: what is told so far and the test of what is left make up the test of the
+-- whole part. Assumes nothing.
 use Prim.Native.Nat.{_≤_, _-_}
+use mathlib.Core.Bool.{_&&_}
 use mathlib.Core.Path.{_≡_, sym, ap, _∙_}
 use native.Mathlib.Omega.{arith}
 use borrow.Author.Needs.{needs}
-use borrow.Author.Tests.{not-true, not-false}
 use lib.ListN.{length}
 use Rattle.cut.specs.Bytes.{part}
 use Rattle.element.specs.Clean.{allowedBytes}
 use Rattle.element.proofs.Limits.{limited}
-use Rattle.element.proofs.clean.Laws.{allowed-end, allowed-not, allowed-next}
+use Rattle.element.proofs.clean.Laws.{allowed-end, allowed-next}
 use Rattle.element.proofs.clean.allowed.Statement.{statement}
 use Rattle.element.proofs.clean.allowed.Tie as tie
 
 abbrev Inv-loop : tie.InvT-loop
-Inv-loop d a e end i₀ i = (end ≤ length d) × (allowedBytes (part i end d) ≡ allowedBytes (part a e d))
+Inv-loop d a e end i₀ clean₀ i clean = (end ≤ length d) × (clean && allowedBytes (part i end d) ≡ allowedBytes (part a e d))
 
 abbrev μ-loop : tie.MeasureT-loop
-μ-loop d a e end i₀ i = end - i
+μ-loop d a e end i₀ clean₀ i clean = end - i
 
 limit-of-requires : tie.Need-limit-of-requires Inv-loop μ-loop
 limit-of-requires c κs = search needs
@@ -30,11 +31,6 @@ shared-slice-read-allowed-byte c = search needs
 allowed-byte-requires : tie.Need-allowed-byte-requires Inv-loop μ-loop
 allowed-byte-requires c κs = search needs
 
-returns : tie.Need-returns Inv-loop μ-loop
-returns c =
-    let inv = c .before .before .before .before .loop .inv in
-    sym (sym (inv .1) ∙ allowed-not _ _ _ (c .before .before .before .loop-test .taken) (inv .0) (sym (c .before .allowed-byte .ensures) ∙ not-true _ (c .if1 .taken)))
-
 add-i : tie.Need-add-i Inv-loop μ-loop
 add-i c = search needs
 
@@ -43,12 +39,14 @@ loop-less c = search needs
 
 loop-again : tie.Need-loop-again Inv-loop μ-loop
 loop-again c =
-    let inv = c .before .before .before .before .loop .inv in
-    let h = c .before .before .before .loop-test .taken in
-    (inv .0, sym (allowed-next _ _ _ h (inv .0) (sym (c .before .allowed-byte .ensures) ∙ not-false _ (c .if1 .left))) ∙ inv .1)
+    let b = c .before .before in
+    let l = b .before in
+    let inv = l .loop .inv in
+    let d = l .before .before .before .args .d .now in
+    (inv .0, sym (allowed-next d _ _ (l .loop .clean) _ (b .loop-test .taken) (inv .0) (c .allowed-byte .ensures)) ∙ inv .1)
 
-returns-2 : tie.Need-returns-2 Inv-loop μ-loop
-returns-2 c = sym (sym (c .before .loop .inv .1) ∙ allowed-end _ _ _ (c .loop-test .left))
+returns : tie.Need-returns Inv-loop μ-loop
+returns c = sym (allowed-end _ _ _ _ (c .loop-test .left)) ∙ c .before .loop .inv .1
 
 pub allowed-spec : {M : Type 1} → statement M
 allowed-spec =
@@ -60,8 +58,7 @@ allowed-spec =
     loop-holds
     shared-slice-read-allowed-byte
     allowed-byte-requires
-    returns
     add-i
     loop-less
     loop-again
-    returns-2)
+    returns)

@@ -3,7 +3,8 @@ use Prim.Native.Nat.{_-_}
 use mathlib.Core.Path.{sym, _∙_}
 use native.Mathlib.Omega.{arith}
 use borrow.Author.Tests.{not-true, not-false}
-use Rattle.element.proofs.Running.{Along, along-start, along-more, along-end, along-stop}
+use Rattle.element.proofs.Decoding.{literal-none, literal-byte}
+use Rattle.element.proofs.Running.{Along, along-start, along-join, along-more, along-end, along-stop}
 use Rattle.element.proofs.numeral.digits_from.Statement.{statement}
 use Rattle.element.proofs.numeral.digits_from.Tie as tie
 
@@ -16,29 +17,42 @@ abbrev μ-loop : tie.MeasureT-loop
 loop-holds : tie.Need-loop-holds Inv-loop μ-loop
 loop-holds c = along-start _ _ _ _ _ (c .before .pre .1)
 
-literal-requires : tie.Need-literal-requires Inv-loop μ-loop
-literal-requires c κs = omega arith
-
-returns : tie.Need-returns Inv-loop μ-loop
-returns c = along-end _ _ _ _ _ _ _ _ _ (c .before .before .loop .inv) (c .before .literal .ensures) (c .if1 .taken)
-
 shared-slice-read-x : tie.Need-shared-slice-read-x Inv-loop μ-loop
 shared-slice-read-x c = omega arith
+
+releases-requires : tie.Need-releases-requires Inv-loop μ-loop
+releases-requires c κs = tt
+
+released-digits-requires : tie.Need-released-digits-requires Inv-loop μ-loop
+released-digits-requires c κs = (omega arith, c .before .before .before .before .loop .inv .bounded)
+
+add-t15 : tie.Need-add-t15 Inv-loop μ-loop
+add-t15 c =
+    let p = c .before .before .before .before .before .before .loop .inv .passed in
+    let q = c .before .released-digits .ensures .passed in
+    omega arith
+
+returns : tie.Need-returns Inv-loop μ-loop
+returns c =
+    along-join _ _ _ _ _ _ _ _ (c .before .before .before .before .before .before .loop .inv) _ (c .before .released-digits .ensures)
 
 is-digit-requires : tie.Need-is-digit-requires Inv-loop μ-loop
 is-digit-requires c κs = tt
 
 returns-2 : tie.Need-returns-2 Inv-loop μ-loop
 returns-2 c =
+    let b = c .before .before in
+    let l = b .before .before .before .before in
+    let h = b .before .before .before .loop-test .taken in
     along-stop _ _ _ _ _ _ _ _ _
-    (c .before .before .before .before .before .loop .inv)
-    (c .before .before .before .before .literal .ensures)
-    (c .before .before .before .if1 .left)
+    (l .loop .inv)
+    (literal-byte _ _ _ _ h (l .before .before .pre .0) (sym (b .before .releases .ensures) ∙ b .if1 .left))
+    h
     (sym (c .before .is-digit .ensures) ∙ not-true _ (c .if2 .taken))
 
 pushed-requires : tie.Need-pushed-requires Inv-loop μ-loop
 pushed-requires c κs =
-    (c .before .before .before .before .before .loop .inv .bounded, sym (c .before .is-digit .ensures) ∙ not-false _ (c .if2 .left))
+    (c .before .before .before .before .before .before .loop .inv .bounded, sym (c .before .is-digit .ensures) ∙ not-false _ (c .if2 .left))
 
 add-count : tie.Need-add-count Inv-loop μ-loop
 add-count c = omega arith
@@ -51,13 +65,19 @@ loop-less c = omega arith
 
 loop-again : tie.Need-loop-again Inv-loop μ-loop
 loop-again c =
+    let b = c .before .before .before in
+    let l = b .before .before .before .before in
+    let h = b .before .before .before .loop-test .taken in
     along-more _ _ _ _ _ _ _ _ _
-    (c .before .before .before .before .before .before .loop .inv)
-    (c .before .before .before .before .before .literal .ensures)
-    (c .before .before .before .before .if1 .left)
+    (l .loop .inv)
+    (literal-byte _ _ _ _ h (l .before .before .pre .0) (sym (b .before .releases .ensures) ∙ b .if1 .left))
+    h
     (sym (c .before .before .is-digit .ensures) ∙ not-false _ (c .before .if2 .left))
     _
     (c .pushed .ensures)
+
+returns-3 : tie.Need-returns-3 Inv-loop μ-loop
+returns-3 c = along-end _ _ _ _ _ _ _ _ _ (c .before .loop .inv) (literal-none _ _ _ _ (c .loop-test .left)) (c .loop-test .left)
 
 pub digits-from-spec : {M : Type 1} → statement M
 digits-from-spec =
@@ -66,13 +86,16 @@ digits-from-spec =
     Inv-loop
     μ-loop
     loop-holds
-    literal-requires
-    returns
     shared-slice-read-x
+    releases-requires
+    released-digits-requires
+    add-t15
+    returns
     is-digit-requires
     returns-2
     pushed-requires
     add-count
     add-i
     loop-less
-    loop-again)
+    loop-again
+    returns-3)
