@@ -1,7 +1,7 @@
 // Which tag a node has.
 use crate::editions::Edition;
 use crate::editions::rows_of;
-use crate::rows::tag_of;
+use crate::tag_words::tag_of;
 use crate::words::pack;
 ghost use mathlib.Core.List.{[], _∷_};
 ghost use mathlib.Core.Path.{_≡_};
