@@ -28,9 +28,9 @@ firstChild g p = firstNode g (childOf g p)
 unfoldable pub nextSibling : Guide → ℕ → ℕ
 nextSibling g n = lowest (childOf g (node g n .parent)) (suc n) (length g - suc n)
 
--- a row as two words of the code, field above field: where node n stands, and what it may
+-- a row as two words of the code, field above field: what a search reads of node n, and what else there is of it
 unfoldable pub linkWord : Guide → ℕ → ℕ
-linkWord g n = node g n .parent + 4096 * (firstChild g n + 256 * (nextSibling g n + 256 * (node g n .counter + 4096 * flag (node g n .must))))
+linkWord g n = firstChild g n + 256 * (nextSibling g n + 256 * (node g n .counter + 4096 * (flag (node g n .must) + 16 * packed (node g n .tag))))
 
 unfoldable pub termWord : Guide → ℕ → ℕ
 termWord g n =
@@ -38,5 +38,7 @@ termWord g n =
     + 1048576
     * (node g n .refusal
     + 256
+    * (node g n .parent
+    + 4096
     * (node g n .selector .element
-    + 16 * (node g n .selector .component + 16 * (length (codesOf (take n g)) + 256 * length (node g n .selector .codes)))))
+    + 16 * (node g n .selector .component + 16 * (length (codesOf (take n g)) + 256 * length (node g n .selector .codes))))))

@@ -8,7 +8,6 @@ mod matching;
 mod placing;
 mod rows;
 mod seeking;
-mod tag_words;
 mod tags;
 mod term_words;
 mod words;

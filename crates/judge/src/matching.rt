@@ -5,7 +5,7 @@ use crate::rows::codes_count;
 use crate::rows::codes_from;
 use crate::rows::component_of;
 use crate::rows::element_of;
-use crate::tag_words::tag_of;
+use crate::rows::tag_of;
 use crate::words::key_number;
 use cut::Syntax;
 ghost use Prim.Native.Nat.{_<_};

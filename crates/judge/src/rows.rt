@@ -8,29 +8,46 @@ ghost use lib.ListN.{length, take};
 ghost use Rattle.guide.specs.Nodes.{node};
 ghost use Rattle.judge.specs.Editions.{guideOf};
 ghost use Rattle.judge.specs.Rows.{codesOf, firstChild, nextSibling};
+ghost use Rattle.judge.specs.Words.{packed};
 
-// The element of the selector, counted from 0.
-pub(crate) fn element_of(edition: Edition, n: usize) -> usize
+// The tag, as a number.
+pub(crate) fn tag_of(edition: Edition, n: usize) -> u32
     requires { ⌜ n < length (guideOf edition) ⌝ }
-    ensures { λ r. ⌜ r ≡ node (guideOf edition) n .selector .element ⌝ }
+    ensures { λ r. ⌜ r ≡ packed (node (guideOf edition) n .tag) ⌝ }
 {
-    (terms(edition, n) / 0x1000_0000 % 16) as usize
+    (links(edition, n) / 0x1_0000_0000) as u32
 }
 
-// The component of the selector, counted from 0.
-pub(crate) fn component_of(edition: Edition, n: usize) -> usize
+// Whether the node is required.
+pub(crate) fn is_required(edition: Edition, n: usize) -> bool
     requires { ⌜ n < length (guideOf edition) ⌝ }
-    ensures { λ r. ⌜ r ≡ node (guideOf edition) n .selector .component ⌝ }
+    ensures { λ r. ⌜ r ≡ node (guideOf edition) n .must ⌝ }
 {
-    (terms(edition, n) / 0x1_0000_0000 % 16) as usize
+    links(edition, n) / 0x1000_0000 % 16 == 1
 }
 
-// Where the codes of the row begin among all.
-pub(crate) fn codes_from(edition: Edition, n: usize) -> usize
+// The counter.
+pub(crate) fn counter_of(edition: Edition, n: usize) -> u32
     requires { ⌜ n < length (guideOf edition) ⌝ }
-    ensures { λ r. ⌜ r ≡ length (codesOf (take n (guideOf edition))) ⌝ }
+    ensures { λ r. ⌜ r ≡ node (guideOf edition) n .counter ⌝ }
 {
-    (terms(edition, n) / 0x10_0000_0000 % 256) as usize
+    (links(edition, n) / 0x1_0000 % 0x1000) as u32
+}
+
+// The next node with the same parent, or 0.
+pub(crate) fn next_sibling(edition: Edition, n: usize) -> usize
+    requires { ⌜ n < length (guideOf edition) ⌝ }
+    ensures { λ r. ⌜ r ≡ nextSibling (guideOf edition) n ⌝ }
+{
+    (links(edition, n) / 0x100 % 256) as usize
+}
+
+// The first child, or 0.
+pub(crate) fn first_child(edition: Edition, n: usize) -> usize
+    requires { ⌜ n < length (guideOf edition) ⌝ }
+    ensures { λ r. ⌜ r ≡ firstChild (guideOf edition) n ⌝ }
+{
+    (links(edition, n) % 256) as usize
 }
 
 // How many codes the row has.
@@ -38,15 +55,39 @@ pub(crate) fn codes_count(edition: Edition, n: usize) -> usize
     requires { ⌜ n < length (guideOf edition) ⌝ }
     ensures { λ r. ⌜ r ≡ length (node (guideOf edition) n .selector .codes) ⌝ }
 {
-    (terms(edition, n) / 0x1000_0000_0000) as usize
+    (terms(edition, n) / 0x100_0000_0000_0000) as usize
 }
 
-// The limit in the parent.
-pub(crate) fn limit_of(edition: Edition, n: usize) -> u32
+// Where the codes of the row begin among all.
+pub(crate) fn codes_from(edition: Edition, n: usize) -> usize
     requires { ⌜ n < length (guideOf edition) ⌝ }
-    ensures { λ r. ⌜ r ≡ node (guideOf edition) n .limit ⌝ }
+    ensures { λ r. ⌜ r ≡ length (codesOf (take n (guideOf edition))) ⌝ }
 {
-    (terms(edition, n) % 0x10_0000) as u32
+    (terms(edition, n) / 0x1_0000_0000_0000 % 256) as usize
+}
+
+// The component of the selector, counted from 0.
+pub(crate) fn component_of(edition: Edition, n: usize) -> usize
+    requires { ⌜ n < length (guideOf edition) ⌝ }
+    ensures { λ r. ⌜ r ≡ node (guideOf edition) n .selector .component ⌝ }
+{
+    (terms(edition, n) / 0x1000_0000_0000 % 16) as usize
+}
+
+// The element of the selector, counted from 0.
+pub(crate) fn element_of(edition: Edition, n: usize) -> usize
+    requires { ⌜ n < length (guideOf edition) ⌝ }
+    ensures { λ r. ⌜ r ≡ node (guideOf edition) n .selector .element ⌝ }
+{
+    (terms(edition, n) / 0x100_0000_0000 % 16) as usize
+}
+
+// The parent.
+pub(crate) fn parent_of(edition: Edition, n: usize) -> usize
+    requires { ⌜ n < length (guideOf edition) ⌝ }
+    ensures { λ r. ⌜ r ≡ node (guideOf edition) n .parent ⌝ }
+{
+    (terms(edition, n) / 0x1000_0000 % 0x1000) as usize
 }
 
 // The number of a passed limit.
@@ -57,42 +98,10 @@ pub(crate) fn refusal_of(edition: Edition, n: usize) -> u32
     (terms(edition, n) / 0x10_0000 % 256) as u32
 }
 
-// The parent.
-pub(crate) fn parent_of(edition: Edition, n: usize) -> usize
+// The limit in the parent.
+pub(crate) fn limit_of(edition: Edition, n: usize) -> u32
     requires { ⌜ n < length (guideOf edition) ⌝ }
-    ensures { λ r. ⌜ r ≡ node (guideOf edition) n .parent ⌝ }
+    ensures { λ r. ⌜ r ≡ node (guideOf edition) n .limit ⌝ }
 {
-    (links(edition, n) % 0x1000) as usize
-}
-
-// The first child, or 0.
-pub(crate) fn first_child(edition: Edition, n: usize) -> usize
-    requires { ⌜ n < length (guideOf edition) ⌝ }
-    ensures { λ r. ⌜ r ≡ firstChild (guideOf edition) n ⌝ }
-{
-    (links(edition, n) / 0x1000 % 256) as usize
-}
-
-// The next node with the same parent, or 0.
-pub(crate) fn next_sibling(edition: Edition, n: usize) -> usize
-    requires { ⌜ n < length (guideOf edition) ⌝ }
-    ensures { λ r. ⌜ r ≡ nextSibling (guideOf edition) n ⌝ }
-{
-    (links(edition, n) / 0x10_0000 % 256) as usize
-}
-
-// The counter.
-pub(crate) fn counter_of(edition: Edition, n: usize) -> u32
-    requires { ⌜ n < length (guideOf edition) ⌝ }
-    ensures { λ r. ⌜ r ≡ node (guideOf edition) n .counter ⌝ }
-{
-    (links(edition, n) / 0x1000_0000 % 0x1000) as u32
-}
-
-// Whether the node is required.
-pub(crate) fn is_required(edition: Edition, n: usize) -> bool
-    requires { ⌜ n < length (guideOf edition) ⌝ }
-    ensures { λ r. ⌜ r ≡ node (guideOf edition) n .must ⌝ }
-{
-    links(edition, n) / 0x100_0000_0000 == 1
+    (terms(edition, n) % 0x10_0000) as u32
 }

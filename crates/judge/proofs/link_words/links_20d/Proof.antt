@@ -3,6 +3,7 @@ use native.Mathlib.Omega.{arith}
 use mathlib.Core.Path.{sym, ap}
 use Rattle.guide.specs.Placing.{lowest}
 use Rattle.guide.specs.Pricat.{pricat20d}
+use Rattle.judge.specs.Words.{packed}
 use Rattle.judge.specs.Rows.{linkWord, firstChild, nextSibling}
 use Rattle.judge.proofs.Tables.{differs-past}
 use Rattle.judge.proofs.link_words.links_20d.Statement.{statement}
@@ -13,7 +14,7 @@ past : tie.Need-returns-28
 past c = absurd (omega (arith, differs-past _ 27 (c .match .rest), c .before .pre))
 
 pub links-20d-spec : {M : Type 1} → statement M
-unfolding pricat20d linkWord firstChild nextSibling lowest
+unfolding pricat20d linkWord firstChild nextSibling lowest packed
 links-20d-spec =
     tie.close
     (tie.spec

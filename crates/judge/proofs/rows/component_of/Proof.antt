@@ -14,7 +14,7 @@ terms-requires c κs = search needs
 
 returns : tie.Need-returns
 unfolding pricat20d pricat20c termWord codesOf
-returns c = digit-at termWord (λ (g : Guide) (n : ℕ). node g n .selector .component) (λ (x : ℕ). x / 4294967296 % 16) refl refl (c .before .args .edition) (c .before .args .n) (c .before .pre) _ (c .terms .ensures)
+returns c = digit-at termWord (λ (g : Guide) (n : ℕ). node g n .selector .component) (λ (x : ℕ). x / 17592186044416 % 16) refl refl (c .before .args .edition) (c .before .args .n) (c .before .pre) _ (c .terms .ensures)
 
 pub component-of-spec : {M : Type 1} → statement M
 component-of-spec = tie.close (tie.spec terms-requires returns)

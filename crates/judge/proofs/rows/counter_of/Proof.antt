@@ -5,6 +5,7 @@ use mathlib.Core.Path.{refl}
 use Rattle.guide.specs.Nodes.{Guide, node}
 use Rattle.guide.specs.Placing.{lowest}
 use Rattle.guide.specs.Pricat.{pricat20d, pricat20c}
+use Rattle.judge.specs.Words.{packed}
 use Rattle.judge.specs.Rows.{linkWord, firstChild, nextSibling}
 use Rattle.judge.proofs.Tables.{digit-at}
 use Rattle.judge.proofs.rows.counter_of.Statement.{statement}
@@ -17,8 +18,8 @@ cast-result : tie.Need-cast-result
 cast-result c = search needs
 
 returns : tie.Need-returns
-unfolding pricat20d pricat20c linkWord firstChild nextSibling lowest
-returns c = digit-at linkWord (λ (g : Guide) (n : ℕ). node g n .counter) (λ (x : ℕ). x / 268435456 % 4096) refl refl (c .before .args .edition) (c .before .args .n) (c .before .pre) _ (c .links .ensures)
+unfolding pricat20d pricat20c linkWord firstChild nextSibling lowest packed
+returns c = digit-at linkWord (λ (g : Guide) (n : ℕ). node g n .counter) (λ (x : ℕ). x / 65536 % 4096) refl refl (c .before .args .edition) (c .before .args .n) (c .before .pre) _ (c .links .ensures)
 
 pub counter-of-spec : {M : Type 1} → statement M
 counter-of-spec = tie.close (tie.spec links-requires cast-result returns)

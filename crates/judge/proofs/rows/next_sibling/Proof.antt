@@ -4,6 +4,7 @@ use Prim.Native.Nat.{ℕ, _/_, _%_}
 use mathlib.Core.Path.{refl}
 use Rattle.guide.specs.Placing.{lowest}
 use Rattle.guide.specs.Pricat.{pricat20d, pricat20c}
+use Rattle.judge.specs.Words.{packed}
 use Rattle.judge.specs.Rows.{linkWord, firstChild, nextSibling}
 use Rattle.judge.proofs.Tables.{digit-at}
 use Rattle.judge.proofs.rows.next_sibling.Statement.{statement}
@@ -13,8 +14,8 @@ links-requires : tie.Need-links-requires
 links-requires c κs = search needs
 
 returns : tie.Need-returns
-unfolding pricat20d pricat20c linkWord firstChild nextSibling lowest
-returns c = digit-at linkWord nextSibling (λ (x : ℕ). x / 1048576 % 256) refl refl (c .before .args .edition) (c .before .args .n) (c .before .pre) _ (c .links .ensures)
+unfolding pricat20d pricat20c linkWord firstChild nextSibling lowest packed
+returns c = digit-at linkWord nextSibling (λ (x : ℕ). x / 256 % 256) refl refl (c .before .args .edition) (c .before .args .n) (c .before .pre) _ (c .links .ensures)
 
 pub next-sibling-spec : {M : Type 1} → statement M
 next-sibling-spec = tie.close (tie.spec links-requires returns)
