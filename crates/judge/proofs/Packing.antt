@@ -30,7 +30,7 @@ pack-next
 unfolding packed
 pack-next d a e x r h l first rest = rw (first, rest, part-next d a e h l)
 
--- the part from a up to e, of one, two or three bytes
+-- the part from a up to e, of one or two bytes, and of three
 module _ (d : List ℕ) (a e : ℕ) (inside : e ≤ length d) (x : ℕ) (first : x ≡ getD d a 0) where
   pub pack-one : e - a ≡ 1 → x + 256 ≡ packed (part a e d)
   pack-one h = pack-next d a e x 1 (omega arith) inside first (pack-none d (a + 1) e (omega arith))
@@ -41,12 +41,14 @@ module _ (d : List ℕ) (a e : ℕ) (inside : e ≤ length d) (x : ℕ) (first :
         pack-next d a e x (y + 256) (omega arith) inside first
         (pack-next d (a + 1) e y 1 (omega arith) inside second (pack-none d (a + 1 + 1) e (omega arith)))
 
-    pub pack-three : (z : ℕ) → z ≡ getD d (a + 2) 0 → e - a ≡ 3 → x + 256 * (y + 256 * (z + 256)) ≡ packed (part a e d)
-    pack-three z third h =
-        let two : a + 2 ≡ a + 1 + 1 = omega arith in
-        pack-next d a e x (y + 256 * (z + 256)) (omega arith) inside first
-        (pack-next d (a + 1) e y (z + 256) (omega arith) inside second
-        (pack-next d (a + 1 + 1) e z 1 (omega arith) inside (third ∙ ap (λ (i : ℕ). getD d i 0) two) (pack-none d (a + 1 + 1 + 1) e (omega arith))))
+pub pack-three
+    : (d : List ℕ) (a e : ℕ) → e ≤ length d → e - a ≡ 3 → packed (getD d a 0 ∷ getD d (a + 1) 0 ∷ getD d (a + 2) 0 ∷ []) ≡ packed (part a e d)
+unfolding packed
+pack-three d a e inside h =
+    let two : a + 2 ≡ a + 1 + 1 = omega arith in
+    pack-next d a e (getD d a 0) _ (omega arith) inside refl
+    (pack-next d (a + 1) e (getD d (a + 1) 0) _ (omega arith) inside refl
+    (pack-next d (a + 1 + 1) e (getD d (a + 2) 0) 1 (omega arith) inside (ap (λ (i : ℕ). getD d i 0) two) (pack-none d (a + 1 + 1 + 1) e (omega arith))))
 
 -- the tag of the segment from a up to e, where z is that end or the delivery's
 module _ (d : List ℕ) (a e z : ℕ) (limit : z ≡ min e (length d)) where

@@ -1,10 +1,10 @@
 -- What the code needs of the tables: their sizes, and that a cell of a column is a number of its row.
-use Prim.Native.Nat.{ℕ, _+_, _≤_, _<_}
-use mathlib.Core.Path.{_≡_, refl, sym, _∙_, ap}
+use Prim.Native.Nat.{ℕ, zero, suc, _≤_, _<_}
+use mathlib.Core.Path.{_≡_, refl, sym, _∙_, ap, subst}
 use mathlib.Core.Bool.{Bool, true, false}
+use mathlib.Core.List.{List}
 use native.Mathlib.Omega.{arith}
-use lib.ListN.{length, getD, List·getD-append}
-use lib.Seq.{getD-append-add}
+use lib.ListN.{length, getD}
 use lib.Dec.{lit≤, eqb}
 use Rattle.guide.specs.Nodes.{Guide, nobody, node}
 use Rattle.guide.specs.Pricat.{pricat20d, pricat20c}
@@ -13,7 +13,7 @@ use Rattle.judge.specs.declared.editions.Edition.the-variants.{D, C}
 use Rattle.judge.specs.Editions.{guideOf}
 use Rattle.guide.specs.Columns.{values}
 use Rattle.guide.proofs.Columns.{value}
-use Rattle.judge.specs.Rows.{flag, codesOf, startOf, column}
+use Rattle.judge.specs.Rows.{flag, codesOf}
 
 -- every table has fewer rows than there are counts
 pub table-fits : (e : Edition) → length (guideOf e) ≤ 96
@@ -27,36 +27,40 @@ unfolding pricat20d pricat20c
 root-parent D = refl
 root-parent C = refl
 
--- a row of the edition's table has a place in the columns
-pub place-in : (e f : Edition) → e ≡ f → (n i : ℕ) → n < length (guideOf e) → i ≡ startOf f + n → (i ≡ startOf e + n) × (i < 52)
-unfolding pricat20d pricat20c
-place-in e f q n i row a = (a ∙ ap (λ (x : Edition). startOf x + n) (sym q), go f (rw q at row) a)
-  where
-    go : (x : Edition) → n < length (guideOf x) → i ≡ startOf x + n → i < 52
-    go D h b = omega arith
-    go C h b = omega arith
+-- a digit of a row's word is a field of the row, where it is so, computed, in all rows of both tables
+module _ (word field : Guide → ℕ → ℕ) (digit : ℕ → ℕ) where
+  abbrev Right : Guide → Type 0
+  Right g = values (λ (n : ℕ). digit (word g n)) 0 (length g) ≡ values (field g) 0 (length g)
 
--- a cell of a column is what the column is of the edition's table
-module _ (f : Guide → ℕ → ℕ) where
-  pub column-at : (e : Edition) (n i : ℕ) → n < length (guideOf e) → i ≡ startOf e + n → getD (column f) i 0 ≡ f (guideOf e) n
-  unfolding pricat20d pricat20c
-  column-at D n i row e =
-      let q : i ≡ n = omega arith in
-      rw q (List·getD-append (values (f pricat20d) 0 27) (values (f pricat20c) 0 25) 0 n row ∙ value (f pricat20d) 27 n row)
-  column-at C n i row e =
-      rw e (getD-append-add (values (f pricat20d) 0 27) (values (f pricat20c) 0 25) n 0 ∙ value (f pricat20c) 25 n row)
+  right-at : (g : Guide) → Right g → (n : ℕ) → n < length g → digit (word g n) ≡ field g n
+  right-at g q n row = sym (value (λ (m : ℕ). digit (word g m)) (length g) n row) ∙ ap (λ (xs : List ℕ). getD xs n 0) q ∙ value (field g) (length g) n row
+
+  pub digit-at
+      : Right pricat20d → Right pricat20c → (e : Edition) (n : ℕ) → n < length (guideOf e) → (w : ℕ) → w ≡ word (guideOf e) n
+      → digit w ≡ field (guideOf e) n
+  digit-at p q D n row w h = ap digit h ∙ right-at pricat20d p n row
+  digit-at p q C n row w h = ap digit h ∙ right-at pricat20c q n row
+
+-- a number that is none of the first k is k or more
+abbrev pub Differs : ℕ → ℕ → Type 0
+Differs i zero = Unit {0}
+Differs i (suc k) = Differs i k × (i ≡ k → ⊥)
+
+pub differs-past : (i k : ℕ) → Differs i k → k ≤ i
+differs-past i zero d = omega arith
+differs-past i (suc k) d =
+    let l = differs-past i k (d .0) in
+    let z : i ≡ k → ⊥ = d .1 in
+    omega arith
+
+-- a row's place in the table of its own edition
+pub row-in : (e f : Edition) → e ≡ f → (n : ℕ) → n < length (guideOf e) → n < length (guideOf f)
+row-in e f q n row = subst (λ (x : Edition). n < length (guideOf x)) q row
 
 -- the status as a number
 pub flag-one : (b : Bool) → eqb (flag b) 1 ≡ b
 flag-one true = refl
 flag-one false = refl
 
--- the codes of g, where g is the table of the edition e
-module _ (e : Edition) (g : Guide) (same : guideOf e ≡ g) (j : ℕ) where
-  pub code-inside : j < length (codesOf (guideOf e)) → j < length (codesOf g)
-  code-inside h =
-      let l : length (codesOf (guideOf e)) ≡ length (codesOf g) = ap (λ (t : Guide). length (codesOf t)) same in
-      omega arith
-
-  pub code-at : getD (codesOf g) j 0 ≡ getD (codesOf (guideOf e)) j 0
-  code-at = ap (λ (t : Guide). getD (codesOf t) j 0) (sym same)
+pub code-in : (e f : Edition) → e ≡ f → (j : ℕ) → j < length (codesOf (guideOf e)) → j < length (codesOf (guideOf f))
+code-in e f q j inside = subst (λ (x : Edition). j < length (codesOf (guideOf x))) q inside

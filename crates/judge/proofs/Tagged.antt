@@ -6,7 +6,6 @@ use mathlib.Core.List.{List, [], _∷_}
 use native.Mathlib.Omega.{arith}
 use lib.ListN.{length, List·getD-eq-default}
 use lib.Dec.{eqb}
-use Rattle.cut.specs.Bytes.{part}
 use Rattle.element.specs.Plain.{same}
 use Rattle.guide.specs.Nodes.{Node, message, node}
 use Rattle.guide.specs.Pricat.{pricat20d, pricat20c}
@@ -44,6 +43,6 @@ module _ (e : Edition) (n a b c : ℕ) where
 
   pub tag-same
       : n < length (guideOf e) → a < 256 → b < 256 → c < 256 → (t w : ℕ) → t ≡ packed (node (guideOf e) n .tag)
-      → w ≡ packed (part 0 3 (a ∷ b ∷ c ∷ [])) → eqb t w ≡ isTag (guideOf e) (a ∷ b ∷ c ∷ []) n
-  unfolding isTag part
+      → w ≡ packed (a ∷ b ∷ c ∷ []) → eqb t w ≡ isTag (guideOf e) (a ∷ b ∷ c ∷ []) n
+  unfolding isTag
   tag-same h k l m t w p q = ap₂ eqb p q ∙ packed-same _ _ (tag-bytes e n h) (three-bytes a b c k l m)

@@ -1,15 +1,11 @@
--- The tables as columns of numbers: what the code holds of them. No public promise cites these.
-use Prim.Native.Nat.{ℕ, suc, _-_}
+-- The tables as numbers: what the code holds of them. No public promise cites these.
+use Prim.Native.Nat.{ℕ, suc, _+_, _*_, _-_}
 use mathlib.Core.Bool.{Bool, true, false}
 use mathlib.Core.List.{List, [], _∷_, _++_, map}
-use lib.ListN.{length}
+use lib.ListN.{length, take}
 use lib.Dec.{eqb}
 use Rattle.guide.specs.Nodes.{Guide, node}
 use Rattle.guide.specs.Placing.{lowest, firstNode}
-use Rattle.guide.specs.Pricat.{pricat20d, pricat20c}
-use Rattle.guide.specs.Columns.{values}
-use Rattle.judge.specs.declared.editions.Edition.{Edition}
-use Rattle.judge.specs.declared.editions.Edition.the-variants.{D, C}
 use Rattle.judge.specs.Words.{packed}
 
 abbrev pub flag : Bool → ℕ
@@ -32,11 +28,17 @@ firstChild g p = firstNode g (childOf g p)
 unfoldable pub nextSibling : Guide → ℕ → ℕ
 nextSibling g n = lowest (childOf g (node g n .parent)) (suc n) (length g - suc n)
 
--- the columns hold the rows of 2.0d, then those of 2.0c: where an edition's begin
-abbrev pub startOf : Edition → ℕ
-startOf D = 0
-startOf C = 27
+-- a row as two words of the code, field above field: what a search reads of node n, and what else there is of it
+unfoldable pub linkWord : Guide → ℕ → ℕ
+linkWord g n = firstChild g n + 256 * (nextSibling g n + 256 * (node g n .counter + 4096 * (flag (node g n .must) + 16 * packed (node g n .tag))))
 
--- a column: what f is of each row
-abbrev pub column : (Guide → ℕ → ℕ) → List ℕ
-column f = values (f pricat20d) 0 (length pricat20d) ++ values (f pricat20c) 0 (length pricat20c)
+unfoldable pub termWord : Guide → ℕ → ℕ
+termWord g n =
+    node g n .limit
+    + 1048576
+    * (node g n .refusal
+    + 256
+    * (node g n .parent
+    + 4096
+    * (node g n .selector .element
+    + 16 * (node g n .selector .component + 16 * (length (codesOf (take n g)) + 256 * length (node g n .selector .codes))))))

@@ -1,17 +1,15 @@
 // Judges one message by the guide of an edition: placing its segments.
-mod code_columns;
+mod code_words;
 mod counting;
 mod editions;
 mod lacking;
-mod limit_columns;
-mod link_columns;
+mod link_words;
 mod matching;
 mod placing;
 mod rows;
 mod seeking;
-mod selector_columns;
 mod tags;
-mod widths;
+mod term_words;
 mod words;
 
 pub use editions::Edition;

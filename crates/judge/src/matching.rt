@@ -1,6 +1,6 @@
 // Whether a node takes a segment, by tag and code.
+use crate::code_words::code;
 use crate::editions::Edition;
-use crate::rows::code;
 use crate::rows::codes_count;
 use crate::rows::codes_from;
 use crate::rows::component_of;

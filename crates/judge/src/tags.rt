@@ -2,7 +2,7 @@
 use crate::editions::Edition;
 use crate::editions::rows_of;
 use crate::rows::tag_of;
-use crate::words::pack;
+use crate::words::three;
 ghost use mathlib.Core.List.{[], _∷_};
 ghost use mathlib.Core.Path.{_≡_};
 ghost use Rattle.guide.specs.Sheet.{isTag};
@@ -15,6 +15,5 @@ pub fn has_tag(edition: Edition, n: usize, a: u8, b: u8, c: u8) -> bool
     if rows_of(edition) <= n {
         return false;
     }
-    let word = [a, b, c];
-    tag_of(edition, n) == pack(&word, 0, 3)
+    tag_of(edition, n) == three(a, b, c)
 }

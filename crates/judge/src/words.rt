@@ -2,6 +2,7 @@
 use cut::Syntax;
 ghost use Prim.Native.Nat.{_+_, _<_, _≤_};
 ghost use mathlib.Core.Path.{_≡_};
+ghost use mathlib.Core.List.{[], _∷_};
 ghost use lib.ListN.{length, take};
 ghost use Rattle.cut.specs.Bytes.{part};
 ghost use Rattle.guide.specs.Views.{viewOf};
@@ -11,6 +12,13 @@ fn wide(x: u8) -> u32
     ensures { λ r. ⌜ (r ≡ x) × (r < 256) ⌝ }
 {
     x as u32
+}
+
+// A word of three bytes.
+pub(crate) fn three(a: u8, b: u8, c: u8) -> u32
+    ensures { λ r. ⌜ r ≡ packed (a ∷ b ∷ c ∷ []) ⌝ }
+{
+    wide(a) + 256 * (wide(b) + 256 * (wide(c) + 256))
 }
 
 // The bytes from a up to e, at most three.
@@ -30,8 +38,7 @@ pub(crate) fn pack(d: &[u8], a: usize, e: usize) -> u32
     if more == 2 {
         return first + 256 * (second + 256);
     }
-    let third = wide(d[a + 2]);
-    first + 256 * (second + 256 * (third + 256))
+    three(d[a], d[a + 1], d[a + 2])
 }
 
 // The tag of the segment from start up to end: its first three bytes, or fewer where it is shorter.

@@ -1,27 +1,21 @@
--- `judge::rows::codes_from` meets its contract: its column is, computed, the one that the guides give. Assumes nothing.
+-- `judge::rows::codes_from` meets its contract: its digit is, computed, the field in every row of both guides. Assumes nothing.
 use borrow.Author.Needs.{needs}
-use mathlib.Core.Path.{_∙_}
-use Prim.Native.Nat.{ℕ}
+use Prim.Native.Nat.{ℕ, _/_, _%_}
+use mathlib.Core.Path.{refl}
 use lib.ListN.{length, take}
 use Rattle.guide.specs.Nodes.{Guide}
 use Rattle.guide.specs.Pricat.{pricat20d, pricat20c}
-use Rattle.judge.specs.Rows.{codesOf}
-use Rattle.judge.proofs.Tables.{column-at}
+use Rattle.judge.specs.Rows.{termWord, codesOf}
+use Rattle.judge.proofs.Tables.{digit-at}
 use Rattle.judge.proofs.rows.codes_from.Statement.{statement}
 use Rattle.judge.proofs.rows.codes_from.Tie as tie
 
-place-of-requires : tie.Need-place-of-requires
-place-of-requires c κs = search needs
-
-array-read-of-u8 : tie.Need-array-read-of-u8
-array-read-of-u8 c = search needs
-
-of-u8-requires : tie.Need-of-u8-requires
-of-u8-requires c κs = search needs
+terms-requires : tie.Need-terms-requires
+terms-requires c κs = search needs
 
 returns : tie.Need-returns
-unfolding pricat20d pricat20c codesOf
-returns c = c .of-u8 .ensures ∙ column-at (λ (g : Guide) (n : ℕ). length (codesOf (take n g))) (c .before .before .args .edition) (c .before .before .args .n) _ (c .before .before .pre) (c .before .place-of .ensures .0)
+unfolding pricat20d pricat20c termWord codesOf
+returns c = digit-at termWord (λ (g : Guide) (n : ℕ). length (codesOf (take n g))) (λ (x : ℕ). x / 281474976710656 % 256) refl refl (c .before .args .edition) (c .before .args .n) (c .before .pre) _ (c .terms .ensures)
 
 pub codes-from-spec : {M : Type 1} → statement M
-codes-from-spec = tie.close (tie.spec place-of-requires array-read-of-u8 of-u8-requires returns)
+codes-from-spec = tie.close (tie.spec terms-requires returns)

@@ -1,30 +1,25 @@
--- `judge::rows::counter_of` meets its contract: its column is, computed, the one that the guides give. Assumes nothing.
+-- `judge::rows::counter_of` meets its contract: its digit is, computed, the field in every row of both guides. Assumes nothing.
 use borrow.Author.Needs.{needs}
-use mathlib.Core.Path.{_∙_}
-use Prim.Native.Nat.{ℕ}
+use Prim.Native.Nat.{ℕ, _/_, _%_}
+use mathlib.Core.Path.{refl}
 use Rattle.guide.specs.Nodes.{Guide, node}
+use Rattle.guide.specs.Placing.{lowest}
 use Rattle.guide.specs.Pricat.{pricat20d, pricat20c}
-use Rattle.judge.proofs.Tables.{column-at}
+use Rattle.judge.specs.Words.{packed}
+use Rattle.judge.specs.Rows.{linkWord, firstChild, nextSibling}
+use Rattle.judge.proofs.Tables.{digit-at}
 use Rattle.judge.proofs.rows.counter_of.Statement.{statement}
 use Rattle.judge.proofs.rows.counter_of.Tie as tie
 
-place-of-requires : tie.Need-place-of-requires
-place-of-requires c κs = search needs
+links-requires : tie.Need-links-requires
+links-requires c κs = search needs
 
-mul-number-of : tie.Need-mul-number-of
-mul-number-of c = search needs
-
-array-read-number-of : tie.Need-array-read-number-of
-array-read-number-of c = search needs
-
-number-of-requires : tie.Need-number-of-requires
-number-of-requires c κs = search needs
+cast-result : tie.Need-cast-result
+cast-result c = search needs
 
 returns : tie.Need-returns
-unfolding pricat20d pricat20c
-returns c = c .number-of .ensures ∙ column-at (λ (g : Guide) (n : ℕ). node g n .counter) (c .before .before .args .edition) (c .before .before .args .n) _ (c .before .before .pre) (c .before .place-of .ensures .0)
+unfolding pricat20d pricat20c linkWord firstChild nextSibling lowest packed
+returns c = digit-at linkWord (λ (g : Guide) (n : ℕ). node g n .counter) (λ (x : ℕ). x / 65536 % 4096) refl refl (c .before .args .edition) (c .before .args .n) (c .before .pre) _ (c .links .ensures)
 
 pub counter-of-spec : {M : Type 1} → statement M
-counter-of-spec =
-    tie.close
-    (tie.spec place-of-requires mul-number-of array-read-number-of number-of-requires returns)
+counter-of-spec = tie.close (tie.spec links-requires cast-result returns)

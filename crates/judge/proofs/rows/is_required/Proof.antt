@@ -1,24 +1,23 @@
--- `judge::rows::is_required` meets its contract: its column is, computed, the one that the guides give. Assumes nothing.
+-- `judge::rows::is_required` meets its contract: its digit is, computed, the field in every row of both guides. Assumes nothing.
 use borrow.Author.Needs.{needs}
-use mathlib.Core.Path.{_∙_, ap}
-use Prim.Native.Nat.{ℕ}
+use Prim.Native.Nat.{ℕ, _/_, _%_}
+use mathlib.Core.Path.{refl, _∙_, ap}
 use lib.Dec.{eqb}
 use Rattle.guide.specs.Nodes.{Guide, node}
+use Rattle.guide.specs.Placing.{lowest}
 use Rattle.guide.specs.Pricat.{pricat20d, pricat20c}
-use Rattle.judge.specs.Rows.{flag}
-use Rattle.judge.proofs.Tables.{column-at, flag-one}
+use Rattle.judge.specs.Words.{packed}
+use Rattle.judge.specs.Rows.{linkWord, firstChild, nextSibling, flag}
+use Rattle.judge.proofs.Tables.{digit-at, flag-one}
 use Rattle.judge.proofs.rows.is_required.Statement.{statement}
 use Rattle.judge.proofs.rows.is_required.Tie as tie
 
-place-of-requires : tie.Need-place-of-requires
-place-of-requires c κs = search needs
-
-array-read-result : tie.Need-array-read-result
-array-read-result c = search needs
+links-requires : tie.Need-links-requires
+links-requires c κs = search needs
 
 returns : tie.Need-returns
-unfolding pricat20d pricat20c
-returns c = ap (λ (x : ℕ). eqb x 1) (column-at (λ (g : Guide) (n : ℕ). flag (node g n .must)) (c .before .args .edition) (c .before .args .n) _ (c .before .pre) (c .place-of .ensures .0)) ∙ flag-one _
+unfolding pricat20d pricat20c linkWord firstChild nextSibling lowest packed
+returns c = ap (λ (x : ℕ). eqb x 1) (digit-at linkWord (λ (g : Guide) (n : ℕ). flag (node g n .must)) (λ (x : ℕ). x / 268435456 % 16) refl refl (c .before .args .edition) (c .before .args .n) (c .before .pre) _ (c .links .ensures)) ∙ flag-one _
 
 pub is-required-spec : {M : Type 1} → statement M
-is-required-spec = tie.close (tie.spec place-of-requires array-read-result returns)
+is-required-spec = tie.close (tie.spec links-requires returns)

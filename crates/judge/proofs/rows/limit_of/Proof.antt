@@ -1,24 +1,23 @@
--- `judge::rows::limit_of` meets its contract: its column is, computed, the one that the guides give. Assumes nothing.
+-- `judge::rows::limit_of` meets its contract: its digit is, computed, the field in every row of both guides. Assumes nothing.
 use borrow.Author.Needs.{needs}
-use Prim.Native.Nat.{ℕ}
+use Prim.Native.Nat.{ℕ, _%_}
+use mathlib.Core.Path.{refl}
 use Rattle.guide.specs.Nodes.{Guide, node}
 use Rattle.guide.specs.Pricat.{pricat20d, pricat20c}
-use Rattle.judge.proofs.Tables.{column-at}
+use Rattle.judge.specs.Rows.{termWord, codesOf}
+use Rattle.judge.proofs.Tables.{digit-at}
 use Rattle.judge.proofs.rows.limit_of.Statement.{statement}
 use Rattle.judge.proofs.rows.limit_of.Tie as tie
 
-place-of-requires : tie.Need-place-of-requires
-place-of-requires c κs = search needs
+terms-requires : tie.Need-terms-requires
+terms-requires c κs = search needs
 
-mul-result : tie.Need-mul-result
-mul-result c = search needs
-
-array-read-result : tie.Need-array-read-result
-array-read-result c = search needs
+cast-result : tie.Need-cast-result
+cast-result c = search needs
 
 returns : tie.Need-returns
-unfolding pricat20d pricat20c
-returns c = column-at (λ (g : Guide) (n : ℕ). node g n .limit) (c .before .args .edition) (c .before .args .n) _ (c .before .pre) (c .place-of .ensures .0)
+unfolding pricat20d pricat20c termWord codesOf
+returns c = digit-at termWord (λ (g : Guide) (n : ℕ). node g n .limit) (λ (x : ℕ). x % 1048576) refl refl (c .before .args .edition) (c .before .args .n) (c .before .pre) _ (c .terms .ensures)
 
 pub limit-of-spec : {M : Type 1} → statement M
-limit-of-spec = tie.close (tie.spec place-of-requires mul-result array-read-result returns)
+limit-of-spec = tie.close (tie.spec terms-requires cast-result returns)

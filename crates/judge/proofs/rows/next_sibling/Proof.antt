@@ -1,25 +1,21 @@
--- `judge::rows::next_sibling` meets its contract: its column is, computed, the one that the guides give. Assumes nothing.
+-- `judge::rows::next_sibling` meets its contract: its digit is, computed, the field in every row of both guides. Assumes nothing.
 use borrow.Author.Needs.{needs}
-use mathlib.Core.Path.{_∙_}
-use Rattle.guide.specs.Pricat.{pricat20d, pricat20c}
+use Prim.Native.Nat.{ℕ, _/_, _%_}
+use mathlib.Core.Path.{refl}
 use Rattle.guide.specs.Placing.{lowest}
-use Rattle.judge.specs.Rows.{nextSibling}
-use Rattle.judge.proofs.Tables.{column-at}
+use Rattle.guide.specs.Pricat.{pricat20d, pricat20c}
+use Rattle.judge.specs.Words.{packed}
+use Rattle.judge.specs.Rows.{linkWord, firstChild, nextSibling}
+use Rattle.judge.proofs.Tables.{digit-at}
 use Rattle.judge.proofs.rows.next_sibling.Statement.{statement}
 use Rattle.judge.proofs.rows.next_sibling.Tie as tie
 
-place-of-requires : tie.Need-place-of-requires
-place-of-requires c κs = search needs
-
-array-read-of-u8 : tie.Need-array-read-of-u8
-array-read-of-u8 c = search needs
-
-of-u8-requires : tie.Need-of-u8-requires
-of-u8-requires c κs = search needs
+links-requires : tie.Need-links-requires
+links-requires c κs = search needs
 
 returns : tie.Need-returns
-unfolding pricat20d pricat20c nextSibling lowest
-returns c = c .of-u8 .ensures ∙ column-at nextSibling (c .before .before .args .edition) (c .before .before .args .n) _ (c .before .before .pre) (c .before .place-of .ensures .0)
+unfolding pricat20d pricat20c linkWord firstChild nextSibling lowest packed
+returns c = digit-at linkWord nextSibling (λ (x : ℕ). x / 256 % 256) refl refl (c .before .args .edition) (c .before .args .n) (c .before .pre) _ (c .links .ensures)
 
 pub next-sibling-spec : {M : Type 1} → statement M
-next-sibling-spec = tie.close (tie.spec place-of-requires array-read-of-u8 of-u8-requires returns)
+next-sibling-spec = tie.close (tie.spec links-requires returns)

@@ -1,25 +1,25 @@
--- `judge::rows::tag_of` meets its contract: its column is, computed, the one that the guides give. Assumes nothing.
+-- `judge::rows::tag_of` meets its contract: its digit is, computed, the field in every row of both guides. Assumes nothing.
 use borrow.Author.Needs.{needs}
-use Prim.Native.Nat.{ℕ}
+use Prim.Native.Nat.{ℕ, _/_}
+use mathlib.Core.Path.{refl}
 use Rattle.guide.specs.Nodes.{Guide, node}
+use Rattle.guide.specs.Placing.{lowest}
 use Rattle.guide.specs.Pricat.{pricat20d, pricat20c}
 use Rattle.judge.specs.Words.{packed}
-use Rattle.judge.proofs.Tables.{column-at}
+use Rattle.judge.specs.Rows.{linkWord, firstChild, nextSibling}
+use Rattle.judge.proofs.Tables.{digit-at}
 use Rattle.judge.proofs.rows.tag_of.Statement.{statement}
 use Rattle.judge.proofs.rows.tag_of.Tie as tie
 
-place-of-requires : tie.Need-place-of-requires
-place-of-requires c κs = search needs
+links-requires : tie.Need-links-requires
+links-requires c κs = search needs
 
-mul-result : tie.Need-mul-result
-mul-result c = search needs
-
-array-read-result : tie.Need-array-read-result
-array-read-result c = search needs
+cast-result : tie.Need-cast-result
+cast-result c = search needs
 
 returns : tie.Need-returns
-unfolding pricat20d pricat20c packed
-returns c = column-at (λ (g : Guide) (n : ℕ). packed (node g n .tag)) (c .before .args .edition) (c .before .args .n) _ (c .before .pre) (c .place-of .ensures .0)
+unfolding pricat20d pricat20c linkWord firstChild nextSibling lowest packed
+returns c = digit-at linkWord (λ (g : Guide) (n : ℕ). packed (node g n .tag)) (λ (x : ℕ). x / 4294967296) refl refl (c .before .args .edition) (c .before .args .n) (c .before .pre) _ (c .links .ensures)
 
 pub tag-of-spec : {M : Type 1} → statement M
-tag-of-spec = tie.close (tie.spec place-of-requires mul-result array-read-result returns)
+tag-of-spec = tie.close (tie.spec links-requires cast-result returns)

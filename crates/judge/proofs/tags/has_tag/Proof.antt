@@ -16,25 +16,14 @@ returns c =
 tag-of-requires : tie.Need-tag-of-requires
 tag-of-requires c κs = search needs
 
-slice-aggregate-pack : tie.Need-slice-aggregate-pack
-slice-aggregate-pack c = search needs
-
-pack-requires : tie.Need-pack-requires
-pack-requires c κs = search needs
+three-requires : tie.Need-three-requires
+three-requires c κs = search needs
 
 returns-2 : tie.Need-returns-2
 returns-2 c =
-    let tag = c .before .before in
-    let a = tag .before .before .before .args in
-    tag-same (a .edition) (a .n) (a .a) (a .b) (a .c) (search needs) (search needs) (search needs) (search needs) _ _ (tag .tag-of .ensures) (c .pack .ensures)
+    let a = c .before .before .before .before .args in
+    tag-same (a .edition) (a .n) (a .a) (a .b) (a .c) (search needs) (search needs) (search needs) (search needs) _ _ (c .before .tag-of .ensures) (c .three .ensures)
 
 pub has-tag-spec : {M : Type 1} → statement M
 has-tag-spec =
-    tie.close
-    (tie.spec
-    rows-of-requires
-    returns
-    tag-of-requires
-    slice-aggregate-pack
-    pack-requires
-    returns-2)
+    tie.close (tie.spec rows-of-requires returns tag-of-requires three-requires returns-2)

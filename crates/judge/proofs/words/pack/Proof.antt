@@ -1,6 +1,7 @@
 -- `judge::words::pack` meets its contract: one return for each number of bytes. Assumes nothing.
 use borrow.Author.Needs.{needs}
 use native.Mathlib.Omega.{arith}
+use mathlib.Core.Path.{_∙_}
 use Rattle.judge.proofs.Packing.{pack-none, pack-one, pack-two, pack-three}
 use Rattle.judge.proofs.words.pack.Statement.{statement}
 use Rattle.judge.proofs.words.pack.Tie as tie
@@ -49,35 +50,28 @@ returns-3 c =
     pack-two (start .args .d .now) (start .args .a) (start .args .e) (start .pre .0) _ (c .before .before .before .before .wide .ensures .0)
     _ (c .before .wide2 .ensures .0) (c .if3 .taken)
 
-add-wide-2 : tie.Need-add-wide-2
-add-wide-2 c = search needs
+shared-slice-read-three : tie.Need-shared-slice-read-three
+shared-slice-read-three c = search needs
 
-shared-slice-read-wide-3 : tie.Need-shared-slice-read-wide-3
-shared-slice-read-wide-3 c = search needs
+add-three : tie.Need-add-three
+add-three c = search needs
 
-wide-requires-3 : tie.Need-wide-requires-3
-wide-requires-3 c κs = search needs
+shared-slice-read-three-2 : tie.Need-shared-slice-read-three-2
+shared-slice-read-three-2 c = search needs
 
-add-result-4 : tie.Need-add-result-4
-add-result-4 c = search needs
+add-three-2 : tie.Need-add-three-2
+add-three-2 c = search needs
 
-mul-result-2 : tie.Need-mul-result-2
-mul-result-2 c = search needs
+shared-slice-read-three-3 : tie.Need-shared-slice-read-three-3
+shared-slice-read-three-3 c = search needs
 
-add-result-5 : tie.Need-add-result-5
-add-result-5 c = search needs
-
-mul-result-3 : tie.Need-mul-result-3
-mul-result-3 c = search needs
-
-add-result-6 : tie.Need-add-result-6
-add-result-6 c = search needs
+three-requires : tie.Need-three-requires
+three-requires c κs = search needs
 
 returns-4 : tie.Need-returns-4
 returns-4 c =
-    let start = c .before .before .before .before .before .before .before .before .before .before in
-    pack-three (start .args .d .now) (start .args .a) (start .args .e) (start .pre .0) _ (c .before .before .before .before .before .before .wide .ensures .0)
-    _ (c .before .before .before .wide2 .ensures .0) _ (c .wide3 .ensures .0) (omega arith)
+    let start = c .before .before .before .before .before .before .before .before .before .before .before .before in
+    c .three .ensures ∙ pack-three (start .args .d .now) (start .args .a) (start .args .e) (start .pre .0) (omega arith)
 
 pub pack-spec : {M : Type 1} → statement M
 pack-spec =
@@ -96,12 +90,10 @@ pack-spec =
     mul-result
     add-result-3
     returns-3
-    add-wide-2
-    shared-slice-read-wide-3
-    wide-requires-3
-    add-result-4
-    mul-result-2
-    add-result-5
-    mul-result-3
-    add-result-6
+    shared-slice-read-three
+    add-three
+    shared-slice-read-three-2
+    add-three-2
+    shared-slice-read-three-3
+    three-requires
     returns-4)
