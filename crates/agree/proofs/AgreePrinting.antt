@@ -19,7 +19,7 @@ use Rattle.element.specs.declared.cursor.Cursor.{Cursor}
 use Rattle.element.specs.declared.cursor.Visit.the-variants.{At, Nothing}
 use Rattle.element.proofs.ComponentFace.{rest-new, visited, nothing-left}
 use Rattle.agree.specs.AgreeParts.{partIn, headingIn}
-use Rattle.agree.specs.AgreePrints.{mixedUnless, namedBy, printBytes, printComponents, printElements, printSegment, printIn, printOf}
+use Rattle.agree.specs.AgreePrints.{mixedBy, mixedUnless, namedBy, printBytes, printComponents, printElements, printSegment, printIn, printOf}
 use Rattle.agree.specs.declared.agree_headings.Head.{Head}
 
 -- one byte of a component
@@ -112,8 +112,8 @@ module _ (y : Syntax) (d : List ℕ) (s : Span) (a : ℕ) where
 
 -- the parts of a position, one after the other
 pub head-print
-    : (y : Syntax) (d : List ℕ) (h : Head) (a b r : ℕ) → a ≡ printSegment y 1 (part (h .lin .start) (h .lin .end) d) 0 → b ≡ printIn y (partIn (h .pia) d) a
-    → r ≡ printIn y (partIn (h .imd) d) b → r ≡ printOf y (headingIn h d)
+    : (y : Syntax) (d : List ℕ) (h : Head) (a b c r : ℕ) → a ≡ printSegment y 1 (part (h .lin .start) (h .lin .end) d) 0 → b ≡ printIn y (partIn (h .pia) d) a
+    → c ≡ printIn y (partIn (h .imd) d) b → r ≡ mixedBy c 0 0 → r ≡ printOf y (headingIn h d)
 unfolding printOf headingIn
-head-print y d h a b r k l m =
-    m ∙ ap (λ (z : ℕ). printIn y (partIn (h .imd) d) z) (l ∙ ap (λ (z : ℕ). printIn y (partIn (h .pia) d) z) k)
+head-print y d h a b c r k l m n =
+    n ∙ ap (λ (z : ℕ). mixedBy z 0 0) (m ∙ ap (λ (z : ℕ). printIn y (partIn (h .imd) d) z) (l ∙ ap (λ (z : ℕ). printIn y (partIn (h .pia) d) z) k))

@@ -10,7 +10,7 @@ use Rattle.agree.specs.Agreement.{Heading}
 
 -- the print a, and then a byte x of the component that w names
 unfoldable pub mixedBy : ℕ → ℕ → ℕ → ℕ
-mixedBy a w x = (a * 16777619 + w * 256 + x) % 4294967291
+mixedBy a w x = (a * 2654435769 + w * 256 + x) % 4294967296
 
 -- the same unless the byte is a release mark
 unfoldable pub mixedUnless : Bool → ℕ → ℕ → ℕ → ℕ
@@ -46,4 +46,4 @@ printIn y (s ∷ ss) a = printIn y ss (printSegment y 0 s a)
 
 -- the print of a position: "LIN (without its number), PIA and IMD"
 unfoldable pub printOf : Syntax → Heading → ℕ
-printOf y h = printIn y (h .imd) (printIn y (h .pia) (printSegment y 1 (h .lin) 0))
+printOf y h = mixedBy (printIn y (h .imd) (printIn y (h .pia) (printSegment y 1 (h .lin) 0))) 0 0

@@ -16,11 +16,11 @@ ghost use Rattle.element.specs.Plain.{decoded};
 ghost use Rattle.agree.specs.AgreeParts.{partIn, headingIn};
 ghost use Rattle.agree.specs.AgreePrints.{mixedBy, mixedUnless, namedBy, printBytes, printSegment, printIn, printOf};
 
-// The divisor is the greatest prime below 2^32.
+// The factor is odd and near 2^32 divided by the golden ratio, so that the upper half of the print depends on every byte but the last.
 pub(crate) fn mixed(a: u32, w: u8, x: u8) -> u32
     ensures { λ r. ⌜ r ≡ mixedBy a w x ⌝ }
 {
-    (((a as u64) * 16777619 + (w as u64) * 256 + (x as u64)) % 4294967291) as u32
+    (((a as u64) * 2654435769 + (w as u64) * 256 + (x as u64)) % 4294967296) as u32
 }
 
 fn mixed_unless(mark: bool, a: u32, w: u8, x: u8) -> u32
@@ -120,6 +120,7 @@ fn print_optional(y: Syntax, d: &[u8], s: Span, before: u32) -> u32
     print_segment(y, d, s.start, s.end, 0, before)
 }
 
+// The last step brings the last byte into the upper half too.
 pub(crate) fn print_of(y: Syntax, d: &[u8], h: Head) -> u32
     ensures { λ r. ⌜ r ≡ printOf y (headingIn h (now (d .entry))) ⌝ }
 {
@@ -128,5 +129,5 @@ pub(crate) fn print_of(y: Syntax, d: &[u8], h: Head) -> u32
     let imd = h.imd;
     let a = print_segment(y, d, lin.start, lin.end, 1, 0);
     let b = print_optional(y, d, pia, a);
-    print_optional(y, d, imd, b)
+    mixed(print_optional(y, d, imd, b), 0, 0)
 }
