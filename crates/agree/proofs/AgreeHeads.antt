@@ -1,18 +1,20 @@
 -- The parts of a position, read off the delivery, and their comparison.
 use Prim.Native.Nat.{ℕ, _+_, _-_, _≤_, _<_}
 use mathlib.Core.Path.{_≡_, refl, sym, _∙_}
-use mathlib.Core.Bool.{Bool, true, false, cond, _&&_, and-true}
+use mathlib.Core.Bool.{Bool, true, false, cond, _&&_, and-true, true≢false}
 use mathlib.Core.List.{List, [], _∷_}
 use native.Mathlib.Omega.{arith}
 use lib.ListN.{length, getD}
 use lib.Dec.{eqb, leb}
 use borrow.Author.Tests.{eq-eqb, ne-eqb, le-leb, lt-leb}
 use Rattle.cut.specs.declared.service.Syntax.{Syntax}
+use Rattle.cut.specs.declared.scan.Cut.{Cut}
 use Rattle.cut.specs.declared.scan.Cut.the-variants as cut
 use Rattle.cut.specs.Bytes.{part, begins}
 use Rattle.cut.specs.Calls.{segmentAt}
-use Rattle.cut.proofs.First.{Cutting, nothing}
-use Rattle.cut.proofs.Parts.{part-next, length-part}
+use Rattle.cut.proofs.First.{Cutting, cutting, nothing}
+use Rattle.cut.proofs.Fronting.{begins-more}
+use Rattle.cut.proofs.Parts.{part-next, part-parts, length-part}
 use Rattle.cut.proofs.Words.{begins-short}
 use Rattle.element.specs.declared.components.Span.{Span}
 use Rattle.agree.specs.Agreement.{agreeBut, agreeIn, agree}
@@ -75,6 +77,23 @@ module _ (y : Syntax) (d : List ℕ) (at : ℕ) (t : List ℕ) where
     optional-other h =
         let k : begins t (part at e d) ≡ false = rw (← q .starts) h in
         record { shows = part-missing d at ∙ rw (q .list, k); behind = rw (q .list, k) }
+
+  -- a segment has no tag that the bytes from its place on do not begin with
+  pub optional-unlike : begins t (part at (length d) d) ≡ false → Optional y d at t (span at at)
+  optional-unlike h = go (segmentAt y d at) refl
+    where
+      other : (s e : ℕ) (p : Bool) → Cutting y d at false s e p → (b : Bool) → begins t (part s e d) ≡ b → b ≡ false
+      other s e p q true k =
+          let l : begins t (part at e d) ≡ true = rw (← q .starts) k in
+          let m : begins t (part at (length d) d) ≡ true = rw (← part-parts d at e (length d) (omega (arith, q .some)) (q .fits)) (begins-more t (part at e d) (part e (length d) d) l) in
+          absurd (true≢false (sym m ∙ h))
+      other s e p q false k = refl
+
+      go : (c : Cut) → segmentAt y d at ≡ c → Optional y d at t (span at at)
+      go cut.Nothing k = optional-none k
+      go (cut.Segment s e p) k =
+          let q = cutting y d at false s e p k in
+          optional-other s e p q (other s e p q (begins t (part s e d)) refl)
 
 -- the position whose LIN stands from start to end
 pub head-of

@@ -10,7 +10,7 @@ use Rattle.element.specs.Elements.{elements}
 use Rattle.element.specs.Plain.{plain}
 use Rattle.element.proofs.ValueFace.{same-true}
 use Rattle.agree.specs.Agreement.{sameText, allEmpty, sameComponents, emptyElements, sameElements, agreeBut, agreeIn, Heading, agree}
-use Rattle.agree.specs.AgreePrints.{namedBy, printBytes, printComponents, printElements, printSegment, printIn, printOf}
+use Rattle.agree.specs.AgreePrints.{mixedBy, namedBy, printBytes, printComponents, printElements, printSegment, printIn, printOf}
 use Rattle.agree.proofs.AgreeTexts.{and-both}
 
 module _ (y : Syntax) where
@@ -111,6 +111,7 @@ module _ (y : Syntax) where
   agree-print p q h =
       let a = and-both _ _ h in
       let b = and-both _ _ (a .1) in
-      ap (λ (z : ℕ). printIn y (p .imd) (printIn y (p .pia) z)) (segment-print 1 (p .lin) (q .lin) 0 (a .0))
+      ap (λ (z : ℕ). mixedBy z 0 0)
+      (ap (λ (z : ℕ). printIn y (p .imd) (printIn y (p .pia) z)) (segment-print 1 (p .lin) (q .lin) 0 (a .0))
       ∙ ap (λ (z : ℕ). printIn y (p .imd) z) (in-print (p .pia) (q .pia) _ (b .0))
-      ∙ in-print (p .imd) (q .imd) _ (b .1)
+      ∙ in-print (p .imd) (q .imd) _ (b .1))

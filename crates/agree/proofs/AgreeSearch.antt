@@ -5,7 +5,7 @@ use mathlib.Core.Bool.{Bool, true, false, cond, _&&_, _||_, false≢true}
 use mathlib.Core.List.{List, [], _∷_, _++_, append-nil, nil≢cons}
 use native.Mathlib.Nat.{suc-add}
 use native.Mathlib.Omega.{arith}
-use lib.ListN.{length, take, drop}
+use lib.ListN.{length, take, drop, drop-of-length-le}
 use lib.Seq.{drop-drop}
 use Rattle.cut.specs.declared.service.Syntax.{Syntax}
 use Rattle.cut.specs.Bytes.{part, begins}
@@ -139,6 +139,12 @@ module _ (y : Syntax) (d : List ℕ) (start : ℕ) where
     pub search-none : segmentsAt y d at ≡ [] → Nothing ≡ firstAgreeing y (positionsOf (segmentsAt y d start))
     unfolding firstAfter positionsFrom
     search-none h = rw h at (i .found)
+
+    pub search-end : length d ≤ at → Nothing ≡ firstAgreeing y (positionsOf (segmentsAt y d start))
+    unfolding segmentsFrom
+    search-end h =
+        let n : segmentsAt y d at ≡ [] = rw (drop-of-length-le d h) in
+        search-none n
 
     module _ (s e : ℕ) (p : Bool) (q : Cutting y d at false s e p) (r : Bool)
         (is : r ≡ isLin (part s e d) && agreesAny y (headingFrom (part s e d) (segmentsAt y d e)) (headingsIn n (segmentsAt y d start))) where

@@ -10,10 +10,10 @@ use Rattle.agree.specs.AgreePrints.{mixedBy, printOf}
 
 -- the cell of a print, and its mark there
 unfoldable pub cellOf : ℕ → ℕ
-cellOf f = f % 8192
+cellOf f = f / 524288 % 8192
 
 unfoldable pub markOf : ℕ → ℕ
-markOf f = f / 8192 % 254 + 1
+markOf f = f / 2048 % 254 + 1
 
 -- a cell that holds v, after the mark m: 0 says that no print came, 255 that several came
 unfoldable pub mergedBy : ℕ → ℕ → ℕ

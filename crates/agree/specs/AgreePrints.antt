@@ -1,20 +1,24 @@
 -- The print of a position: a number made of all that is compared of it, so that positions that agree have the same; no public call cites these.
-use Prim.Native.Nat.{ℕ, _+_, _*_, _%_}
+use Prim.Native.Nat.{ℕ, _+_, _*_, _%_, _≤_, _<_}
+use mathlib.Core.Path.{_≡_}
 use mathlib.Core.Bool.{Bool, false, cond}
 use mathlib.Core.List.{List, [], _∷_}
+use lib.ListN.{getD}
 use lib.Dec.{eqb}
 use Rattle.cut.specs.declared.service.Syntax.{Syntax}
-use Rattle.element.specs.Elements.{elements}
+use Rattle.cut.specs.Bytes.{part}
+use Rattle.element.specs.Elements.{Split, elements, endingOf, stays, splitFrom}
 use Rattle.element.specs.Plain.{plain}
 use Rattle.agree.specs.Agreement.{Heading}
+use Rattle.agree.specs.declared.agree_prints.Printed.{Printed}
 
 -- the print a, and then a byte x of the component that w names
 unfoldable pub mixedBy : ℕ → ℕ → ℕ → ℕ
-mixedBy a w x = (a * 16777619 + w * 256 + x) % 4294967291
+mixedBy a w x = (a * 2654435769 + w * 256 + x) % 4294967296
 
--- the same unless the byte is a release mark
-unfoldable pub mixedUnless : Bool → ℕ → ℕ → ℕ → ℕ
-mixedUnless m a w x = cond m a (mixedBy a w x)
+-- the same unless the component is left out or the byte is a release mark
+unfoldable pub mixedUnless : Bool → Bool → ℕ → ℕ → ℕ → ℕ
+mixedUnless q m a w x = cond q a (cond m a (mixedBy a w x))
 
 -- component c of element e, in one byte
 unfoldable pub namedBy : ℕ → ℕ → ℕ
@@ -46,4 +50,19 @@ printIn y (s ∷ ss) a = printIn y ss (printSegment y 0 s a)
 
 -- the print of a position: "LIN (without its number), PIA and IMD"
 unfoldable pub printOf : Syntax → Heading → ℕ
-printOf y h = printIn y (h .imd) (printIn y (h .pia) (printSegment y 1 (h .lin) 0))
+printOf y h = mixedBy (printIn y (h .imd) (printIn y (h .pia) (printSegment y 1 (h .lin) 0))) 0 0
+
+-- the print a, and then what stands in the bytes xs, which go on in component c of element e; r says that the first of them is released
+unfoldable pub printSplit : Syntax → ℕ → ℕ → ℕ → Bool → Split → ℕ → ℕ
+printSplit y x e c r s a =
+    printElements y x (e + 1) (s .elements)
+    (cond (eqb e x) a (printComponents y e (c + 1) (s .components) (printBytes (namedBy e c) (plain y r (s .bytes)) a)))
+
+unfoldable pub printRest : Syntax → ℕ → ℕ → ℕ → Bool → List ℕ → ℕ → ℕ
+printRest y x e c r xs a = printSplit y x e c r (splitFrom y r xs) a
+
+-- r is where the component c of element e that goes on at `from` ends, and the print up to there
+pub record PrintedTo (y : Syntax) (d : List ℕ) (x e c from end a : ℕ) (r : Printed) : Type 0 where
+  pub onward : from ≤ r .place
+  pub same : printRest y x e c false (part from end d) a ≡ printRest y x e c false (part (r .place) end d) (r .print)
+  pub ends : r .place < end → stays (endingOf y false (getD d (r .place) 0)) ≡ false

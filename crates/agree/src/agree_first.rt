@@ -37,6 +37,9 @@ fn first_from(y: Syntax, d: &[u8], start: usize) -> Agreeing
     let mut n = 0;
     let mut most = 1024;
     loop {
+        if d.len() <= at {
+            return Agreeing::Nothing;
+        }
         let run = fresh_run(y, d, start, at, n, most);
         let count = run.count;
         if 0 < count {

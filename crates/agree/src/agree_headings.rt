@@ -37,10 +37,23 @@ pub(crate) fn has_tag(d: &[u8], start: usize, end: usize, a: u8, b: u8, c: u8) -
     d[start + 2] == c
 }
 
-// The segment from `at` on if it has this tag, and else the empty part at `at`.
+// Whether the bytes from `at` on begin with these.
+fn stands_at(d: &[u8], at: usize, a: u8, b: u8, c: u8) -> bool
+    ensures { λ r. ⌜ r ≡ begins (a ∷ b ∷ c ∷ []) (part at (length (now (d .entry))) (now (d .entry))) ⌝ }
+{
+    if d.len() <= at {
+        return false;
+    }
+    has_tag(d, at, d.len(), a, b, c)
+}
+
+// The segment from `at` on if it has this tag, and else the empty part at `at`. Only one that begins so is cut.
 fn optional_at(y: Syntax, d: &[u8], at: usize, a: u8, b: u8, c: u8) -> Span
     ensures { λ r. ⌜ Optional y (now (d .entry)) at (a ∷ b ∷ c ∷ []) r ⌝ }
 {
+    if !stands_at(d, at, a, b, c) {
+        return Span { start: at, end: at };
+    }
     let s = segment_at(y, d, at);
     let Cut::Segment {
         start,

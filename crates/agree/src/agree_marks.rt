@@ -1,5 +1,5 @@
-// The table of the prints that came: a cell for each remainder, in which one byte of the quotient stands, and so a second time for another
-// number made of the print. What is not marked did not come.
+// The table of the prints that came: a cell for each value of a print's upper bits, in which a byte made of the lower ones stands, and so a
+// second time for another number made of the print. What is not marked did not come.
 use crate::agree_prints::mixed;
 ghost use mathlib.Core.Path.{_≡_};
 ghost use Rattle.agree.specs.AgreeMarks.{cellOf, markOf, mergedBy, heldIn, setIn, markedIn, markIn};
@@ -7,13 +7,13 @@ ghost use Rattle.agree.specs.AgreeMarks.{cellOf, markOf, mergedBy, heldI
 fn cell_of(f: u32) -> usize
     ensures { λ r. ⌜ r ≡ cellOf f ⌝ }
 {
-    (f % 8192) as usize
+    (f / 524288 % 8192) as usize
 }
 
 fn mark_of(f: u32) -> u8
     ensures { λ r. ⌜ r ≡ markOf f ⌝ }
 {
-    (f / 8192 % 254 + 1) as u8
+    (f / 2048 % 254 + 1) as u8
 }
 
 // A cell that holds v, after the mark m.

@@ -2,34 +2,60 @@
 use crate::agree_headings::Head;
 use cut::Syntax;
 use cut::releases;
-use element::Cursor;
 use element::Span;
-use element::Visit;
+use element::limit_of;
 ghost use Prim.Native.Nat.{_≤_};
-ghost use mathlib.Core.Bool.{cond};
 ghost use mathlib.Core.Path.{_≡_};
 ghost use lib.ListN.{length};
-ghost use lib.Dec.{eqb};
 ghost use Rattle.cut.specs.Bytes.{part};
 ghost use Rattle.cut.specs.Segments.{frees};
-ghost use Rattle.element.specs.Plain.{decoded};
+ghost use Rattle.element.specs.Elements.{endingOf, stays};
 ghost use Rattle.agree.specs.AgreeParts.{partIn, headingIn};
-ghost use Rattle.agree.specs.AgreePrints.{mixedBy, mixedUnless, namedBy, printBytes, printSegment, printIn, printOf};
+ghost use Rattle.agree.specs.AgreePrints.{mixedBy, mixedUnless, namedBy, printSegment, printIn, printOf, PrintedTo};
 
-// The divisor is the greatest prime below 2^32.
+// The place where a component ends, and the print up to it.
+pub struct Printed {
+    pub place: usize,
+    pub print: u32,
+}
+
+// The factor is odd and near 2^32 divided by the golden ratio, so that the upper half of the print depends on every byte but the last.
 pub(crate) fn mixed(a: u32, w: u8, x: u8) -> u32
     ensures { λ r. ⌜ r ≡ mixedBy a w x ⌝ }
 {
-    (((a as u64) * 16777619 + (w as u64) * 256 + (x as u64)) % 4294967291) as u32
+    (((a as u64) * 2654435769 + (w as u64) * 256 + (x as u64)) % 4294967296) as u32
 }
 
-fn mixed_unless(mark: bool, a: u32, w: u8, x: u8) -> u32
-    ensures { λ r. ⌜ r ≡ mixedUnless mark a w x ⌝ }
+// The same of a byte that does not change the print of the element that is left out, nor as a release mark.
+fn mixed_unless(skips: bool, mark: bool, a: u32, w: u8, x: u8) -> u32
+    ensures { λ r. ⌜ r ≡ mixedUnless skips mark a w x ⌝ }
 {
+    if skips {
+        return a;
+    }
     if mark {
         return a;
     }
     mixed(a, w, x)
+}
+
+// Whether a byte is one of its component's own.
+fn is_own(y: Syntax, released: bool, x: u8) -> bool
+    ensures { λ r. ⌜ r ≡ stays (endingOf y released x) ⌝ }
+{
+    if released {
+        return true;
+    }
+    if x == y.terminator {
+        return false;
+    }
+    if x == y.element {
+        return false;
+    }
+    if x == y.component {
+        return false;
+    }
+    true
 }
 
 // Whether a byte is a release mark.
@@ -48,65 +74,65 @@ fn named(element: usize, component: usize) -> u8
     (element % 16 * 16 + component % 16) as u8
 }
 
-// The print `before`, and then the bytes of the component that w names.
-fn print_bytes(y: Syntax, d: &[u8], start: usize, end: usize, w: u8, before: u32) -> u32
-    requires { ⌜ end ≤ length (now d) ⌝ }
-    ensures { λ r. ⌜ r ≡ printBytes w (decoded y start end (now (d .entry))) before ⌝ }
-{
-    let mut a = before;
-    let mut i = start;
-    let mut released = false;
-    while i < end {
-        let x = d[i];
-        let mark = is_mark(y, released, x);
-        a = mixed_unless(mark, a, w, x);
-        released = mark;
-        i += 1;
-    }
-    a
-}
-
-// ... and then a component, unless it is of the element `skip`.
-fn print_component(
+// The print `before`, and then the bytes from `from` on that are component `component` of element `element`; it changes nothing if that is `skip`.
+fn print_own(
     y: Syntax,
     d: &[u8],
-    start: usize,
+    from: usize,
     end: usize,
     element: usize,
     component: usize,
     skip: usize,
     before: u32,
-) -> u32
+) -> Printed
     requires { ⌜ end ≤ length (now d) ⌝ }
-    ensures { λ r. ⌜ r ≡ cond (eqb element skip) before (printBytes (namedBy element component) (decoded y start end (now (d .entry))) before) ⌝ }
+    ensures { λ r. ⌜ PrintedTo y (now (d .entry)) skip element component from end before r ⌝ }
 {
-    if element == skip {
-        return before;
+    let w = named(element, component);
+    let skips = element == skip;
+    let mut a = before;
+    let mut i = from;
+    let mut released = false;
+    while i < end {
+        let x = d[i];
+        if !is_own(y, released, x) {
+            return Printed { place: i, print: a };
+        }
+        let mark = is_mark(y, released, x);
+        a = mixed_unless(skips, mark, a, w, x);
+        released = mark;
+        i += 1;
     }
-    print_bytes(y, d, start, end, named(element, component), before)
+    Printed { place: i, print: a }
 }
 
-// ... and then the components of a segment, but for those of the element `skip`.
+// ... and then the components of a segment, but for those of the element `skip`. Its bytes are looked at once, so no cursor goes through it.
 fn print_segment(y: Syntax, d: &[u8], start: usize, end: usize, skip: usize, before: u32) -> u32
     ensures { λ r. ⌜ r ≡ printSegment y skip (part start end (now (d .entry))) before ⌝ }
 {
-    let first = Cursor::new(d, start, end);
-    let mut k = first;
+    let limit = limit_of(d, end);
     let mut a = before;
+    let mut i = start;
+    let mut element = 0;
+    let mut component = 0;
     loop {
-        let u = k.step(y, d);
-        let Visit::At {
-            element,
-            component,
-            start: from,
-            end: to,
-            next,
-        } = u
-        else {
+        let own = print_own(y, d, i, limit, element, component, skip, a);
+        let stop = own.place;
+        a = own.print;
+        if limit <= stop {
             return a;
-        };
-        a = print_component(y, d, from, to, element, component, skip, a);
-        k = next;
+        }
+        let x = d[stop];
+        if x == y.terminator {
+            return a;
+        }
+        i = stop + 1;
+        if x == y.element {
+            element += 1;
+            component = 0;
+            continue;
+        }
+        component += 1;
     }
 }
 
@@ -120,6 +146,7 @@ fn print_optional(y: Syntax, d: &[u8], s: Span, before: u32) -> u32
     print_segment(y, d, s.start, s.end, 0, before)
 }
 
+// The last step brings the last byte into the upper half too.
 pub(crate) fn print_of(y: Syntax, d: &[u8], h: Head) -> u32
     ensures { λ r. ⌜ r ≡ printOf y (headingIn h (now (d .entry))) ⌝ }
 {
@@ -128,5 +155,5 @@ pub(crate) fn print_of(y: Syntax, d: &[u8], h: Head) -> u32
     let imd = h.imd;
     let a = print_segment(y, d, lin.start, lin.end, 1, 0);
     let b = print_optional(y, d, pia, a);
-    print_optional(y, d, imd, b)
+    mixed(print_optional(y, d, imd, b), 0, 0)
 }

@@ -4,7 +4,7 @@ use Prim.Native.Nat.{_+_, _-_}
 use native.Mathlib.Omega.{arith}
 use lib.ListN.{length}
 use Rattle.agree.specs.AgreeRuns.{Searched}
-use Rattle.agree.proofs.AgreeSearch.{search-first}
+use Rattle.agree.proofs.AgreeSearch.{search-first, search-end}
 use Rattle.agree.proofs.agree_first.first_from.Statement.{statement}
 use Rattle.agree.proofs.agree_first.first_from.Tie as tie
 
@@ -17,8 +17,11 @@ abbrev μ-loop : tie.MeasureT-loop
 loop-holds : tie.Need-loop-holds Inv-loop μ-loop
 loop-holds c = search-first _ _ _
 
+returns : tie.Need-returns Inv-loop μ-loop
+returns c = search-end _ _ _ _ _ (c .before .loop .inv) (c .if1 .taken)
+
 fresh-run-requires : tie.Need-fresh-run-requires Inv-loop μ-loop
-fresh-run-requires c κs = c .loop .inv
+fresh-run-requires c κs = c .before .loop .inv
 
 add-n : tie.Need-add-n Inv-loop μ-loop
 add-n c =
@@ -28,22 +31,22 @@ add-n c =
 loop-less : tie.Need-loop-less Inv-loop μ-loop
 loop-less c =
     let r = c .before .fresh-run .ensures in
-    omega (arith, r .1, r .2, c .if1 .taken)
+    omega (arith, r .1, r .2, c .if2 .taken)
 
 loop-again : tie.Need-loop-again Inv-loop μ-loop
 loop-again c = c .before .fresh-run .ensures .0
 
 search-from-requires : tie.Need-search-from-requires Inv-loop μ-loop
-search-from-requires c κs = c .before .before .before .loop .inv
+search-from-requires c κs = c .before .before .before .before .loop .inv
 
-returns : tie.Need-returns Inv-loop μ-loop
-returns c = c .search-from .ensures
+returns-2 : tie.Need-returns-2 Inv-loop μ-loop
+returns-2 c = c .search-from .ensures
 
 loop-less-2 : tie.Need-loop-less-2 Inv-loop μ-loop
 loop-less-2 c = search needs
 
 loop-again-2 : tie.Need-loop-again-2 Inv-loop μ-loop
-loop-again-2 c = c .before .before .before .loop .inv
+loop-again-2 c = c .before .before .before .before .loop .inv
 
 pub first-from-spec : {M : Type 1} → statement M
 first-from-spec =
@@ -52,11 +55,12 @@ first-from-spec =
     Inv-loop
     μ-loop
     loop-holds
+    returns
     fresh-run-requires
     add-n
     loop-less
     loop-again
     search-from-requires
-    returns
+    returns-2
     loop-less-2
     loop-again-2)

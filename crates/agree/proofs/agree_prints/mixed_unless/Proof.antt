@@ -8,12 +8,16 @@ returns : tie.Need-returns
 unfolding mixedUnless
 returns c = rw (c .if1 .taken)
 
+returns-2 : tie.Need-returns-2
+unfolding mixedUnless
+returns-2 c = rw (c .before .if1 .left, c .if2 .taken)
+
 mixed-requires : tie.Need-mixed-requires
 mixed-requires c κs = search needs
 
-returns-2 : tie.Need-returns-2
+returns-3 : tie.Need-returns-3
 unfolding mixedUnless
-returns-2 c = rw (c .before .if1 .left) (c .mixed .ensures)
+returns-3 c = rw (c .before .before .if1 .left, c .before .if2 .left) (c .mixed .ensures)
 
 pub mixed-unless-spec : {M : Type 1} → statement M
-mixed-unless-spec = tie.close (tie.spec returns mixed-requires returns-2)
+mixed-unless-spec = tie.close (tie.spec returns returns-2 mixed-requires returns-3)

@@ -13,10 +13,14 @@ print-optional-requires c κs = search needs
 print-optional-requires-2 : tie.Need-print-optional-requires-2
 print-optional-requires-2 c κs = search needs
 
+mixed-requires : tie.Need-mixed-requires
+mixed-requires c κs = search needs
+
 returns : tie.Need-returns
-returns c = head-print _ _ _ _ _ _ (c .before .before .print-segment .ensures) (c .before .print-optional .ensures) (c .print-optional2 .ensures)
+returns c =
+    head-print _ _ _ _ _ _ _ (c .before .before .before .print-segment .ensures) (c .before .before .print-optional .ensures) (c .before .print-optional2 .ensures) (c .mixed .ensures)
 
 pub print-of-spec : {M : Type 1} → statement M
 print-of-spec =
     tie.close
-    (tie.spec print-segment-requires print-optional-requires print-optional-requires-2 returns)
+    (tie.spec print-segment-requires print-optional-requires print-optional-requires-2 mixed-requires returns)
