@@ -1,8 +1,8 @@
-pub mod Joined
-pub mod PageCells
+pub mod PageTables
+pub mod PageSpans
+pub mod PageLookup
+pub mod KeyNumbers
+pub mod KeyCodes
 pub mod PageFaults
-pub mod PageCodes
-pub mod PageRows
 pub mod PageMoods
-pub mod PageAbsent
 pub mod PageSteps

@@ -1,45 +1,53 @@
 -- The moods of an element as the code has them.
-use Prim.Native.Nat.{ℕ, zero, suc, _≤_, _<_}
+use Prim.Native.Nat.{ℕ, zero, suc, _+_, _/_, _%_, _≤_, _<_}
 use mathlib.Core.Bool.{Bool, true, false}
-use mathlib.Core.Path.{_≡_, refl, sym, _∙_}
+use mathlib.Core.Path.{_≡_, refl}
 use mathlib.Core.List.{List, [], _∷_}
 use native.Mathlib.Omega.{arith}
-use lib.ListN.{length, getD, drop, List·getD-eq-default}
-use lib.Dec.{eqb}
+use lib.ListN.{length, drop}
+use lib.Dec.{eqb, ltb}
+use borrow.Author.Tests.{eq-eqb, ne-eqb, lt-ltb, le-ltb}
 use Rattle.cut.specs.declared.service.Syntax.{Syntax}
 use Rattle.element.specs.Numeral.{some}
-use Rattle.guide.specs.Page.{Row, Composite, beyond}
+use Rattle.guide.specs.Page.{Row, Composite, Page}
 use Rattle.guide.specs.PageFault.{textFault}
 use Rattle.guide.specs.Choices.{pickℕ}
-use Rattle.guide.proofs.PageFace.{pickMood, asking, idle, owing, isMust, anyMust, opened, moodAfter, moodFault, endFault}
-use Rattle.page.specs.PageColumns.{bit, allElements}
+use Rattle.guide.proofs.PageFace.{pickMood, asking, idle, owing, isMust, opened, moodAfter, moodFault, endFault, absentFault}
 use Rattle.page.specs.PageWalk.{moodOf}
-use Rattle.page.proofs.PageCells.{elements-count}
+use Rattle.page.specs.PageWords.{elementIn, ElementWord, NodeWord}
+use Rattle.page.proofs.PageSpans.{must-reach, absent-reach}
 
-module _ (r : ℕ) (k : Composite) (e : getD allElements r beyond ≡ k) where
-  pub opening-none : 45 ≤ r → moodOf 0 ≡ opened k
-  unfolding opened
-  opening-none h =
-      let q : k ≡ beyond = sym e ∙ List·getD-eq-default allElements beyond (omega (arith, elements-count)) in
-      rw q
+-- before the first component of the element that has the word w
+pub opening-asks : (w : ℕ) → w / 1048576 ≡ 1 → moodOf 1 ≡ opened (elementIn w)
+unfolding opened elementIn
+opening-asks w h = rw (eq-eqb _ _ h)
 
-  pub opening-bit : (n : ℕ) → n ≡ bit (getD allElements r beyond .required) → moodOf n ≡ opened k
-  unfolding opened bit
-  opening-bit n p = rw (p, e) (go (k .required))
-    where
-      go : (b : Bool) → moodOf (bit b) ≡ pickMood b asking idle
-      go true = refl
-      go false = refl
+pub opening-idle : (w : ℕ) → (w / 1048576 ≡ 1 → ⊥) → moodOf 0 ≡ opened (elementIn w)
+unfolding opened elementIn
+opening-idle w h = rw (ne-eqb _ _ h)
 
-  -- what it lacks where it ends
-  module _ (c : ℕ) (w : Bool) (p : w ≡ anyMust (drop c (getD allElements r beyond .rows))) (m : ℕ) (q : m ≡ 1) where
-    pub ending-must : w ≡ true → 17 ≡ endFault (moodOf m) (drop c (k .rows))
-    unfolding endFault
-    ending-must h = rw (q, ← e, sym p ∙ h)
+-- what it lacks where it ends behind component c
+module _ (w c : ℕ) (k : Composite) (e : ElementWord w k) (m : ℕ) (q : m ≡ 1) where
+  ending-fault : (b : Bool) → ltb (c + 1) (w / 32768 % 32) ≡ b → pickℕ b 17 0 ≡ endFault (moodOf m) (drop (c + 1) (k .rows))
+  unfolding endFault
+  ending-fault b h = rw (q, must-reach (k .rows) (c + 1), ← e .reach, h)
 
-    pub ending-may : w ≡ false → 0 ≡ endFault (moodOf m) (drop c (k .rows))
-    unfolding endFault
-    ending-may h = rw (q, ← e, sym p ∙ h)
+  pub ending-must : c + 1 < w / 32768 % 32 → 17 ≡ endFault (moodOf m) (drop (c + 1) (k .rows))
+  ending-must h = ending-fault true (lt-ltb _ _ h)
+
+  pub ending-may : w / 32768 % 32 ≤ c + 1 → 0 ≡ endFault (moodOf m) (drop (c + 1) (k .rows))
+  ending-may h = ending-fault false (le-ltb _ _ h)
+
+-- what the page with the word w lacks behind element e
+module _ (w : ℕ) (page : Page) (n : NodeWord w page) (e : ℕ) where
+  absent-fault : (b : Bool) → ltb e (w / 32768) ≡ b → pickℕ b 17 0 ≡ absentFault (drop e page)
+  absent-fault b h = rw (absent-reach page e, ← n .reach, h)
+
+  pub absent-some : e < w / 32768 → 17 ≡ absentFault (drop e page)
+  absent-some h = absent-fault true (lt-ltb _ _ h)
+
+  pub absent-none : w / 32768 ≤ e → 0 ≡ absentFault (drop e page)
+  absent-none h = absent-fault false (le-ltb _ _ h)
 
 pub ending-calm : (m : ℕ) (rs : List Row) → (m ≡ 1 → ⊥) → 0 ≡ endFault (moodOf m) rs
 unfolding endFault

@@ -4,17 +4,17 @@ use mathlib.Core.Bool.{false}
 use mathlib.Core.Path.{_≡_, refl, sym, ap, _∙_}
 use mathlib.Core.List.{List, [], _∷_}
 use native.Mathlib.Omega.{arith}
-use lib.ListN.{getD, drop}
+use lib.ListN.{length, getD, drop}
 use Rattle.cut.specs.Bytes.{part}
 use Rattle.cut.specs.declared.service.Syntax.{Syntax}
 use Rattle.element.specs.Components.{Component, components}
 use Rattle.element.specs.Plain.{plain, decoded}
-use Rattle.guide.specs.Page.{Row, unused, Page, beyond, elementOf, rowOf}
+use Rattle.guide.specs.Page.{Row, unused, Page, elementOf, rowOf}
 use Rattle.guide.specs.PageFault.{pageFault}
 use Rattle.guide.specs.Choices.{orElse}
 use Rattle.guide.proofs.PageFace.{opened, moodAfter, moodFault, endFault, absentFault, absent-pass, walkFault, walk-done, walk-tag, walk-further, walk-enter, segment-pass}
-use Rattle.page.specs.PageColumns.{allElements, allRows}
-use Rattle.page.specs.PageWalk.{moodOf, Passed, PassedRow}
+use Rattle.page.specs.PageWalk.{moodOf, MoodAfter, Passed, PassedRow}
+use Rattle.page.specs.PageWords.{elementIn, ElementWord}
 
 pub or-first : (f x : ℕ) → 0 < f → f ≡ orElse f x
 or-first zero x h = absurd (omega arith)
@@ -34,22 +34,13 @@ first-told f g x e h = or-first f x h ∙ rw e
 pub second-told : (f g r x : ℕ) → f ≡ g → f ≤ 0 → r ≡ x → r ≡ orElse g x
 second-told f g r x e h p = p ∙ or-second f x h ∙ rw e
 
-module _ (y : Syntax) (page : Page) where
-  -- the row of a component, by its place in the columns
-  pub row-passed
-      : (k r e c m : ℕ) (t : List ℕ) (fault m′ : ℕ) → getD allElements k beyond ≡ elementOf page e
-      → getD allRows r unused ≡ getD (getD allElements k beyond .rows) c unused → fault ≡ moodFault y (moodOf m) (getD allRows r unused) t
-      → moodOf m′ ≡ moodAfter (moodOf m) (getD allRows r unused) t → PassedRow y page e c m t fault e c m′
-  unfolding rowOf
-  row-passed k r e c m t fault m′ p q f a =
-      let w : getD allRows r unused ≡ getD (elementOf page e .rows) c unused = q ∙ rw p in
-      record {
-        told = f ∙ ap (λ (x : Row). moodFault y (moodOf m) x t) w;
-        mood = a ∙ ap (λ (x : Row). moodAfter (moodOf m) x t) w;
-        element = refl;
-        component = refl;
-      }
+-- the row of a component, by its word
+pub row-passed
+    : (y : Syntax) (k r : Row) (e c m : ℕ) (t : List ℕ) (n fault m′ : ℕ) → r ≡ k → fault ≡ moodFault y (moodOf m) r t → MoodAfter n m r m′
+    → n ≡ length t → PassedRow y k e c m t fault e c m′
+row-passed y k r e c m t n fault m′ p f a l = record { told = f ∙ rw p; mood = a t l ∙ rw p; element = refl; component = refl }
 
+module _ (y : Syntax) (page : Page) where
   module _ (d : List ℕ) (e₀ c₀ m₀ e c a b : ℕ) where
     abbrev here : Component
     here = record { element = e; component = c; start = a; bytes = part a b d }
@@ -58,13 +49,6 @@ module _ (y : Syntax) (page : Page) where
     passed-tag h fault z ks = walk-tag y page e₀ (c₀ + 1) (moodOf m₀) here ks h ∙ or-second fault _ (omega arith)
 
     module _ (z : e ≡ 0 → ⊥) where
-      pub passed-further
-          : (fault e′ c′ m′ : ℕ) → 0 < c → PassedRow y page e c m₀ (decoded y a b d) fault e′ c′ m′ → Passed y page e₀ c₀ m₀ here fault e′ c′ m′
-      unfolding decoded
-      passed-further fault e′ c′ m′ h p ks =
-          walk-further y page e₀ (c₀ + 1) (moodOf m₀) here ks z (λ q. omega arith)
-          ∙ rw (p .told, p .mood, p .element, p .component)
-
       pub passed-ended : (fault e′ c′ m′ : ℕ) → c ≤ 0 → fault ≡ endFault (moodOf m₀) (drop (c₀ + 1) (elementOf page e₀ .rows)) → 0 < fault → Passed y page e₀ c₀ m₀ here fault e′ c′ m′
       passed-ended fault e′ c′ m′ h p l ks =
           let k = opened (elementOf page e) in
@@ -75,14 +59,30 @@ module _ (y : Syntax) (page : Page) where
           ∙ sym (or-first fault x l)
           ∙ or-first fault (walkFault y page e′ (c′ + 1) (moodOf m′) ks) l
 
-      pub passed-entered
-          : (f m fault e′ c′ m′ : ℕ) → c ≤ 0 → f ≡ endFault (moodOf m₀) (drop (c₀ + 1) (elementOf page e₀ .rows)) → f ≤ 0
-          → moodOf m ≡ opened (elementOf page e) → PassedRow y page e c m (decoded y a b d) fault e′ c′ m′ → Passed y page e₀ c₀ m₀ here fault e′ c′ m′
-      unfolding decoded
-      passed-entered f m fault e′ c′ m′ h p l o w ks =
-          let q : f ≡ 0 = omega arith in
-          walk-enter y page e₀ (c₀ + 1) (moodOf m₀) here ks z (omega arith)
-          ∙ rw (sym p ∙ q, ← o, w .told, w .mood, w .element, w .component)
+      -- its element has the word w
+      module _ (w : ℕ) (v : ElementWord w (elementOf page e)) where
+        row-here : getD (elementIn w .rows) c unused ≡ rowOf page e c
+        unfolding rowOf
+        row-here = rw (v .element)
+
+        pub passed-further
+            : (fault e′ c′ m′ : ℕ) → 0 < c → PassedRow y (getD (elementIn w .rows) c unused) e c m₀ (decoded y a b d) fault e′ c′ m′
+            → Passed y page e₀ c₀ m₀ here fault e′ c′ m′
+        unfolding decoded
+        passed-further fault e′ c′ m′ h p ks =
+            walk-further y page e₀ (c₀ + 1) (moodOf m₀) here ks z (λ q. omega arith)
+            ∙ rw (← row-here, p .told, p .mood, p .element, p .component)
+
+        pub passed-entered
+            : (f m fault e′ c′ m′ : ℕ) → c ≤ 0 → f ≡ endFault (moodOf m₀) (drop (c₀ + 1) (elementOf page e₀ .rows)) → f ≤ 0
+            → moodOf m ≡ opened (elementIn w) → PassedRow y (getD (elementIn w .rows) c unused) e c m (decoded y a b d) fault e′ c′ m′
+            → Passed y page e₀ c₀ m₀ here fault e′ c′ m′
+        unfolding decoded
+        passed-entered f m fault e′ c′ m′ h p l o r ks =
+            let q : f ≡ 0 = omega arith in
+            let u : opened (elementOf page e) ≡ moodOf m = ap opened (sym (v .element)) ∙ sym o in
+            walk-enter y page e₀ (c₀ + 1) (moodOf m₀) here ks z (omega arith)
+            ∙ rw (sym p ∙ q, u, ← row-here, r .told, r .mood, r .element, r .component)
 
   -- no component is left
   pub passed-all

@@ -1,2 +1,4 @@
 pub mod PageColumns
+pub mod PageWords
+pub mod PageKeys
 pub mod PageWalk

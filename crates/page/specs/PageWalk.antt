@@ -2,9 +2,10 @@
 use Prim.Native.Nat.{ℕ, zero, suc, _+_}
 use mathlib.Core.Path.{_≡_}
 use mathlib.Core.List.{List, _∷_}
+use lib.ListN.{length}
 use Rattle.cut.specs.declared.service.Syntax.{Syntax}
 use Rattle.element.specs.Components.{Component}
-use Rattle.guide.specs.Page.{Page, rowOf}
+use Rattle.guide.specs.Page.{Row, Page}
 use Rattle.guide.specs.Choices.{orElse}
 use Rattle.guide.proofs.PageFace.{Mood, asking, idle, owing, moodAfter, moodFault, walkFault}
 
@@ -19,9 +20,13 @@ abbrev pub Passed : Syntax → Page → ℕ → ℕ → ℕ → Component → �
 Passed y page e c m k fault e′ c′ m′ =
     (ks : List Component) → walkFault y page e (c + 1) (moodOf m) (k ∷ ks) ≡ orElse fault (walkFault y page e′ (c′ + 1) (moodOf m′) ks)
 
--- component c of element e has the text t and is judged with the given mood: its fault, and where the pass stands after it
-pub record PassedRow (y : Syntax) (page : Page) (e c m : ℕ) (t : List ℕ) (fault e′ c′ m′ : ℕ) : Type 0 where
-  pub told : fault ≡ moodFault y (moodOf m) (rowOf page e c) t
-  pub mood : moodOf m′ ≡ moodAfter (moodOf m) (rowOf page e c) t
+-- the mood after a component of n bytes on the row r
+abbrev pub MoodAfter : ℕ → ℕ → Row → ℕ → Type 0
+MoodAfter n m r m′ = (t : List ℕ) → n ≡ length t → moodOf m′ ≡ moodAfter (moodOf m) r t
+
+-- component c of element e, on the row r, has the text t and is judged with the given mood: its fault, and where the pass stands after it
+pub record PassedRow (y : Syntax) (r : Row) (e c m : ℕ) (t : List ℕ) (fault e′ c′ m′ : ℕ) : Type 0 where
+  pub told : fault ≡ moodFault y (moodOf m) r t
+  pub mood : moodOf m′ ≡ moodAfter (moodOf m) r t
   pub element : e′ ≡ e
   pub component : c′ ≡ c

@@ -1,67 +1,56 @@
-// The fault of one component on one row.
+// The fault of one component, of n bytes with its releases removed, on the row that has a word.
 use crate::coded::listed;
-use crate::row_columns::kind;
-use crate::row_columns::size;
-use crate::row_columns::status;
 use cut::Syntax;
 use element::Format;
 use element::fits;
-use element::plain_length;
 ghost use Prim.Native.Nat.{_<_};
 ghost use mathlib.Core.Path.{_≡_};
 ghost use mathlib.Core.Bool.{false, _&&_};
-ghost use lib.ListN.{getD, length};
+ghost use lib.ListN.{length};
+ghost use Rattle.element.specs.Format.{fitsFormat};
 ghost use Rattle.element.specs.Plain.{decoded};
-ghost use Rattle.guide.specs.Page.{unused};
 ghost use Rattle.guide.specs.PageFault.{textFault};
 ghost use Rattle.guide.specs.Choices.{pickℕ};
 ghost use Rattle.guide.proofs.PageFace.{isMust};
-ghost use Rattle.page.specs.PageColumns.{allRows, formatOf};
+ghost use Rattle.page.specs.PageWords.{formatIn, rowIn};
 
 pub(crate) fn is_must(row: usize) -> bool
-    ensures { λ r. ⌜ r ≡ isMust (getD allRows row unused) ⌝ }
+    ensures { λ r. ⌜ r ≡ isMust (rowIn row) ⌝ }
 {
-    if 84 <= row {
-        return false;
-    }
-    status(row) == 2
+    2 <= row / 65536 % 4
 }
 
-fn format_of(row: usize) -> Format
-    requires { ⌜ row < 84 ⌝ }
-    ensures { λ r. ⌜ r ≡ formatOf (getD allRows row unused) ⌝ }
+// Whether a component that is not empty has its row's format.
+fn is_formed(y: Syntax, d: &[u8], a: usize, b: usize, n: usize, row: usize) -> bool
+    requires { ⌜ (n ≡ length (decoded y a b (now d))) × (0 < n) ⌝ }
+    ensures { λ r. ⌜ r ≡ fitsFormat y (formatIn row) (decoded y a b (now (d .entry))) ⌝ }
 {
-    let k = kind(row);
-    let n = size(row);
-    if k == 0 {
-        return Format::AnUpTo(n);
+    let kind = row / 262144 % 4;
+    let size = row / 1048576;
+    if kind == 0 {
+        return n <= size;
     }
-    if k == 1 {
-        return Format::An(n);
+    if kind == 1 {
+        return n == size;
     }
-    if k == 2 {
-        return Format::NUpTo(n);
+    if kind == 2 {
+        return fits(y, d, a, b, Format::NUpTo(size));
     }
-    Format::N(n)
+    fits(y, d, a, b, Format::N(size))
 }
 
 // The fault of a component that is not empty.
-fn filled_fault(y: Syntax, d: &[u8], a: usize, b: usize, row: usize) -> u32
-    requires { ⌜ 0 < length (decoded y a b (now d)) ⌝ }
-    ensures { λ r. ⌜ r ≡ textFault y false (getD allRows row unused) (decoded y a b (now (d .entry))) ⌝ }
+fn filled_fault(y: Syntax, d: &[u8], a: usize, b: usize, n: usize, row: usize) -> u32
+    requires { ⌜ (n ≡ length (decoded y a b (now d))) × (0 < n) ⌝ }
+    ensures { λ r. ⌜ r ≡ textFault y false (rowIn row) (decoded y a b (now (d .entry))) ⌝ }
 {
-    if 84 <= row {
+    if row / 65536 % 4 == 0 {
         return 18;
     }
-    if status(row) == 0 {
-        return 18;
-    }
-    let fitting = fits(y, d, a, b, format_of(row));
-    let known = listed(y, d, a, b, row);
-    if !fitting {
+    if !is_formed(y, d, a, b, n, row) {
         return 19;
     }
-    if !known {
+    if !listed(y, d, a, b, n, row) {
         return 20;
     }
     0
@@ -69,7 +58,7 @@ fn filled_fault(y: Syntax, d: &[u8], a: usize, b: usize, row: usize) -> u32
 
 // The fault of an empty component.
 fn empty_fault(row: usize, asked: bool) -> u32
-    ensures { λ r. ⌜ r ≡ pickℕ (isMust (getD allRows row unused) && asked) 17 0 ⌝ }
+    ensures { λ r. ⌜ r ≡ pickℕ (isMust (rowIn row) && asked) 17 0 ⌝ }
 {
     if !asked {
         return 0;
@@ -81,11 +70,20 @@ fn empty_fault(row: usize, asked: bool) -> u32
 }
 
 // The fault of a component: not used, missing, wrong format, code not on its page.
-pub(crate) fn text_fault(y: Syntax, d: &[u8], a: usize, b: usize, row: usize, asked: bool) -> u32
-    ensures { λ r. ⌜ r ≡ textFault y asked (getD allRows row unused) (decoded y a b (now (d .entry))) ⌝ }
+pub(crate) fn text_fault(
+    y: Syntax,
+    d: &[u8],
+    a: usize,
+    b: usize,
+    n: usize,
+    row: usize,
+    asked: bool,
+) -> u32
+    requires { ⌜ n ≡ length (decoded y a b (now d)) ⌝ }
+    ensures { λ r. ⌜ r ≡ textFault y asked (rowIn row) (decoded y a b (now (d .entry))) ⌝ }
 {
-    if plain_length(y, d, a, b) == 0 {
+    if n == 0 {
         return empty_fault(row, asked);
     }
-    filled_fault(y, d, a, b, row)
+    filled_fault(y, d, a, b, n, row)
 }

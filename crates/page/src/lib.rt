@@ -1,11 +1,9 @@
 // The page check: the first fault of a segment against the page of its node.
-mod code_columns;
 mod coded;
-mod element_columns;
 mod formed;
+mod keys;
 mod pages;
-mod row_columns;
 mod rows;
-mod widths;
+mod words;
 
 pub use pages::page_fault;

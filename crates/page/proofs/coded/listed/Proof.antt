@@ -1,74 +1,29 @@
--- `page::coded::listed` meets its contract: the loop's invariant: the codes that are left decide.
-use Prim.Native.Nat.{_-_}
-use mathlib.Core.List.{[]}
+-- `page::coded::listed` meets its contract: a row without codes, and the search by the component's number.
+use mathlib.Core.Path.{refl}
 use native.Mathlib.Omega.{arith}
+use Rattle.page.proofs.KeyCodes.{listed-any, listed-key, decoded-bytes}
 use borrow.Author.Needs.{needs}
-use Rattle.element.specs.Plain.{decoded}
-use Rattle.page.proofs.PageCodes.{Left, no-codes, codes-start, code-in, code-found, code-next, codes-out}
 use Rattle.page.proofs.coded.listed.Statement.{statement}
 use Rattle.page.proofs.coded.listed.Tie as tie
 
-abbrev Inv-loop : tie.InvT-loop
-Inv-loop y d a b row from next n₀ n = Left row from next (decoded y a b d) n
+returns : tie.Need-returns
+returns c = listed-any _ _ (c .if1 .taken)
 
-abbrev μ-loop : tie.MeasureT-loop
-μ-loop y d a b row from next n₀ n = next - n
+key-of-requires : tie.Need-key-of-requires
+key-of-requires c κs = c .before .before .pre
 
-code-start-requires : tie.Need-code-start-requires Inv-loop μ-loop
-code-start-requires c κs = search needs
+add-has-code : tie.Need-add-has-code
+add-has-code c = search needs
 
-add-code-start : tie.Need-add-code-start Inv-loop μ-loop
-add-code-start c = search needs
+has-code-requires : tie.Need-has-code-requires
+has-code-requires c κs = search needs
 
-code-start-requires-2 : tie.Need-code-start-requires-2 Inv-loop μ-loop
-code-start-requires-2 c κs = search needs
-
-returns : tie.Need-returns Inv-loop μ-loop
-returns c = no-codes _ _ _ _ (omega arith) (c .before .before .code-start .ensures) (c .before .code-start2 .ensures) (c .if1 .taken)
-
-loop-holds : tie.Need-loop-holds Inv-loop μ-loop
-loop-holds c = codes-start _ _ _ _ (omega arith) (c .before .before .code-start .ensures) (c .before .code-start2 .ensures) (c .if1 .left)
-
-is-code-at-requires : tie.Need-is-code-at-requires Inv-loop μ-loop
-is-code-at-requires c κs =
-    let e = c .before .before in
-    code-in _ _ _ [] (omega arith) (e .before .before .code-start .ensures) (e .before .code-start2 .ensures) _ (omega arith)
-
-returns-2 : tie.Need-returns-2 Inv-loop μ-loop
+returns-2 : tie.Need-returns-2
 returns-2 c =
-    let e = c .before .before .before .before in
-    code-found _ _ _ _ (omega arith) (e .before .before .code-start .ensures) (e .before .code-start2 .ensures) _ (c .before .before .before .loop .inv) (omega arith) _ (c .before .is-code-at .ensures) (c .if2 .taken)
-
-add-n : tie.Need-add-n Inv-loop μ-loop
-add-n c = search needs
-
-loop-less : tie.Need-loop-less Inv-loop μ-loop
-loop-less c = omega arith
-
-loop-again : tie.Need-loop-again Inv-loop μ-loop
-loop-again c =
-    let e = c .before .before .before .before in
-    code-next _ _ _ _ (omega arith) (e .before .before .code-start .ensures) (e .before .code-start2 .ensures) _ (c .before .before .before .loop .inv) (omega arith) _ (c .before .is-code-at .ensures) (c .if2 .left)
-
-returns-3 : tie.Need-returns-3 Inv-loop μ-loop
-returns-3 c =
-    let e = c .before .before in
-    codes-out _ _ _ _ (omega arith) (e .before .before .code-start .ensures) (e .before .code-start2 .ensures) _ (c .before .loop .inv) (omega arith)
+    let start = c .before .before .before .before in
+    let a = start .args in
+    listed-key _ _ (decoded-bytes (a .y) (a .d .now) (a .a) (a .b) (λ i. omega (arith, c .before .before .before .shared-slice-known .given i))) (c .before .before .if1 .left)
+    _ _ _ _ (c .before .key-of .ensures) refl refl (c .has-code .ensures)
 
 pub listed-spec : {M : Type 1} → statement M
-listed-spec =
-    tie.close
-    (tie.spec
-    Inv-loop
-    μ-loop
-    code-start-requires
-    add-code-start
-    code-start-requires-2
-    returns
-    loop-holds
-    is-code-at-requires
-    returns-2
-    add-n
-    loop-less
-    loop-again
-    returns-3)
+listed-spec = tie.close (tie.spec returns key-of-requires add-has-code has-code-requires returns-2)

@@ -1,8 +1,6 @@
 -- `page::formed::empty_fault` meets its contract: each return by its tests.
-use lib.ListN.{getD}
-use Rattle.guide.specs.Page.{unused}
 use Rattle.guide.proofs.PageFace.{isMust}
-use Rattle.page.specs.PageColumns.{allRows}
+use Rattle.page.specs.PageWords.{rowIn}
 use mathlib.Core.Path.{sym, _∙_}
 use borrow.Author.Tests.{not-true, not-false}
 use Rattle.page.proofs.PageFaults.{not-asked, asked-must, asked-may}
@@ -11,7 +9,7 @@ use Rattle.page.proofs.formed.empty_fault.Statement.{statement}
 use Rattle.page.proofs.formed.empty_fault.Tie as tie
 
 returns : tie.Need-returns
-returns c = not-asked (isMust (getD allRows (c .before .args .row) unused)) (c .before .args .asked) (not-true (c .before .args .asked) (c .if1 .taken))
+returns c = not-asked (isMust (rowIn (c .before .args .row))) (c .before .args .asked) (not-true (c .before .args .asked) (c .if1 .taken))
 
 is-must-requires : tie.Need-is-must-requires
 is-must-requires c κs = search needs

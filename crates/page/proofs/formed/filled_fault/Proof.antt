@@ -1,59 +1,28 @@
 -- `page::formed::filled_fault` meets its contract: each return by its tests, in the order 18, 19, 20.
-use mathlib.Core.Path.{sym, _∙_}
 use borrow.Author.Tests.{not-true, not-false}
-use Rattle.page.proofs.PageFaults.{row-none, filled-none, filled-unused, filled-format, filled-code, filled-right}
+use Rattle.page.proofs.PageFaults.{filled-unused, filled-format, filled-code, filled-right}
 use borrow.Author.Needs.{needs}
 use Rattle.page.proofs.formed.filled_fault.Statement.{statement}
 use Rattle.page.proofs.formed.filled_fault.Tie as tie
 
 returns : tie.Need-returns
-returns c = filled-none _ _ _ (c .before .before .pre) (row-none _ (c .if1 .taken))
+returns c = filled-unused _ _ _ _ (c .before .before .pre) (c .if1 .taken)
 
-status-requires : tie.Need-status-requires
-status-requires c κs = search needs
+is-formed-requires : tie.Need-is-formed-requires
+is-formed-requires c κs = c .before .before .pre
 
 returns-2 : tie.Need-returns-2
-returns-2 c = filled-unused _ _ _ (c .before .before .before .before .pre) (sym (c .before .status .ensures) ∙ c .if2 .taken)
-
-format-of-requires : tie.Need-format-of-requires
-format-of-requires c κs = search needs
-
-fits-requires : tie.Need-fits-requires
-fits-requires c κs = search needs
+returns-2 c = filled-format _ _ _ _ (c .before .before .before .before .pre) (c .before .before .if1 .left) _ (c .before .is-formed .ensures) (not-true _ (c .if2 .taken))
 
 listed-requires : tie.Need-listed-requires
-listed-requires c κs = search needs
+listed-requires c κs = c .before .before .before .before .pre .0
 
 returns-3 : tie.Need-returns-3
-returns-3 c =
-    let t = c .before .before .before in
-    filled-format _ _ _ (t .before .before .before .before .before .pre)
-    (λ z. t .before .if2 .left (t .before .before .status .ensures ∙ z)) _ (t .format-of .ensures) _ (c .before .before .fits2 .ensures) (not-true _ (c .if3 .taken))
+returns-3 c = filled-code _ _ _ _ (c .before .before .before .before .before .before .pre) (c .before .before .before .before .if1 .left) _ (c .before .before .before .is-formed .ensures) (not-false _ (c .before .before .if2 .left)) _ (c .before .listed .ensures) (not-true _ (c .if3 .taken))
 
 returns-4 : tie.Need-returns-4
-returns-4 c =
-    let t = c .before .before .before .before in
-    filled-code _ _ _ (t .before .before .before .before .before .pre)
-    (λ z. t .before .if2 .left (t .before .before .status .ensures ∙ z)) _ (t .format-of .ensures) _ (c .before .before .before .fits2 .ensures) (not-false _ (c .before .if3 .left))
-    _ (c .before .before .listed .ensures) (not-true _ (c .if4 .taken))
-
-returns-5 : tie.Need-returns-5
-returns-5 c =
-    let t = c .before .before .before .before in
-    filled-right _ _ _ (t .before .before .before .before .before .pre)
-    (λ z. t .before .if2 .left (t .before .before .status .ensures ∙ z)) _ (t .format-of .ensures) _ (c .before .before .before .fits2 .ensures) (not-false _ (c .before .if3 .left))
-    _ (c .before .before .listed .ensures) (not-false _ (c .if4 .left))
+returns-4 c = filled-right _ _ _ _ (c .before .before .before .before .before .before .pre) (c .before .before .before .before .if1 .left) _ (c .before .before .before .is-formed .ensures) (not-false _ (c .before .before .if2 .left)) _ (c .before .listed .ensures) (not-false _ (c .if3 .left))
 
 pub filled-fault-spec : {M : Type 1} → statement M
 filled-fault-spec =
-    tie.close
-    (tie.spec
-    returns
-    status-requires
-    returns-2
-    format-of-requires
-    fits-requires
-    listed-requires
-    returns-3
-    returns-4
-    returns-5)
+    tie.close (tie.spec returns is-formed-requires returns-2 listed-requires returns-3 returns-4)

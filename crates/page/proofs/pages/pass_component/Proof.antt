@@ -10,21 +10,24 @@ returns c =
     let a = c .before .before .args in
     passed-tag (a .y) (pageOf (a .node)) (a .d .now) (a .at .element) (a .at .component) (a .at .mood) (a .e) (a .c) (a .a) (a .b) (c .if1 .taken) _ (c .before .before .pre)
 
+element-at-requires : tie.Need-element-at-requires
+element-at-requires c κs = search needs
+
 pass-row-requires : tie.Need-pass-row-requires
 pass-row-requires c κs = search needs
 
 returns-2 : tie.Need-returns-2
 returns-2 c =
-    let a = c .before .before .before .before .args in
-    passed-further (a .y) (pageOf (a .node)) (a .d .now) (a .at .element) (a .at .component) (a .at .mood) (a .e) (a .c) (a .a) (a .b) (c .before .before .if1 .left) _ _ _ _ (c .before .if2 .taken) (c .pass-row .ensures)
+    let a = c .before .before .before .before .before .args in
+    passed-further (a .y) (pageOf (a .node)) (a .d .now) (a .at .element) (a .at .component) (a .at .mood) (a .e) (a .c) (a .a) (a .b) (c .before .before .before .if1 .left) _ (c .before .before .element-at .ensures) _ _ _ _ (c .before .if2 .taken) (c .pass-row .ensures)
 
 ending-requires : tie.Need-ending-requires
 ending-requires c κs = search needs
 
 returns-3 : tie.Need-returns-3
 returns-3 c =
-    let a = c .before .before .before .before .before .args in
-    passed-ended (a .y) (pageOf (a .node)) (a .d .now) (a .at .element) (a .at .component) (a .at .mood) (a .e) (a .c) (a .a) (a .b) (c .before .before .before .if1 .left) _ _ _ 0 (c .before .before .if2 .left) (c .before .ending .ensures) (c .if3 .taken)
+    let a = c .before .before .before .before .before .before .args in
+    passed-ended (a .y) (pageOf (a .node)) (a .d .now) (a .at .element) (a .at .component) (a .at .mood) (a .e) (a .c) (a .a) (a .b) (c .before .before .before .before .if1 .left) _ _ _ 0 (c .before .before .if2 .left) (c .before .ending .ensures) (c .if3 .taken)
 
 opening-requires : tie.Need-opening-requires
 opening-requires c κs = search needs
@@ -34,8 +37,8 @@ pass-row-requires-2 c κs = search needs
 
 returns-4 : tie.Need-returns-4
 returns-4 c =
-    let a = c .before .before .before .before .before .before .before .args in
-    passed-entered (a .y) (pageOf (a .node)) (a .d .now) (a .at .element) (a .at .component) (a .at .mood) (a .e) (a .c) (a .a) (a .b) (c .before .before .before .before .before .if1 .left) _ _ _ _ _ _ (c .before .before .before .before .if2 .left)
+    let a = c .before .before .before .before .before .before .before .before .args in
+    passed-entered (a .y) (pageOf (a .node)) (a .d .now) (a .at .element) (a .at .component) (a .at .mood) (a .e) (a .c) (a .a) (a .b) (c .before .before .before .before .before .before .if1 .left) _ (c .before .before .before .before .before .element-at .ensures) _ _ _ _ _ _ (c .before .before .before .before .if2 .left)
     (c .before .before .before .ending .ensures) (c .before .before .if3 .left) (c .before .opening .ensures) (c .pass-row2 .ensures)
 
 pub pass-component-spec : {M : Type 1} → statement M
@@ -43,6 +46,7 @@ pass-component-spec =
     tie.close
     (tie.spec
     returns
+    element-at-requires
     pass-row-requires
     returns-2
     ending-requires
