@@ -1,7 +1,7 @@
 -- The answers of the two calls that find messages, from what their workers answer.
 use Prim.Native.Nat.{ℕ, suc}
-use mathlib.Core.Path.{_≡_, sym, _∙_, ap, ap₂}
-use mathlib.Core.Bool.{true, false}
+use mathlib.Core.Path.{_≡_, refl, sym, _∙_, ap, ap₂}
+use mathlib.Core.Bool.{Bool, true, false}
 use mathlib.Core.List.{List}
 use native.Mathlib.Omega.{arith}
 use lib.ListN.{drop}
@@ -12,7 +12,7 @@ use Rattle.cut.specs.declared.message.Found.the-variants as found
 use Rattle.cut.specs.Segments.{Segment, segmentsFrom}
 use Rattle.cut.specs.Admission.{admissionOf, openingOf, segments}
 use Rattle.cut.specs.Messages.{lastEnd, body, messagesIn, messages}
-use Rattle.cut.specs.Calls.{beginsSegment, foundAt, messageAt, foundFrom, nextMessage}
+use Rattle.cut.specs.Calls.{beginsSegment, isFound, foundAt, messageAt, foundFrom, nextMessage}
 use Rattle.cut.specs.Workers.{headSpot, headFound, isUnh, since}
 use Rattle.cut.proofs.Starts.{Rising, rising-none, rising-weaken, segments-rising}
 use Rattle.cut.proofs.Boundaries.{rising-rest}
@@ -60,3 +60,7 @@ module _ (y : Syntax) (d : List ℕ) where
 
       pub at-other : isUnh t ≡ false → messageAt y d at ≡ found.Nothing
       at-other u = at-list b ∙ rw (q .list) (found-other at (q .segment) _ after-first (q .here) (ap isUnh (q .tag) ∙ u))
+
+      pub at-begins : (b : Bool) → b ≡ isUnh t → b ≡ isFound (messageAt y d at)
+      at-begins true u = ap isFound (sym (at-here _ (sym u) refl))
+      at-begins false u = ap isFound (sym (at-other (sym u)))

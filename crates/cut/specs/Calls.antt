@@ -69,6 +69,11 @@ foundAt at (m ∷ ms) = pickFound (eqb at (startOf m)) (asFound m) (foundAt at m
 unfoldable pub messageAt : Syntax → List ℕ → ℕ → Found
 messageAt y d at = foundAt at (messages y d)
 
+-- message_begins: whether it is one
+abbrev pub isFound : Found → Bool
+isFound (found.Message s e) = true
+isFound found.Nothing = false
+
 -- the first of some messages that begins at a place or later
 unfoldable pub foundFrom : ℕ → List Message → Found
 foundFrom from [] = found.Nothing

@@ -19,6 +19,7 @@ pub use member::Member;
 pub use member::member_at;
 pub use message::Found;
 pub use message::message_at;
+pub use message::message_begins;
 pub use message::message_end;
 pub use message::next_message;
 pub use outer::Outer;

@@ -12,7 +12,7 @@ ghost use mathlib.Core.Path.{_≡_};
 ghost use lib.ListN.{drop};
 ghost use Rattle.cut.specs.Segments.{segmentsFrom};
 ghost use Rattle.cut.specs.Messages.{body, lastEnd, messagesIn};
-ghost use Rattle.cut.specs.Calls.{messageAt, nextMessage};
+ghost use Rattle.cut.specs.Calls.{isFound, messageAt, nextMessage};
 ghost use Rattle.cut.specs.Workers.{headFound, isUnh, goesOn, lastBy};
 
 // A message's first byte and the byte after its last; or nothing.
@@ -39,6 +39,25 @@ pub fn message_at(y: Syntax, d: &[u8], at: usize) -> Found
         start,
         end: message_end(y, d, end),
     }
+}
+
+// Whether a message begins at `at`. The cost is its first segment, not the message.
+pub fn message_begins(y: Syntax, d: &[u8], at: usize) -> bool
+    ensures { λ r. ⌜ r ≡ isFound (messageAt y (now (d .entry)) at) ⌝ }
+{
+    if !begins_segment(y, d, at) {
+        return false;
+    }
+    let s = spot_at(y, d, at);
+    let Spot::At {
+        start: _,
+        tag,
+        end: _,
+    } = s
+    else {
+        return false;
+    };
+    begins_message(tag)
 }
 
 // The next message that begins at `from` or later. The cost is what lies between `from` and the end of that message.
