@@ -9,20 +9,8 @@ use Rattle.cut.specs.declared.service.Syntax.{Syntax}
 use Rattle.element.specs.declared.numeral.Run.{Run}
 use Rattle.element.specs.declared.numeral.Numeral.{Numeral}
 use Rattle.element.specs.declared.numeral.Numeral.the-variants.{Short, Long, Other}
-use Rattle.cut.specs.Bytes.{part}
-use Rattle.element.specs.Elements.{endingOf, stays, splitFrom}
 use Rattle.element.specs.Plain.{decoded}
 use Rattle.element.specs.Numeral.{some, digitsAhead, behindDigits, minus, unsigned, isTail, decimal}
-
--- the end of the component whose byte at i is released or not, as r says, in the part of d up to e
-unfoldable pub endFrom : Syntax → List ℕ → ℕ → Bool → ℕ → ℕ
-endFrom y d e r i = i + length (splitFrom y r (part i e d) .bytes)
-
--- from i up to j no byte ends a component or is the release character; the one at j does or is
-pub record NextMark (y : Syntax) (d : List ℕ) (e i j : ℕ) : Type 0 where
-  pub onward : i ≤ j
-  pub seen : endFrom y d e false i ≡ endFrom y d e false j
-  pub mark : j < e → stays (endingOf y false (getD d j 0)) ≡ true → getD d j 0 ≡ y .release
 
 -- r is where the first decoded byte of the part from i up to e stands; it is not before e where there is none
 pub record Literal (y : Syntax) (d : List ℕ) (i e r : ℕ) : Type 0 where

@@ -5,7 +5,6 @@ use mathlib.Core.Bool.{Bool, true, false, cond, true≢false, false≢true}
 use borrow.Author.Tests.{eq-eqb, ne-eqb}
 use lib.Dec.{eqb}
 use Rattle.cut.specs.declared.service.Syntax.{Syntax}
-use Rattle.cut.specs.Segments.{frees}
 use Rattle.element.specs.Elements.{Ending, ends-segment, ends-element, ends-component, ends-nothing, endingOf, stays}
 
 pub stays-nothing : (g : Ending) → stays g ≡ true → g ≡ ends-nothing
@@ -46,12 +45,10 @@ module _ (y : Syntax) (x : ℕ) where
       rw (ne-eqb x (y .terminator) t, ne-eqb x (y .element) e)
       (component-by (eqb x (y .component)) (rw (ne-eqb x (y .terminator) t, ne-eqb x (y .element) e) at f))
 
-  pub ending-is : (g : Ending) → endingOf y false x ≡ g → stays g ≡ stays (endingOf y false x)
-  ending-is g e = rw e
+  module _ (r : Bool) where
+    pub released-stays : r ≡ true → true ≡ stays (endingOf y r x)
+    unfolding endingOf stays
+    released-stays t = rw t
 
-  -- a byte that ends nothing releases the next one exactly if it is the release character
-  pub frees-mark : (b : Bool) → stays (endingOf y false x) ≡ true → eqb x (y .release) ≡ b → b ≡ frees y false x
-  unfolding frees stays
-  frees-mark b t f =
-      let n : x ≡ y .terminator → ⊥ = λ e. false≢true (rw (ending-segment e) at t) in
-      rw (ne-eqb x (y .terminator) n, f)
+    pub unreleased : (g : Ending) → r ≡ false → endingOf y false x ≡ g → stays g ≡ stays (endingOf y r x)
+    unreleased g f e = rw (f, e)

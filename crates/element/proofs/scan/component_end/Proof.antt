@@ -2,14 +2,12 @@
 use Prim.Native.Nat.{_+_, _-_}
 use mathlib.Core.Bool.{false}
 use mathlib.Core.Path.{_≡_, sym, _∙_}
-use native.Mathlib.Omega.{arith}
 use borrow.Author.Needs.{needs}
 use borrow.Author.Tests.{not-true, not-false}
 use lib.ListN.{length}
 use Rattle.cut.specs.Bytes.{part}
 use Rattle.element.specs.Elements.{component}
-use Rattle.element.specs.Inner.{endFrom}
-use Rattle.element.proofs.scan.Scanning.{end-whole, end-past, end-here, released-on}
+use Rattle.element.proofs.scan.Scanning.{endFrom, end-whole, end-past, end-here, end-plain}
 use Rattle.element.proofs.scan.component_end.Statement.{statement}
 use Rattle.element.proofs.scan.component_end.Tie as tie
 
@@ -22,52 +20,44 @@ abbrev μ-loop : tie.MeasureT-loop
 loop-holds : tie.Need-loop-holds Inv-loop μ-loop
 loop-holds c = end-whole _ _ _ _
 
-next-mark-requires : tie.Need-next-mark-requires Inv-loop μ-loop
-next-mark-requires c κs = search needs
-
-returns : tie.Need-returns Inv-loop μ-loop
-returns c = sym (c .before .next-mark .ensures .seen ∙ end-past _ _ _ _ _ (c .if1 .taken)) ∙ c .before .before .loop .inv
-
-shared-slice-read-stays-in : tie.Need-shared-slice-read-stays-in Inv-loop μ-loop
-shared-slice-read-stays-in c = search needs
+shared-slice-read-x : tie.Need-shared-slice-read-x Inv-loop μ-loop
+shared-slice-read-x c = search needs
 
 stays-in-requires : tie.Need-stays-in-requires Inv-loop μ-loop
 stays-in-requires c κs = search needs
 
-returns-2 : tie.Need-returns-2 Inv-loop μ-loop
-returns-2 c =
-    let b = c .before .before .before in
-    let l = b .before .before in
-    sym
-    (b .before .next-mark .ensures .seen
-    ∙ end-here _ _ _ _ _ (b .if1 .left) (l .before .before .pre) (sym (c .before .stays-in .ensures) ∙ not-true _ (c .if2 .taken)))
+returns : tie.Need-returns Inv-loop μ-loop
+returns c =
+    let h = c .before .before .before .loop-test .taken in
+    let l = c .before .before .before .before in
+    sym (end-here _ _ _ _ _ h (l .before .before .pre) (sym (c .before .stays-in .ensures) ∙ not-true _ (c .if1 .taken)))
     ∙ l .loop .inv
 
-add-past-released : tie.Need-add-past-released Inv-loop μ-loop
-add-past-released c = search needs
+released-end-requires : tie.Need-released-end-requires Inv-loop μ-loop
+released-end-requires c κs = search needs
 
-past-released-requires : tie.Need-past-released-requires Inv-loop μ-loop
-past-released-requires c κs = search needs
+returns-2 : tie.Need-returns-2 Inv-loop μ-loop
+returns-2 c =
+    c .released-end .ensures
+    ∙ sym (end-whole _ _ _ _)
+    ∙ c .before .before .before .before .before .before .before .loop .inv
+
+add-i : tie.Need-add-i Inv-loop μ-loop
+add-i c = search needs
 
 loop-less : tie.Need-loop-less Inv-loop μ-loop
-loop-less c =
-    let o = c .before .before .before .before .before .next-mark .ensures .onward in
-    let r = c .past-released .ensures in
-    omega arith
+loop-less c = search needs
 
 loop-again : tie.Need-loop-again Inv-loop μ-loop
 loop-again c =
-    let s = c .before in
-    let b = s .before .before .before in
-    let l = b .before .before in
-    sym
-    (released-on _ _ _ _ _ _
-    (b .before .next-mark .ensures)
-    (b .if1 .left)
-    (l .before .before .pre)
-    (sym (s .before .stays-in .ensures) ∙ not-false _ (s .if2 .left))
-    (c .past-released .ensures))
+    let b = c .before .before in
+    let h = b .before .before .before .loop-test .taken in
+    let l = b .before .before .before .before in
+    sym (end-plain _ _ _ _ h (l .before .before .pre) (sym (b .before .stays-in .ensures) ∙ not-false _ (b .if1 .left)) (c .if2 .left))
     ∙ l .loop .inv
+
+returns-3 : tie.Need-returns-3 Inv-loop μ-loop
+returns-3 c = sym (end-past _ _ _ _ _ (c .loop-test .left)) ∙ c .before .loop .inv
 
 pub component-end-spec : {M : Type 1} → statement M
 component-end-spec =
@@ -76,12 +66,12 @@ component-end-spec =
     Inv-loop
     μ-loop
     loop-holds
-    next-mark-requires
-    returns
-    shared-slice-read-stays-in
+    shared-slice-read-x
     stays-in-requires
+    returns
+    released-end-requires
     returns-2
-    add-past-released
-    past-released-requires
+    add-i
     loop-less
-    loop-again)
+    loop-again
+    returns-3)
