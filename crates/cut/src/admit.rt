@@ -32,7 +32,7 @@ pub fn admission(y: Syntax, d: &[u8]) -> u32
 }
 
 // Where the first segment of an admitted delivery begins: after UNA's nine bytes, or at 0.
-pub(crate) fn opening(d: &[u8]) -> usize
+pub fn opening(d: &[u8]) -> usize
     ensures { λ r. ⌜ r ≡ openingOf (now (d .entry)) ⌝ }
 {
     if begins_with(d, b"UNA") { 9 } else { 0 }

@@ -13,6 +13,7 @@ mod tags;
 mod totals;
 
 pub use admit::admission;
+pub use admit::opening;
 pub use begins::begins_segment;
 pub use begins::releases;
 pub use member::Member;

@@ -5,7 +5,7 @@ use mathlib.Core.Bool.{Bool, true, false}
 use mathlib.Core.List.{List, [], _∷_, head-eq-of-cons-eq, nil≢cons}
 use native.Mathlib.Omega.{arith}
 use lib.Dec.{eqb, leb}
-use lib.ListN.{length}
+use lib.ListN.{length, drop}
 use borrow.Author.Tests.{eq-eqb, ne-eqb, eqb-true, leb-false}
 use Rattle.cut.specs.declared.service.Syntax.{Syntax}
 use Rattle.cut.specs.declared.message.Found.{Found}
@@ -13,7 +13,8 @@ use Rattle.cut.specs.declared.message.Found.the-variants as found
 use Rattle.cut.specs.Bytes.{part}
 use Rattle.cut.specs.Segments.{segmentsFrom}
 use Rattle.cut.specs.Messages.{Message, startOf, closeOf, messages}
-use Rattle.cut.specs.Calls.{pickFound, asFound, foundAt, messageAt}
+use Rattle.cut.specs.Held.{held}
+use Rattle.cut.specs.Calls.{pickFound, asFound, isFound, foundAt, messageAt}
 use Rattle.cut.proofs.Face.{keepMessage, messagesFrom, Next, next-message, message-at}
 use Rattle.guide.specs.Accepted.{segmentsOf}
 use Rattle.guide.specs.Sheet.{pickList}
@@ -57,6 +58,7 @@ pub record Here (y : Syntax) (d : List ℕ) (at s e : ℕ) : Type 0 where
   pub starts : startOf message ≡ s
   pub closes : closeOf message ≡ e
   pub alone : segmentsFrom y s false (part s e d) ≡ segmentsOf message
+  pub takes : held (segmentsFrom y s false (drop s d)) ≡ segmentsOf message
   pub some : s < e
   pub fits : e ≤ length d
 
@@ -71,10 +73,41 @@ module _ (y : Syntax) (d : List ℕ) (at : ℕ) where
         starts = n .starts;
         closes = n .closes;
         alone = n .alone;
+        takes = n .takes;
         some = n .some;
         fits = n .fits;
       }
 
+  -- a message begins at the place
+  pub record Begins : Type 0 where
+    pub message : Message
+    pub only : beginningAt at (messages y d) ≡ message ∷ []
+    pub starts : startOf message ≡ at
+    pub takes : held (segmentsFrom y at false (drop at d)) ≡ segmentsOf message
+
   pub nowhere-here : messageAt y d at ≡ found.Nothing → beginningAt at (messages y d) ≡ []
   unfolding messageAt
   nowhere-here h = found-none at (messages y d) h
+
+  module _ (b : Bool) (begins : b ≡ isFound (messageAt y d at)) where
+    by-none : (f : Found) → messageAt y d at ≡ f → isFound f ≡ false → beginningAt at (messages y d) ≡ []
+    by-none found.Nothing e k = nowhere-here e
+    by-none (found.Message s c) e k = absurd (let z : _≡_ {A = ℕ} 0 1 = cc in omega arith)
+
+    pub not-begun : b ≡ false → beginningAt at (messages y d) ≡ []
+    not-begun h = by-none (messageAt y d at) refl (sym begins ∙ h)
+
+    by-some : (f : Found) → messageAt y d at ≡ f → isFound f ≡ true → Begins
+    by-some found.Nothing e k = absurd (let z : _≡_ {A = ℕ} 0 1 = cc in omega arith)
+    by-some (found.Message s c) e k =
+        let h = here s c e in
+        let w : s ≡ at = message-at y d at s c e .0 in
+        record {
+          message = h .message;
+          only = h .only;
+          starts = h .starts ∙ w;
+          takes = ap (λ (q : ℕ). held (segmentsFrom y q false (drop q d))) (sym w) ∙ h .takes;
+        }
+
+    pub is-begun : b ≡ true → Begins
+    is-begun h = by-some (messageAt y d at) refl (sym begins ∙ h)

@@ -1,28 +1,32 @@
--- The survey: messages are judged one after the other, each once.
+-- The survey goes from message to message: each step adds its counts, and what is left from its end on makes the whole.
 use Prim.Native.Nat.{ℕ, zero, suc, _+_, _≤_, _<_}
-use mathlib.Core.Path.{_≡_, refl, sym, _∙_, ap}
 use mathlib.Core.Bool.{false}
-use mathlib.Core.List.{List, _++_}
+use mathlib.Core.Path.{_≡_, refl, sym, _∙_, ap}
+use mathlib.Core.List.{List, [], _∷_, _++_}
+use native.Mathlib.Nat.{add-zero}
 use native.Mathlib.Omega.{arith}
-use lib.ListN.{length, length-append}
+use lib.ListN.{length, drop, length-append}
 use Rattle.cut.specs.declared.service.Syntax.{Syntax}
-use Rattle.cut.specs.declared.message.Found.the-variants as found
-use Rattle.cut.specs.declared.totals.Counts.{Counts}
-use Rattle.cut.specs.Admission.{admissionOf}
-use Rattle.cut.specs.Bytes.{part}
-use Rattle.cut.specs.Segments.{segmentsFrom}
-use Rattle.cut.specs.Messages.{Message, messages, outside}
-use Rattle.cut.specs.Calls.{nextMessage, countsOf}
-use Rattle.cut.proofs.Face.{messagesFrom, from-zero, Next, next-message, next-nothing}
+use Rattle.cut.specs.declared.outer.Outer.the-variants as outer
+use Rattle.cut.specs.Admission.{admissionOf, openingOf, segments}
+use Rattle.cut.specs.Held.{held, headOuter}
+use Rattle.cut.specs.Segments.{Segment, segmentsFrom}
+use Rattle.cut.specs.Messages.{Message, lastEnd, messagesIn, messages, outside}
+use Rattle.cut.proofs.Finding.{all-rising}
+use Rattle.cut.proofs.Outside.{leftOver, outside-walk}
+use Rattle.cut.proofs.Passing.{Begun, begun, Left, left, none-left}
+use Rattle.cut.proofs.Places.{admitted}
+use Rattle.cut.proofs.Scanning.{segments-none}
 use Rattle.guide.specs.Judging.{accepts, refuses, Verdict as Judged}
 use Rattle.guide.specs.Pages20d.{pageOf}
 use Rattle.guide.specs.Pricat.{pricat20d}
-use Rattle.verdict.specs.Answers.{declared}
-use Rattle.verdict.specs.Verdicts.{verdictFrom}
+use Rattle.verdict.specs.Answers.{declared, judgedAs}
+use Rattle.verdict.specs.Verdicts.{verdictFrom, verdictOf}
+use Rattle.verdict.specs.declared.answers.Judged.{Judged as JudgedAt}
 use Rattle.verdict.specs.declared.answers.Verdict.{Verdict}
-use Rattle.verdict.proofs.Face.{next-verdict}
 use Rattle.schaumtruhe.specs.Calls.{judged, onlyAccepted, accepted, surveyUnless, surveyOf}
-use Rattle.schaumtruhe.specs.Workers.{oneIf}
+use Rattle.schaumtruhe.specs.Workers.{oneIf, Stepped}
+use Rattle.schaumtruhe.specs.declared.surveys.Counts.{Counts}
 use Rattle.schaumtruhe.specs.declared.surveys.Surveyed.the-variants.{Counted, Refused}
 
 one-only : (m : Message) (v : Judged) → length (onlyAccepted v m) ≡ oneIf (declared v)
@@ -34,62 +38,114 @@ one-few (accepts n e) = omega arith
 one-few (refuses k i p n) = omega arith
 
 module _ (y : Syntax) (d : List ℕ) where
+  abbrev from : ℕ → List Segment
+  from at = segmentsFrom y at false (drop at d)
+
   abbrev among : List Message → ℕ
   among ms = length (accepted y ms)
 
-  -- the messages up to the place `from` have been judged, and n of them are accepted
-  pub record Passed (from n : ℕ) : Type 0 where
-    pub counted : n + among (messagesFrom from (messages y d)) ≡ among (messages y d)
-    pub few : n ≤ from
-    pub inside : from ≤ length d
+  module _ (at : ℕ) where
+    -- the message that begins at the place
+    module _ (h : headOuter (from at) ≡ outer.Message) (j : JudgedAt)
+        (judges : j ≡ judgedAs (declared (verdictFrom y pricat20d pageOf at (held (from at)))) (lastEnd at (held (from at)))) (o : ℕ) (one : o ≡ oneIf (j .verdict)) where
+      abbrev b : Begun y d at
+      b = begun y d at h
 
-  pub passed-first : Passed 0 0
-  passed-first =
-      record {
-        counted = rw (from-zero y d) (omega arith);
-        few = omega arith;
-        inside = omega arith;
-      }
+      same-verdict : j .verdict ≡ declared (judged y (b .message))
+      unfolding verdictOf
+      same-verdict = ap (λ (x : JudgedAt). x .verdict) judges ∙ rw (b .starts, ← b .takes)
 
-  module _ (from n : ℕ) (p : Passed from n) where
-    pub passed-all : nextMessage y d from ≡ found.Nothing → n ≡ among (messages y d)
-    unfolding accepted
-    passed-all h =
-        let c : n + 0 ≡ among (messages y d) = rw (next-nothing y d from h) at (p .counted) in
-        omega (arith, c)
+      same-end : j .end ≡ lastEnd at (held (from at))
+      same-end = ap (λ (x : JudgedAt). x .end) judges
 
-    module _ (s e : ℕ) (h : nextMessage y d from ≡ found.Message s e) (v : Verdict)
-        (judges : v ≡ declared (verdictFrom y pricat20d pageOf s (segmentsFrom y s false (part s e d)))) (o : ℕ) (one : o ≡ oneIf v) where
-      abbrev next : Next y d from s e
-      next = next-message y d from s e h
+      is-one : o ≡ oneIf (declared (judged y (b .message)))
+      is-one = one ∙ ap oneIf same-verdict
 
-      is-one : o ≡ oneIf (declared (judged y (next .message)))
-      is-one = one ∙ ap oneIf (judges ∙ ap declared (next-verdict y d from s e next pricat20d pageOf))
-
-      more-counted : n + o + among (messagesFrom e (messages y d)) ≡ among (messages y d)
+      more-accepts : o + among (messagesIn (from (j .end))) ≡ among (messagesIn (from at))
       unfolding accepted
-      more-counted =
-          let rest = among (messagesFrom e (messages y d)) in
-          let only = onlyAccepted (judged y (next .message)) (next .message) in
-          let all : n + length (only ++ accepted y (messagesFrom e (messages y d))) ≡ among (messages y d) = rw (next .next) at (p .counted) in
-          let len = length-append only (accepted y (messagesFrom e (messages y d))) in
-          omega (arith, all, len, one-only (next .message) (judged y (next .message)), is-one)
+      more-accepts =
+          let m = b .message in
+          let only = onlyAccepted (judged y m) m in
+          let rest = accepted y (messagesIn (from (lastEnd at (held (from at))))) in
+          rw (same-end, b .messages) (omega (arith, length-append only rest, one-only m (judged y m), is-one))
 
-      pub one-more-few : n + o ≤ length d
-      one-more-few = omega (arith, p .few, next .later, next .some, next .fits, is-one, one-few (judged y (next .message)))
-
-      pub next-less : (from < e) × (e ≤ length d)
-      next-less = (omega (arith, next .later, next .some), next .fits)
-
-      pub passed-on : Passed e (n + o)
-      passed-on =
+      pub stepped-message : Stepped y d at (record { messages = 1; accepted = o; outside = 0; end = j .end })
+      stepped-message =
           record {
-            counted = more-counted;
-            few = omega (arith, p .few, next .later, next .some, is-one, one-few (judged y (next .message)));
-            inside = next .fits;
+            messages = rw (same-end, b .messages) (omega arith);
+            accepts = more-accepts;
+            outside = rw (same-end, ← b .outside) (omega arith);
+            few = (omega arith, omega (arith, is-one, one-few (judged y (b .message))), omega arith);
+            some = omega (arith, same-end, b .some);
+            fits = omega (arith, same-end, b .fits);
           }
 
-  -- the answer
+    -- the segment outside that begins at the place
+    pub stepped-outside : (e : ℕ) → headOuter (from at) ≡ outer.Segment e → Stepped y d at (record { messages = 0; accepted = 0; outside = 1; end = e })
+    stepped-outside e h =
+        let l = left y d at e h in
+        record {
+          messages = rw (← l .messages) (omega arith);
+          accepts = rw (← l .messages) (omega arith);
+          outside = rw (l .outside) (omega arith);
+          few = (omega arith, omega arith, omega arith);
+          some = l .some;
+          fits = l .fits;
+        }
+
+    pub stepped-none : at < length d → headOuter (from at) ≡ outer.Nothing → Stepped y d at (record { messages = 0; accepted = 0; outside = 0; end = length d })
+    stepped-none n h =
+        let here : from at ≡ [] = none-left y d at h in
+        let end : from (length d) ≡ [] = segments-none y d (length d) false (omega arith) in
+        record {
+          messages = rw (here, end);
+          accepts = rw (here, end);
+          outside = rw (here, end);
+          few = (omega arith, omega arith, omega arith);
+          some = n;
+          fits = omega arith;
+        }
+
+  -- the counts so far, and what is left from the place `at` on
+  pub record Passed (m a o at : ℕ) : Type 0 where
+    pub messages-all : m + length (messagesIn (from at)) ≡ length (messages y d)
+    pub accepts-all : a + among (messagesIn (from at)) ≡ among (messages y d)
+    pub outside-all : o + length (leftOver false (from at)) ≡ length (outside y d)
+    pub few : (m ≤ at) × (a ≤ at) × (o ≤ at)
+
+  pub passed-first : admissionOf y d ≡ 0 → (p : ℕ) → p ≡ openingOf d → Passed 0 0 0 p
+  unfolding messages outside
+  passed-first e p o =
+      let all : segments y d ≡ from p = admitted y d e ∙ ap from (sym o) in
+      record {
+        messages-all = rw all (omega arith);
+        accepts-all = rw all (omega arith);
+        outside-all = rw (outside-walk 0 (segments y d) (all-rising y d), all) (omega arith);
+        few = (omega arith, omega arith, omega arith);
+      }
+
+  module _ (m a o at : ℕ) (p : Passed m a o at) where
+    module _ (r : Counts) (s : Stepped y d at r) where
+      pub passed-on : Passed (m + r .messages) (a + r .accepted) (o + r .outside) (r .end)
+      passed-on =
+          record {
+            messages-all = omega (arith, p .messages-all, s .messages);
+            accepts-all = omega (arith, p .accepts-all, s .accepts);
+            outside-all = omega (arith, p .outside-all, s .outside);
+            few =
+                (omega (arith, p .few .0, s .few .0, s .some), omega (arith, p .few .1, s .few .1, s .some), omega (arith, p .few .2, s .few .2, s .some));
+          }
+
+    -- the answer
+    pub passed-all : (length d ≤ at) → admissionOf y d ≡ 0 → Counted m a o ≡ surveyOf y d
+    unfolding surveyOf messagesIn leftOver accepted
+    passed-all n e =
+        let none : from at ≡ [] = segments-none y d at false n in
+        let ms : m + 0 ≡ length (messages y d) = rw none at (p .messages-all) in
+        let acs : a + 0 ≡ among (messages y d) = rw none at (p .accepts-all) in
+        let os : o + 0 ≡ length (outside y d) = rw none at (p .outside-all) in
+        rw (e, ← ms, ← acs, ← os, add-zero, add-zero, add-zero)
+
   module _ (a : ℕ) (admits : a ≡ admissionOf y d) where
     refuses-more : (k : ℕ) (s : _) → (k ≡ 0 → ⊥) → Refused k ≡ surveyUnless k s
     refuses-more zero s h = absurd (h refl)
@@ -98,8 +154,3 @@ module _ (y : Syntax) (d : List ℕ) where
     pub survey-refused : (a ≡ 0 → ⊥) → Refused a ≡ surveyOf y d
     unfolding surveyOf
     survey-refused h = rw (← admits) (refuses-more a _ h)
-
-    pub survey-counted
-        : a ≡ 0 → (c : Counts) → c ≡ countsOf y d → (n : ℕ) → n ≡ length (accepted y (messages y d)) → Counted (c .messages) n (c .outside) ≡ surveyOf y d
-    unfolding surveyOf countsOf
-    survey-counted h c k n l = rw (← admits, h, k, l)

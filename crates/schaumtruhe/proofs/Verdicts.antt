@@ -1,23 +1,25 @@
 -- The verdict at a place and the accepted message there: one law for each answer of the workers.
 use Prim.Native.Nat.{ℕ, zero, suc, _≤_, _<_}
 use mathlib.Core.Path.{_≡_, refl, sym, _∙_, ap, ap₂}
-use mathlib.Core.Bool.{false}
+use mathlib.Core.Bool.{Bool, true, false}
 use mathlib.Core.List.{List}
 use native.Mathlib.Omega.{arith}
-use lib.ListN.{length}
+use lib.ListN.{length, drop}
 use Rattle.cut.specs.declared.service.Syntax.{Syntax}
 use Rattle.cut.specs.declared.message.Found.{Found}
 use Rattle.cut.specs.declared.message.Found.the-variants as found
 use Rattle.cut.specs.Admission.{admissionOf}
 use Rattle.cut.specs.Bytes.{part}
 use Rattle.cut.specs.Segments.{segmentsFrom}
-use Rattle.cut.specs.Messages.{Message, startOf, closeOf, messages}
-use Rattle.cut.specs.Calls.{messageAt}
+use Rattle.cut.specs.Held.{held}
+use Rattle.cut.specs.Messages.{Message, startOf, closeOf, lastEnd, messages}
+use Rattle.cut.specs.Calls.{isFound, messageAt}
 use Rattle.guide.specs.Accepted.{segmentsOf}
 use Rattle.guide.specs.Judging.{accepts, refuses, Verdict as Judged}
 use Rattle.guide.specs.Pages20d.{pageOf}
 use Rattle.guide.specs.Pricat.{pricat20d}
-use Rattle.verdict.specs.Answers.{declared}
+use Rattle.verdict.specs.Answers.{declared, judgedAs}
+use Rattle.verdict.specs.declared.answers.Judged.{Judged as JudgedAt}
 use Rattle.verdict.specs.Verdicts.{verdictFrom, verdictOf}
 use Rattle.verdict.specs.declared.answers.Verdict.{Verdict}
 use Rattle.verdict.specs.declared.answers.Verdict.the-variants as verdict
@@ -25,7 +27,7 @@ use Rattle.schaumtruhe.specs.Calls.{beginningAt, nowhere, unlessRefused,
 use Rattle.schaumtruhe.specs.Workers.{standingOf, standingBy}
 use Rattle.schaumtruhe.specs.declared.sheets.Standing.{Standing}
 use Rattle.schaumtruhe.specs.declared.sheets.Standing.the-variants.{Accepted, Refused}
-use Rattle.schaumtruhe.proofs.Found.{Here, here, nowhere-here}
+use Rattle.schaumtruhe.proofs.Found.{Here, here, nowhere-here, Begins, not-begun, is-begun}
 
 refuses-more : (a : ℕ) (v : Judged) → (a ≡ 0 → ⊥) → nowhere a ≡ unlessRefused a v
 refuses-more zero v h = absurd (h refl)
@@ -40,13 +42,6 @@ by-accepted v n c s e h = rw h
 
 pub by-refused : (v : Verdict) (k i p n s e : ℕ) → v ≡ verdict.Refused k i p n → Refused 30 ≡ standingBy v s e
 by-refused v k i p n s e h = rw h
-
--- the verdict of the message that was found
-here-judged
-    : (y : Syntax) (d : List ℕ) (at s e : ℕ) (h : Here y d at s e)
-    → verdictFrom y pricat20d pageOf s (segmentsFrom y s false (part s e d)) ≡ judged y (h .message)
-unfolding verdictOf
-here-judged y d at s e h = rw (h .alone, h .starts)
 
 standing-same : (m : Message) (v : Judged) → standingBy (declared v) (startOf m) (closeOf m) ≡ standingOf (sheetBy v m)
 standing-same m (accepts n e) = refl
@@ -63,39 +58,44 @@ module _ (y : Syntax) (d : List ℕ) (at : ℕ) (a : ℕ) (admits : a ≡ admiss
     unfolding sheetAt
     delivery-missing = rw (← admits) (ap standingOf (sheet-more a _ refused))
 
-  module _ (admitted : a ≡ 0) (f : Found) (finds : f ≡ messageAt y d at) where
+  module _ (admitted : a ≡ 0) (b : Bool) (begins : b ≡ isFound (messageAt y d at)) where
     is-admitted : admissionOf y d ≡ 0
     is-admitted = sym admits ∙ admitted
 
     -- no message begins there
-    module _ (none : f ≡ found.Nothing) where
+    module _ (none : b ≡ false) where
       pub place-refused : (r : Verdict) → r ≡ declared (nowhere 31) → r ≡ declared (verdictAt y d at)
       unfolding verdictAt
-      place-refused r h = rw (is-admitted, nowhere-here y d at (sym finds ∙ none)) h
+      place-refused r h = rw (is-admitted, not-begun y d at b begins none) h
 
       pub place-missing : Refused 31 ≡ standingOf (sheetAt y d at)
       unfolding sheetAt
-      place-missing = rw (is-admitted, nowhere-here y d at (sym finds ∙ none))
+      place-missing = rw (is-admitted, not-begun y d at b begins none)
 
     -- one does
-    module _ (s e : ℕ) (some : f ≡ found.Message s e) (v : Verdict)
-        (judges : v ≡ declared (verdictFrom y pricat20d pageOf s (segmentsFrom y s false (part s e d)))) where
-      abbrev h : Here y d at s e
-      h = here y d at s e (sym finds ∙ some)
+    module _ (some : b ≡ true) (j : JudgedAt)
+        (judges : j ≡ judgedAs (declared (verdictFrom y pricat20d pageOf at (held (segmentsFrom y at false (drop at d))))) (lastEnd at (held (segmentsFrom y at false (drop at d))))) where
+      abbrev h : Begins y d at
+      h = is-begun y d at b begins some
 
-      is-judged : v ≡ declared (judged y (h .message))
-      is-judged = judges ∙ ap declared (here-judged y d at s e h)
+      is-judged : j .verdict ≡ declared (judged y (h .message))
+      unfolding verdictOf
+      is-judged = ap (λ (x : JudgedAt). x .verdict) judges ∙ rw (h .starts, ← h .takes)
 
-      pub message-judged : v ≡ declared (verdictAt y d at)
+      closes : closeOf (h .message) ≡ j .end
+      unfolding lastEnd
+      closes = sym (ap (λ (x : JudgedAt). x .end) judges ∙ ap (lastEnd at) (h .takes))
+
+      pub message-judged : j .verdict ≡ declared (verdictAt y d at)
       unfolding verdictAt
       message-judged = rw (is-admitted, h .only) is-judged
 
-      pub message-stands : (r : Standing) → r ≡ standingBy v s e → r ≡ standingOf (sheetAt y d at)
+      pub message-stands : (r : Standing) → r ≡ standingBy (j .verdict) at (j .end) → r ≡ standingOf (sheetAt y d at)
       unfolding sheetAt
       message-stands r k =
           let w = declared (judged y (h .message)) in
-          let z : standingBy v s e ≡ standingBy w (startOf (h .message)) (closeOf (h .message)) =
-          ap (λ (x : Verdict). standingBy x s e) is-judged ∙ ap₂ (standingBy w) (sym (h .starts)) (sym (h .closes)) in
+          let z : standingBy (j .verdict) at (j .end) ≡ standingBy w (startOf (h .message)) (closeOf (h .message)) =
+          ap (λ (x : Verdict). standingBy x at (j .end)) is-judged ∙ ap₂ (standingBy w) (sym (h .starts)) (sym closes) in
           rw (is-admitted, h .only) (k ∙ z ∙ standing-same (h .message) (judged y (h .message)))
 
 -- where a message stands at the place, it stands there by itself

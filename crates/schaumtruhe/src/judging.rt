@@ -1,8 +1,7 @@
 // The verdict of the message that begins at a place.
-use cut::Found;
 use cut::Syntax;
 use verdict::Verdict;
-use verdict::verdict_of;
+use verdict::judged;
 ghost use mathlib.Core.Path.{_≡_};
 ghost use Rattle.verdict.specs.Answers.{declared};
 ghost use Rattle.schaumtruhe.specs.Calls.{nowhere, verdictAt};
@@ -27,9 +26,9 @@ pub(crate) fn verdict_at(y: Syntax, d: &[u8], at: usize) -> Verdict
     if refusal != 0 {
         return refused(refusal);
     }
-    let m = cut::message_at(y, d, at);
-    let Found::Message { start, end } = m else {
+    if !cut::message_begins(y, d, at) {
         return refused(31);
-    };
-    verdict_of(y, d, start, end)
+    }
+    let j = judged(y, d, at);
+    j.verdict
 }

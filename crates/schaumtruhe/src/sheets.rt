@@ -1,8 +1,7 @@
 // The accepted message that begins at a place: what prices and articles are asked of.
-use cut::Found;
 use cut::Syntax;
 use verdict::Verdict;
-use verdict::verdict_of;
+use verdict::judged;
 ghost use mathlib.Core.Path.{_≡_};
 ghost use Rattle.schaumtruhe.specs.Calls.{sheetAt};
 ghost use Rattle.schaumtruhe.specs.Workers.{standingOf, standingBy};
@@ -30,9 +29,10 @@ pub(crate) fn sheet_at(y: Syntax, d: &[u8], at: usize) -> Standing
     if refusal != 0 {
         return Standing::Refused { number: refusal };
     }
-    let m = cut::message_at(y, d, at);
-    let Found::Message { start, end } = m else {
+    if !cut::message_begins(y, d, at) {
         return Standing::Refused { number: 31 };
-    };
-    by_verdict(verdict_of(y, d, start, end), start, end)
+    }
+    let j = judged(y, d, at);
+    let verdict = j.verdict;
+    by_verdict(verdict, at, j.end)
 }

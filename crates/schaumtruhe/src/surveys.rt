@@ -1,13 +1,18 @@
 // The whole delivery: messages found, accepted, and segments outside.
-use cut::Found;
+use cut::Outer;
 use cut::Syntax;
+use cut::outer_at;
 use verdict::Verdict;
-use verdict::verdict_of;
+use verdict::judged;
+ghost use Prim.Native.Nat.{_<_};
+ghost use mathlib.Core.Bool.{false};
 ghost use mathlib.Core.Path.{_≡_};
-ghost use lib.ListN.{length};
-ghost use Rattle.cut.specs.Messages.{messages};
-ghost use Rattle.schaumtruhe.specs.Calls.{accepted, surveyOf};
-ghost use Rattle.schaumtruhe.specs.Workers.{oneIf};
+ghost use lib.ListN.{length, drop};
+ghost use Rattle.cut.specs.Held.{headOuter};
+ghost use Rattle.cut.specs.Segments.{segmentsFrom};
+ghost use Rattle.cut.specs.declared.outer.Outer.the-variants as outer;
+ghost use Rattle.schaumtruhe.specs.Calls.{surveyOf};
+ghost use Rattle.schaumtruhe.specs.Workers.{oneIf, Stepped};
 
 // The counts; or 1 or 2.
 pub enum Surveyed {
@@ -21,20 +26,12 @@ pub enum Surveyed {
     },
 }
 
-pub(crate) fn counted(y: Syntax, d: &[u8]) -> Surveyed
-    ensures { λ r. ⌜ r ≡ surveyOf y (now (d .entry)) ⌝ }
-{
-    let refusal = cut::admission(y, d);
-    if refusal != 0 {
-        return Surveyed::Refused { number: refusal };
-    }
-    let counts = cut::count(y, d);
-    let accepted = accepted_in(y, d);
-    Surveyed::Counted {
-        messages: counts.messages,
-        accepted,
-        outside: counts.outside,
-    }
+// What one step from message to message adds to the counts, and where it ends.
+struct Counts {
+    messages: usize,
+    accepted: usize,
+    outside: usize,
+    end: usize,
 }
 
 fn one_if(v: Verdict) -> usize
@@ -46,18 +43,65 @@ fn one_if(v: Verdict) -> usize
     }
 }
 
-// How many messages are accepted. Each search goes on from the end of the message before.
-fn accepted_in(y: Syntax, d: &[u8]) -> usize
-    ensures { λ r. ⌜ r ≡ length (accepted y (messages y (now (d .entry)))) ⌝ }
+// The message that begins at `at`.
+fn message_step(y: Syntax, d: &[u8], at: usize) -> Counts
+    requires { ⌜ headOuter (segmentsFrom y at false (drop at (now d))) ≡ outer.Message ⌝ }
+    ensures { λ r. ⌜ Stepped y (now (d .entry)) at r ⌝ }
 {
-    let mut from = 0;
-    let mut n = 0;
-    loop {
-        let m = cut::next_message(y, d, from);
-        let Found::Message { start, end } = m else {
-            return n;
-        };
-        n += one_if(verdict_of(y, d, start, end));
-        from = end;
+    let j = judged(y, d, at);
+    let verdict = j.verdict;
+    Counts {
+        messages: 1,
+        accepted: one_if(verdict),
+        outside: 0,
+        end: j.end,
+    }
+}
+
+// The message or the segment outside that begins at `at`.
+fn step_at(y: Syntax, d: &[u8], at: usize) -> Counts
+    requires { ⌜ at < length (now d) ⌝ }
+    ensures { λ r. ⌜ Stepped y (now (d .entry)) at r ⌝ }
+{
+    match outer_at(y, d, at) {
+        Outer::Message => message_step(y, d, at),
+        Outer::Segment { end } => Counts {
+            messages: 0,
+            accepted: 0,
+            outside: 1,
+            end,
+        },
+        Outer::Nothing => Counts {
+            messages: 0,
+            accepted: 0,
+            outside: 0,
+            end: d.len(),
+        },
+    }
+}
+
+// One walk over the delivery, in which each message is judged once and its end is found on the way.
+pub(crate) fn counted(y: Syntax, d: &[u8]) -> Surveyed
+    ensures { λ r. ⌜ r ≡ surveyOf y (now (d .entry)) ⌝ }
+{
+    let refusal = cut::admission(y, d);
+    if refusal != 0 {
+        return Surveyed::Refused { number: refusal };
+    }
+    let mut messages = 0;
+    let mut accepted = 0;
+    let mut outside = 0;
+    let mut at = cut::opening(d);
+    while at < d.len() {
+        let s = step_at(y, d, at);
+        messages += s.messages;
+        accepted += s.accepted;
+        outside += s.outside;
+        at = s.end;
+    }
+    Surveyed::Counted {
+        messages,
+        accepted,
+        outside,
     }
 }
