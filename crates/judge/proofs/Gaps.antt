@@ -1,6 +1,6 @@
 -- Laws of the search for a missing node: one level, and the levels outward.
 use Prim.Native.Nat.{ℕ, suc, _<_}
-use mathlib.Core.Path.{_≡_, refl, sym, _∙_, ap}
+use mathlib.Core.Path.{_≡_, refl, sym, _∙_}
 use mathlib.Core.Bool.{Bool, true, false}
 use mathlib.Core.List.{List}
 use lib.ListN.{length}
@@ -8,12 +8,11 @@ use lib.Dec.{eqb, ltb}
 use borrow.Author.Tests.{eq-eqb, ne-eqb}
 use Rattle.guide.specs.Nodes.{Guide, node, required}
 use Rattle.guide.specs.Placing.{firstNode, levels, tally, lacking, missing}
-use Rattle.guide.specs.Choices.{orElse}
 use Rattle.judge.specs.declared.editions.Edition.{Edition}
 use Rattle.judge.specs.Editions.{guideOf}
 use Rattle.judge.specs.Workers.{lacksChild}
 use Rattle.judge.proofs.Links.{Only, pick-none}
-use Rattle.judge.proofs.Levels.{orElse-none, levels-up, levels-root}
+use Rattle.judge.proofs.Levels.{orElse-some, levels-up, levels-root}
 
 module _ (g : Guide) (cs : List ℕ) (n p m : ℕ) where
   pub lacks-optional : (b : Bool) → b ≡ node g m .must → b ≡ false → false ≡ lacksChild g cs n p m
@@ -54,23 +53,36 @@ module _ (e : Edition) (cs : List ℕ) (n : ℕ) where
   unfolding levels missing
   level-any k p c = refl
 
-  -- the gap at the level of p
-  module _ (p gap : ℕ) (here : gap ≡ firstNode (guideOf e) (lacking (guideOf e) cs n p)) where
-    -- the level that takes n is the last
-    pub missing-taking : (q : ℕ) → q ≡ node (guideOf e) n .parent → p ≡ q → gap ≡ missingFrom p
-    unfolding levels missing
-    missing-taking q parent h = sym (rw (eq-eqb p (node (guideOf e) n .parent) (h ∙ parent), sym here) (orElse-none gap))
+  -- the search from p outward gives the answer of the search from `last`, and gap is the one at the level of p
+  module _
+      (last p gap : ℕ) (given : missingFrom p ≡ missingFrom last) (here : gap ≡ firstNode (guideOf e) (lacking (guideOf e) cs n p))
+    where
+      pub gap-found : (gap ≡ 0 → ⊥) → gap ≡ missingFrom last
+      unfolding levels missing
+      gap-found h =
+          let q : missingFrom p ≡ gap = rw (sym here) (orElse-some gap _ h) in
+          sym q ∙ given
 
-    pub missing-root : p ≡ 0 → gap ≡ missingFrom p
-    unfolding missing
-    missing-root h = sym (rw (levels-root e p 0 h, sym here, pick-none (eqb p (node (guideOf e) n .parent))) (orElse-none gap))
+      module _ (none : gap ≡ 0) where
+        pub gap-root : p ≡ 0 → 0 ≡ missingFrom last
+        unfolding missing
+        gap-root h =
+            let q : missingFrom p ≡ 0 = rw (levels-root e p 0 h, sym here, none) (pick-none (eqb p (node (guideOf e) n .parent))) in
+            sym q ∙ given
 
-    pub missing-up
-        : (q r outer : ℕ) → q ≡ node (guideOf e) n .parent → (p ≡ q → ⊥) → (p ≡ 0 → ⊥) → p < length (guideOf e) → r ≡ node (guideOf e) p .parent
-        → outer ≡ missingFrom r → orElse gap outer ≡ missingFrom p
-    unfolding missing
-    missing-up q r outer parent h k l up found =
-        let other : eqb p (node (guideOf e) n .parent) ≡ false = ne-eqb p _ (λ (z : p ≡ node (guideOf e) n .parent). h (z ∙ sym parent)) in
-        let s : missingFrom p ≡ orElse gap (missingFrom r) =
-        rw (levels-up e p 0 k l, sym here, other, up) (ap (orElse gap) (level-any (node (guideOf e) p .parent) (node (guideOf e) p .parent) (node (guideOf e) p .counter))) in
-        ap (orElse gap) found ∙ sym s
+        module _ (q : ℕ) (parent : q ≡ node (guideOf e) n .parent) where
+          -- the level that takes n is the last
+          pub gap-taking : p ≡ q → 0 ≡ missingFrom last
+          unfolding levels missing
+          gap-taking h =
+              let s : missingFrom p ≡ 0 = rw (eq-eqb p (node (guideOf e) n .parent) (h ∙ parent), sym here, none) in
+              sym s ∙ given
+
+          pub gap-up
+              : (p ≡ q → ⊥) → (p ≡ 0 → ⊥) → p < length (guideOf e) → (r : ℕ) → r ≡ node (guideOf e) p .parent → missingFrom r ≡ missingFrom last
+          unfolding missing
+          gap-up h k l r up =
+              let other : eqb p (node (guideOf e) n .parent) ≡ false = ne-eqb p _ (λ (z : p ≡ node (guideOf e) n .parent). h (z ∙ sym parent)) in
+              let s : missingFrom p ≡ missingFrom r =
+              rw (levels-up e p 0 k l, sym here, none, other, up) (level-any (node (guideOf e) p .parent) (node (guideOf e) p .parent) (node (guideOf e) p .counter)) in
+              sym s ∙ given

@@ -9,7 +9,6 @@ ghost use Prim.Native.Nat.{suc, _<_};
 ghost use mathlib.Core.Path.{_≡_};
 ghost use lib.ListN.{length};
 ghost use Rattle.guide.specs.Placing.{firstNode, levels, lacking, missing};
-ghost use Rattle.guide.specs.Choices.{orElse};
 ghost use Rattle.judge.specs.Editions.{guideOf};
 ghost use Rattle.judge.specs.Workers.{lacksChild};
 
@@ -45,28 +44,25 @@ fn lacking_in(edition: Edition, counts: &[u32; 96], n: usize, p: usize) -> usize
     0
 }
 
-fn or_else(a: usize, b: usize) -> usize
-    ensures { λ r. ⌜ r ≡ orElse a b ⌝ }
-{
-    if a == 0 {
-        return b;
-    }
-    a
-}
-
 // The lowest missing node, looked for from the innermost open instance outward level by level, up to the one that takes n; 0 if none is
 // missing. The level is the open instance's node: a parent has a lower number, so it falls.
-pub(crate) fn missing_for(edition: Edition, counts: &[u32; 96], n: usize, level: usize) -> usize
-    requires { ⌜ (n < length (guideOf edition)) × (level < length (guideOf edition)) ⌝ }
-    ensures { λ r. ⌜ r ≡ missing (guideOf edition) (now (counts .entry)) n (levels (guideOf edition) (suc level) level 0) ⌝ }
+pub(crate) fn missing_for(edition: Edition, counts: &[u32; 96], n: usize, last: usize) -> usize
+    requires { ⌜ (n < length (guideOf edition)) × (last < length (guideOf edition)) ⌝ }
+    ensures { λ r. ⌜ r ≡ missing (guideOf edition) (now (counts .entry)) n (levels (guideOf edition) (suc last) last 0) ⌝ }
 {
-    let gap = lacking_in(edition, counts, n, level);
-    if level == parent_of(edition, n) {
-        return gap;
+    let taker = parent_of(edition, n);
+    let mut level = last;
+    loop {
+        let gap = lacking_in(edition, counts, n, level);
+        if gap != 0 {
+            return gap;
+        }
+        if level == taker {
+            return 0;
+        }
+        if level == 0 {
+            return 0;
+        }
+        level = parent_of(edition, level);
     }
-    if level == 0 {
-        return gap;
-    }
-    let outer = missing_for(edition, counts, n, parent_of(edition, level));
-    or_else(gap, outer)
 }
