@@ -1,7 +1,7 @@
 -- Laws of the search for a missing node: one level, and the levels outward.
 use Prim.Native.Nat.{ℕ, suc, _<_}
 use mathlib.Core.Path.{_≡_, refl, sym, _∙_}
-use mathlib.Core.Bool.{Bool, true, false}
+use mathlib.Core.Bool.{Bool, true, false, _&&_, true≢false}
 use mathlib.Core.List.{List}
 use lib.ListN.{length}
 use lib.Dec.{eqb, ltb}
@@ -10,38 +10,50 @@ use Rattle.guide.specs.Nodes.{Guide, node, required}
 use Rattle.guide.specs.Placing.{firstNode, levels, tally, lacking, missing}
 use Rattle.judge.specs.declared.editions.Edition.{Edition}
 use Rattle.judge.specs.Editions.{guideOf}
-use Rattle.judge.specs.Workers.{lacksChild}
+use Rattle.judge.specs.Rows.{childOf, dueOf}
+use Rattle.judge.specs.Workers.{lacksDue}
 use Rattle.judge.proofs.Links.{Only, pick-none}
 use Rattle.judge.proofs.Levels.{orElse-some, levels-up, levels-root}
 
 module _ (g : Guide) (cs : List ℕ) (n p m : ℕ) where
-  pub lacks-optional : (b : Bool) → b ≡ node g m .must → b ≡ false → false ≡ lacksChild g cs n p m
-  unfolding lacksChild required
-  lacks-optional b e h = rw (sym e, h)
+  pub lacks-there : (tally cs m ≡ 0 → ⊥) → false ≡ lacksDue g cs n p m
+  unfolding lacksDue
+  lacks-there h = rw (ne-eqb (tally cs m) 0 h)
 
-  module _ (must : Bool) (status : must ≡ node g m .must) (needed : must ≡ true) where
-    pub lacks-there : (tally cs m ≡ 0 → ⊥) → false ≡ lacksChild g cs n p m
-    unfolding lacksChild required
-    lacks-there h = rw (sym status, needed, ne-eqb (tally cs m) 0 h)
+  module _ (none : tally cs m ≡ 0) (q : ℕ) (parent : q ≡ node g n .parent) where
+    pub lacks-closed : (p ≡ q → ⊥) → true ≡ lacksDue g cs n p m
+    unfolding lacksDue
+    lacks-closed h = rw (eq-eqb (tally cs m) 0 none, sym parent, ne-eqb p q h)
 
-    module _ (none : tally cs m ≡ 0) (q : ℕ) (parent : q ≡ node g n .parent) where
-      pub lacks-closed : (p ≡ q → ⊥) → true ≡ lacksChild g cs n p m
-      unfolding lacksChild required
-      lacks-closed h = rw (sym status, needed, eq-eqb (tally cs m) 0 none, sym parent, ne-eqb p q h)
+    pub lacks-earlier
+        : (a b : ℕ) → p ≡ q → a ≡ node g m .counter → b ≡ node g n .counter → ltb a b ≡ lacksDue g cs n p m
+    unfolding lacksDue
+    lacks-earlier a b h i j = rw (eq-eqb (tally cs m) 0 none, sym parent, eq-eqb p q h, sym i, sym j)
 
-      pub lacks-earlier
-          : (a b : ℕ) → p ≡ q → a ≡ node g m .counter → b ≡ node g n .counter → ltb a b ≡ lacksChild g cs n p m
-      unfolding lacksChild required
-      lacks-earlier a b h i j = rw (sym status, needed, eq-eqb (tally cs m) 0 none, sym parent, eq-eqb p q h, sym i, sym j)
+-- of two and a third, the first two decide
+and-left : (a b : Bool) → a && b ≡ true → a ≡ true
+and-left true b h = refl
+and-left false b h = h
+
+and-fails : (a b c : Bool) → a && b ≡ false → a && (b && c) ≡ false
+and-fails true b c h = rw h
+and-fails false b c h = refl
+
+and-holds : (a b c : Bool) → a && b ≡ true → a && (b && c) ≡ c
+and-holds true b c h = rw h
+and-holds false b c h = absurd (true≢false (sym h))
 
 module _ (g : Guide) (cs : List ℕ) (n p : ℕ) where
-  pub lacks-only : Only g p (lacking g cs n p)
-  unfolding lacking
-  lacks-only m h = rw h
+  pub due-below : (m : ℕ) → dueOf g p m ≡ true → childOf g p m ≡ true
+  due-below m h = and-left (childOf g p m) (node g m .must) h
 
-  pub lacks-child : (m : ℕ) (r b : Bool) → node g m .parent ≡ p → r ≡ lacksChild g cs n p m → r ≡ b → lacking g cs n p m ≡ b
-  unfolding lacking lacksChild
-  lacks-child m r b h e q = rw (eq-eqb (node g m .parent) p h) (sym e ∙ q)
+  pub lacks-only : Only (dueOf g p) (lacking g cs n p)
+  unfolding lacking required
+  lacks-only m h = and-fails (childOf g p m) (node g m .must) _ h
+
+  pub lacks-due : (m : ℕ) (r b : Bool) → dueOf g p m ≡ true → r ≡ lacksDue g cs n p m → r ≡ b → lacking g cs n p m ≡ b
+  unfolding lacking required lacksDue
+  lacks-due m r b h e q = and-holds (childOf g p m) (node g m .must) _ h ∙ sym e ∙ q
 
 module _ (e : Edition) (cs : List ℕ) (n : ℕ) where
   -- the search from the level of p outward

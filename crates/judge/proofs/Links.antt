@@ -1,5 +1,5 @@
--- Laws of the links: a walk over the children of a node, from the first one by next siblings, finds what a search through the whole table
--- finds, for every test that holds of children only.
+-- Laws of the links: a walk over the children of a node, or over some of them, from the first one by next ones, finds what a search through
+-- the whole table finds, for every test that holds of these only.
 use Prim.Native.Nat.{ℕ, zero, suc, _-_, _≤_, _<_}
 use mathlib.Core.Path.{_≡_, refl, sym, _∙_, ap}
 use mathlib.Core.Bool.{Bool, true, false}
@@ -10,7 +10,7 @@ use borrow.Author.Tests.{ne-eqb, eqb-true, eqb-false, ltb-true, ltb-false}
 use Rattle.guide.specs.Nodes.{Guide, Node, message, nobody, node}
 use Rattle.guide.specs.Placing.{lowest, firstNode}
 use Rattle.guide.specs.Choices.{pickℕ}
-use Rattle.judge.specs.Rows.{childOf, firstChild, nextSibling}
+use Rattle.judge.specs.Rows.{childOf}
 
 pub pick-none : (b : Bool) → pickℕ b 0 0 ≡ 0
 pick-none true = refl
@@ -93,65 +93,66 @@ module _ (g : Guide) where
           let z : nobody ≡ p = sym (ap (λ (x : Node). x .parent) (List·getD-eq-default g message l)) ∙ eqb-true _ _ e in
           absurd (omega arith)
 
--- a test that holds of children of p only
-abbrev pub Only : Guide → ℕ → (ℕ → Bool) → Type 0
-Only g p test = (m : ℕ) → childOf g p m ≡ false → test m ≡ false
+-- a test that holds only where another does
+abbrev pub Only : (ℕ → Bool) → (ℕ → Bool) → Type 0
+Only some test = (m : ℕ) → some m ≡ false → test m ≡ false
 
--- a walk over the children of p stands at n: n is 0 or a child, and from there on the answer is found
-pub record Walking (g : Guide) (p : ℕ) (test : ℕ → Bool) (n : ℕ) : Type 0 where
+-- a walk over some children of p, those that `kin` tells, stands at n: n is 0 or one of them, and from there on the answer is found
+pub record Walking (g : Guide) (kin : ℕ → ℕ → Bool) (p : ℕ) (test : ℕ → Bool) (n : ℕ) : Type 0 where
   pub known : p < nobody
-  pub only : Only g p test
-  pub inside : (n ≡ 0 → ⊥) → n < length g
-  pub child : (n ≡ 0 → ⊥) → node g n .parent ≡ p
+  pub below : (m : ℕ) → kin p m ≡ true → childOf g p m ≡ true
+  pub only : Only (kin p) test
+  pub kind : (n ≡ 0 → ⊥) → kin p n ≡ true
   pub answer : onward test g n ≡ firstNode g test
 
-pub walk-begins : (g : Guide) (p : ℕ) (test : ℕ → Bool) (n : ℕ) → p < nobody → Only g p test → n ≡ firstChild g p → Walking g p test n
-unfolding firstChild
-walk-begins g p test n known only e =
-    let passes : (n ≡ 0 → ⊥) → childOf g p n ≡ true =
-    λ z. rw e (lowest-passes (childOf g p) 1 (length g - 1) (λ q. z (e ∙ q))) in
+pub walk-begins
+    : (g : Guide) (kin : ℕ → ℕ → Bool) (p : ℕ) (test : ℕ → Bool) (n : ℕ) → p < nobody → ((m : ℕ) → kin p m ≡ true → childOf g p m ≡ true)
+    → Only (kin p) test → n ≡ firstNode g (kin p) → Walking g kin p test n
+walk-begins g kin p test n known below only e =
     record {
       known = known;
+      below = below;
       only = only;
-      inside = λ z. child-inside g p n known (passes z);
-      child = λ z. eqb-true (node g n .parent) p (passes z);
-      answer = ap (onward test g) e ∙ onward-skip g test (childOf g p) only 1 (length g - 1) (omega arith) refl;
+      kind = λ z. rw e (lowest-passes (kin p) 1 (length g - 1) (λ q. z (e ∙ q)));
+      answer = ap (onward test g) e ∙ onward-skip g test (kin p) only 1 (length g - 1) (omega arith) refl;
     }
 
-module _ {g : Guide} {p : ℕ} {test : ℕ → Bool} {n : ℕ} (w : Walking g p test n) where
+module _ {g : Guide} {kin : ℕ → ℕ → Bool} {p : ℕ} {test : ℕ → Bool} {n : ℕ} (w : Walking g kin p test n) where
   pub walk-out : n ≡ 0 → 0 ≡ firstNode g test
   unfolding onward
   walk-out e = sym (rw e) ∙ w .answer
 
   module _ (some : n ≡ 0 → ⊥) where
+    pub walk-inside : n < length g
+    walk-inside = child-inside g p n (w .known) (w .below n (w .kind some))
+
+    pub walk-child : node g n .parent ≡ p
+    walk-child = eqb-true (node g n .parent) p (w .below n (w .kind some))
+
     pub walk-found : test n ≡ true → n ≡ firstNode g test
     unfolding onward lowest
     walk-found t =
-        let m : length g - n ≡ suc (length g - suc n) = omega (arith, w .inside some) in
+        let m : length g - n ≡ suc (length g - suc n) = omega (arith, walk-inside) in
         let q : onward test g n ≡ n = rw (ne-eqb n 0 some, m, t) in
         sym q ∙ w .answer
 
-    module _ (next : ℕ) (link : next ≡ nextSibling g n) where
-      sibling : next ≡ lowest (childOf g p) (suc n) (length g - suc n)
-      unfolding nextSibling
-      sibling = link ∙ ap (λ (q : ℕ). lowest (childOf g q) (suc n) (length g - suc n)) (w .child some)
+    module _ (next : ℕ) (link : next ≡ lowest (kin (node g n .parent)) (suc n) (length g - suc n)) where
+      sibling : next ≡ lowest (kin p) (suc n) (length g - suc n)
+      sibling = link ∙ ap (λ (q : ℕ). lowest (kin q) (suc n) (length g - suc n)) walk-child
 
-      pub walk-next : test n ≡ false → Walking g p test next
+      pub walk-next : test n ≡ false → Walking g kin p test next
       unfolding onward lowest
       walk-next t =
-          let l : n < length g = w .inside some in
+          let l : n < length g = walk-inside in
           let m : length g - n ≡ suc (length g - suc n) = omega arith in
           let q : onward test g n ≡ lowest test (suc n) (length g - suc n) = rw (ne-eqb n 0 some, m, t) in
-          let passes : (next ≡ 0 → ⊥) → childOf g p next ≡ true =
-          λ z. rw sibling (lowest-passes (childOf g p) (suc n) (length g - suc n) (λ e. z (sibling ∙ e))) in
           record {
             known = w .known;
+            below = w .below;
             only = w .only;
-            inside = λ z. child-inside g p next (w .known) (passes z);
-            child = λ z. eqb-true (node g next .parent) p (passes z);
-            answer =
-                ap (onward test g) sibling ∙ onward-skip g test (childOf g p) (w .only) (suc n) (length g - suc n) (omega arith) (omega arith) ∙ sym q ∙ w .answer;
+            kind = λ z. rw sibling (lowest-passes (kin p) (suc n) (length g - suc n) (λ e. z (sibling ∙ e)));
+            answer = ap (onward test g) sibling ∙ onward-skip g test (kin p) (w .only) (suc n) (length g - suc n) (omega arith) (omega arith) ∙ sym q ∙ w .answer;
           }
 
       pub walk-less : ahead g next < ahead g n
-      walk-less = ahead-less g n next some (w .inside some) (λ z. rw sibling (lowest-from (childOf g p) (suc n) (length g - suc n) (λ q. z (sibling ∙ q))))
+      walk-less = ahead-less g n next some walk-inside (λ z. rw sibling (lowest-from (kin p) (suc n) (length g - suc n) (λ q. z (sibling ∙ q))))

@@ -1,18 +1,20 @@
 -- `judge::seeking::child_for` meets its contract. The loop's invariant is `Walking`: a walk over the children of p. Assumes nothing.
+use Prim.Native.Nat.{ℕ}
 use borrow.Author.Needs.{needs}
 use native.Mathlib.Omega.{arith}
 use Rattle.cut.specs.Bytes.{part}
 use Rattle.guide.specs.Placing.{fitsIn}
 use Rattle.guide.specs.Views.{viewOf}
 use Rattle.judge.specs.Editions.{guideOf}
+use Rattle.judge.specs.Rows.{childOf, firstChild, nextSibling}
 use Rattle.judge.proofs.Tables.{table-fits}
-use Rattle.judge.proofs.Links.{Walking, ahead, walk-begins, walk-out, walk-found, walk-next, walk-less}
+use Rattle.judge.proofs.Links.{Walking, ahead, walk-begins, walk-out, walk-inside, walk-child, walk-found, walk-next, walk-less}
 use Rattle.judge.proofs.Fits.{fits-only, fits-child}
 use Rattle.judge.proofs.seeking.child_for.Statement.{statement}
 use Rattle.judge.proofs.seeking.child_for.Tie as tie
 
 abbrev Inv-loop : tie.InvT-loop
-Inv-loop y edition d start end tag p reached n₀ n = Walking (guideOf edition) p (fitsIn (guideOf edition) (viewOf y (part start end d)) p reached) n
+Inv-loop y edition d start end tag p reached n₀ n = Walking (guideOf edition) (childOf (guideOf edition)) p (fitsIn (guideOf edition) (viewOf y (part start end d)) p reached) n
 
 abbrev μ-loop : tie.MeasureT-loop
 μ-loop y edition d start end tag p reached n₀ n = ahead (guideOf edition) n
@@ -21,17 +23,18 @@ first-child-requires : tie.Need-first-child-requires Inv-loop μ-loop
 first-child-requires c κs = search needs
 
 loop-holds : tie.Need-loop-holds Inv-loop μ-loop
+unfolding firstChild
 loop-holds c =
     let a = c .before .before .args in
     let g = guideOf (a .edition) in
     let v = viewOf (a .y) (part (a .start) (a .end) (a .d .now)) in
-    walk-begins g (a .p) (fitsIn g v (a .p) (a .reached)) _ (omega (arith, table-fits (a .edition))) (fits-only g v (a .p) (a .reached)) (c .first-child .ensures)
+    walk-begins g (childOf g) (a .p) (fitsIn g v (a .p) (a .reached)) _ (omega (arith, table-fits (a .edition))) (λ (m : ℕ) h. h) (fits-only g v (a .p) (a .reached)) (c .first-child .ensures)
 
 can-follow-requires : tie.Need-can-follow-requires Inv-loop μ-loop
 can-follow-requires c κs =
     let w = c .before .loop .inv in
     let some = c .loop-test .taken in
-    ((omega arith, w .inside some), c .before .before .before .before .pre .1)
+    ((omega arith, walk-inside w some), c .before .before .before .before .pre .1)
 
 returns : tie.Need-returns Inv-loop μ-loop
 returns c =
@@ -40,26 +43,28 @@ returns c =
     let a = loop .before .before .before .args in
     let some = follow .before .loop-test .taken in
     walk-found (loop .loop .inv) some
-    (fits-child (guideOf (a .edition)) (viewOf (a .y) (part (a .start) (a .end) (a .d .now))) (a .p) (a .reached) _ _ _ (loop .loop .inv .child some) (follow .can-follow .ensures) (c .if1 .taken))
+    (fits-child (guideOf (a .edition)) (viewOf (a .y) (part (a .start) (a .end) (a .d .now))) (a .p) (a .reached) _ _ _ (walk-child (loop .loop .inv) some) (follow .can-follow .ensures) (c .if1 .taken))
 
 next-sibling-requires : tie.Need-next-sibling-requires Inv-loop μ-loop
 next-sibling-requires c κs =
     let loop = c .before .before in
-    loop .before .loop .inv .inside (loop .loop-test .taken)
+    walk-inside (loop .before .loop .inv) (loop .loop-test .taken)
 
 loop-less : tie.Need-loop-less Inv-loop μ-loop
+unfolding nextSibling
 loop-less c =
     let loop = c .before .before .before in
     walk-less (loop .before .loop .inv) (loop .loop-test .taken) _ (c .next-sibling .ensures)
 
 loop-again : tie.Need-loop-again Inv-loop μ-loop
+unfolding nextSibling
 loop-again c =
     let follow = c .before .before in
     let loop = follow .before .before in
     let a = loop .before .before .before .args in
     let some = follow .before .loop-test .taken in
     walk-next (loop .loop .inv) some _ (c .next-sibling .ensures)
-    (fits-child (guideOf (a .edition)) (viewOf (a .y) (part (a .start) (a .end) (a .d .now))) (a .p) (a .reached) _ _ _ (loop .loop .inv .child some) (follow .can-follow .ensures) (c .before .if1 .left))
+    (fits-child (guideOf (a .edition)) (viewOf (a .y) (part (a .start) (a .end) (a .d .now))) (a .p) (a .reached) _ _ _ (walk-child (loop .loop .inv) some) (follow .can-follow .ensures) (c .before .if1 .left))
 
 returns-2 : tie.Need-returns-2 Inv-loop μ-loop
 returns-2 c = walk-out (c .before .loop .inv) (c .loop-test .left)
