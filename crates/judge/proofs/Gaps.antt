@@ -31,7 +31,7 @@ module _ (g : Guide) (cs : List ℕ) (n p m : ℕ) where
     lacks-earlier a b h i j = rw (eq-eqb (tally cs m) 0 none, sym parent, eq-eqb p q h, sym i, sym j)
 
 -- of two and a third, the first two decide
-and-left : (a b : Bool) → a && b ≡ true → a ≡ true
+pub and-left : (a b : Bool) → a && b ≡ true → a ≡ true
 and-left true b h = refl
 and-left false b h = h
 
