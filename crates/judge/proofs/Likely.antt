@@ -22,7 +22,6 @@ use Rattle.judge.proofs.Sound.{sound-at}
 use Rattle.judge.proofs.Links.{Only, Walking, walk-from, lowest-passes, first-skip, onward-under, child-inside}
 use Rattle.judge.proofs.Levels.{parent-lower}
 use Rattle.judge.proofs.Matches.{match-other}
-use Rattle.judge.proofs.Fits.{fits-only}
 use Rattle.judge.proofs.Gaps.{and-left}
 
 -- a walk from a node of the table on, over its next siblings
