@@ -1,4 +1,4 @@
--- What the code needs of the tables: their sizes, and that a cell of a column is a number of its row.
+-- What the code needs of the tables: their sizes, that each row has an arm, and that a digit of a row's word is a field of the row.
 use Prim.Native.Nat.{ℕ, zero, suc, _≤_, _<_}
 use mathlib.Core.Path.{_≡_, refl, sym, _∙_, ap, subst}
 use mathlib.Core.List.{List}
