@@ -6,6 +6,7 @@ use lib.Dec.{leb}
 use borrow.Author.Tests.{eq-eqb, le-leb, lt-leb}
 use Rattle.guide.specs.Nodes.{View, Guide, node, matches}
 use Rattle.guide.specs.Placing.{fitsIn}
+use Rattle.judge.specs.Rows.{childOf}
 use Rattle.judge.proofs.Links.{Only}
 
 module _ (g : Guide) (v : View) where
@@ -16,7 +17,7 @@ module _ (g : Guide) (v : View) where
   late c k n r e h m = rw (sym e, le-leb c k h) m
 
   -- only a child of p can come in an instance of p
-  pub fits-only : (p c : ℕ) → Only g p (fitsIn g v p c)
+  pub fits-only : (p c : ℕ) → Only (childOf g p) (fitsIn g v p c)
   unfolding fitsIn
   fits-only p c m h = rw h
 

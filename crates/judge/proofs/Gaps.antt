@@ -1,48 +1,59 @@
 -- Laws of the search for a missing node: one level, and the levels outward.
 use Prim.Native.Nat.{ℕ, suc, _<_}
-use mathlib.Core.Path.{_≡_, refl, sym, _∙_, ap}
-use mathlib.Core.Bool.{Bool, true, false}
+use mathlib.Core.Path.{_≡_, refl, sym, _∙_}
+use mathlib.Core.Bool.{Bool, true, false, _&&_, true≢false}
 use mathlib.Core.List.{List}
 use lib.ListN.{length}
 use lib.Dec.{eqb, ltb}
 use borrow.Author.Tests.{eq-eqb, ne-eqb}
 use Rattle.guide.specs.Nodes.{Guide, node, required}
 use Rattle.guide.specs.Placing.{firstNode, levels, tally, lacking, missing}
-use Rattle.guide.specs.Choices.{orElse}
 use Rattle.judge.specs.declared.editions.Edition.{Edition}
 use Rattle.judge.specs.Editions.{guideOf}
-use Rattle.judge.specs.Workers.{lacksChild}
+use Rattle.judge.specs.Rows.{childOf, dueOf}
+use Rattle.judge.specs.Workers.{lacksDue}
 use Rattle.judge.proofs.Links.{Only, pick-none}
-use Rattle.judge.proofs.Levels.{orElse-none, levels-up, levels-root}
+use Rattle.judge.proofs.Levels.{orElse-some, levels-up, levels-root}
 
 module _ (g : Guide) (cs : List ℕ) (n p m : ℕ) where
-  pub lacks-optional : (b : Bool) → b ≡ node g m .must → b ≡ false → false ≡ lacksChild g cs n p m
-  unfolding lacksChild required
-  lacks-optional b e h = rw (sym e, h)
+  pub lacks-there : (tally cs m ≡ 0 → ⊥) → false ≡ lacksDue g cs n p m
+  unfolding lacksDue
+  lacks-there h = rw (ne-eqb (tally cs m) 0 h)
 
-  module _ (must : Bool) (status : must ≡ node g m .must) (needed : must ≡ true) where
-    pub lacks-there : (tally cs m ≡ 0 → ⊥) → false ≡ lacksChild g cs n p m
-    unfolding lacksChild required
-    lacks-there h = rw (sym status, needed, ne-eqb (tally cs m) 0 h)
+  module _ (none : tally cs m ≡ 0) (q : ℕ) (parent : q ≡ node g n .parent) where
+    pub lacks-closed : (p ≡ q → ⊥) → true ≡ lacksDue g cs n p m
+    unfolding lacksDue
+    lacks-closed h = rw (eq-eqb (tally cs m) 0 none, sym parent, ne-eqb p q h)
 
-    module _ (none : tally cs m ≡ 0) (q : ℕ) (parent : q ≡ node g n .parent) where
-      pub lacks-closed : (p ≡ q → ⊥) → true ≡ lacksChild g cs n p m
-      unfolding lacksChild required
-      lacks-closed h = rw (sym status, needed, eq-eqb (tally cs m) 0 none, sym parent, ne-eqb p q h)
+    pub lacks-earlier
+        : (a b : ℕ) → p ≡ q → a ≡ node g m .counter → b ≡ node g n .counter → ltb a b ≡ lacksDue g cs n p m
+    unfolding lacksDue
+    lacks-earlier a b h i j = rw (eq-eqb (tally cs m) 0 none, sym parent, eq-eqb p q h, sym i, sym j)
 
-      pub lacks-earlier
-          : (a b : ℕ) → p ≡ q → a ≡ node g m .counter → b ≡ node g n .counter → ltb a b ≡ lacksChild g cs n p m
-      unfolding lacksChild required
-      lacks-earlier a b h i j = rw (sym status, needed, eq-eqb (tally cs m) 0 none, sym parent, eq-eqb p q h, sym i, sym j)
+-- of two and a third, the first two decide
+pub and-left : (a b : Bool) → a && b ≡ true → a ≡ true
+and-left true b h = refl
+and-left false b h = h
+
+and-fails : (a b c : Bool) → a && b ≡ false → a && (b && c) ≡ false
+and-fails true b c h = rw h
+and-fails false b c h = refl
+
+and-holds : (a b c : Bool) → a && b ≡ true → a && (b && c) ≡ c
+and-holds true b c h = rw h
+and-holds false b c h = absurd (true≢false (sym h))
 
 module _ (g : Guide) (cs : List ℕ) (n p : ℕ) where
-  pub lacks-only : Only g p (lacking g cs n p)
-  unfolding lacking
-  lacks-only m h = rw h
+  pub due-below : (m : ℕ) → dueOf g p m ≡ true → childOf g p m ≡ true
+  due-below m h = and-left (childOf g p m) (node g m .must) h
 
-  pub lacks-child : (m : ℕ) (r b : Bool) → node g m .parent ≡ p → r ≡ lacksChild g cs n p m → r ≡ b → lacking g cs n p m ≡ b
-  unfolding lacking lacksChild
-  lacks-child m r b h e q = rw (eq-eqb (node g m .parent) p h) (sym e ∙ q)
+  pub lacks-only : Only (dueOf g p) (lacking g cs n p)
+  unfolding lacking required
+  lacks-only m h = and-fails (childOf g p m) (node g m .must) _ h
+
+  pub lacks-due : (m : ℕ) (r b : Bool) → dueOf g p m ≡ true → r ≡ lacksDue g cs n p m → r ≡ b → lacking g cs n p m ≡ b
+  unfolding lacking required lacksDue
+  lacks-due m r b h e q = and-holds (childOf g p m) (node g m .must) _ h ∙ sym e ∙ q
 
 module _ (e : Edition) (cs : List ℕ) (n : ℕ) where
   -- the search from the level of p outward
@@ -54,23 +65,36 @@ module _ (e : Edition) (cs : List ℕ) (n : ℕ) where
   unfolding levels missing
   level-any k p c = refl
 
-  -- the gap at the level of p
-  module _ (p gap : ℕ) (here : gap ≡ firstNode (guideOf e) (lacking (guideOf e) cs n p)) where
-    -- the level that takes n is the last
-    pub missing-taking : (q : ℕ) → q ≡ node (guideOf e) n .parent → p ≡ q → gap ≡ missingFrom p
-    unfolding levels missing
-    missing-taking q parent h = sym (rw (eq-eqb p (node (guideOf e) n .parent) (h ∙ parent), sym here) (orElse-none gap))
+  -- the search from p outward gives the answer of the search from `last`, and gap is the one at the level of p
+  module _
+      (last p gap : ℕ) (given : missingFrom p ≡ missingFrom last) (here : gap ≡ firstNode (guideOf e) (lacking (guideOf e) cs n p))
+    where
+      pub gap-found : (gap ≡ 0 → ⊥) → gap ≡ missingFrom last
+      unfolding levels missing
+      gap-found h =
+          let q : missingFrom p ≡ gap = rw (sym here) (orElse-some gap _ h) in
+          sym q ∙ given
 
-    pub missing-root : p ≡ 0 → gap ≡ missingFrom p
-    unfolding missing
-    missing-root h = sym (rw (levels-root e p 0 h, sym here, pick-none (eqb p (node (guideOf e) n .parent))) (orElse-none gap))
+      module _ (none : gap ≡ 0) where
+        pub gap-root : p ≡ 0 → 0 ≡ missingFrom last
+        unfolding missing
+        gap-root h =
+            let q : missingFrom p ≡ 0 = rw (levels-root e p 0 h, sym here, none) (pick-none (eqb p (node (guideOf e) n .parent))) in
+            sym q ∙ given
 
-    pub missing-up
-        : (q r outer : ℕ) → q ≡ node (guideOf e) n .parent → (p ≡ q → ⊥) → (p ≡ 0 → ⊥) → p < length (guideOf e) → r ≡ node (guideOf e) p .parent
-        → outer ≡ missingFrom r → orElse gap outer ≡ missingFrom p
-    unfolding missing
-    missing-up q r outer parent h k l up found =
-        let other : eqb p (node (guideOf e) n .parent) ≡ false = ne-eqb p _ (λ (z : p ≡ node (guideOf e) n .parent). h (z ∙ sym parent)) in
-        let s : missingFrom p ≡ orElse gap (missingFrom r) =
-        rw (levels-up e p 0 k l, sym here, other, up) (ap (orElse gap) (level-any (node (guideOf e) p .parent) (node (guideOf e) p .parent) (node (guideOf e) p .counter))) in
-        ap (orElse gap) found ∙ sym s
+        module _ (q : ℕ) (parent : q ≡ node (guideOf e) n .parent) where
+          -- the level that takes n is the last
+          pub gap-taking : p ≡ q → 0 ≡ missingFrom last
+          unfolding levels missing
+          gap-taking h =
+              let s : missingFrom p ≡ 0 = rw (eq-eqb p (node (guideOf e) n .parent) (h ∙ parent), sym here, none) in
+              sym s ∙ given
+
+          pub gap-up
+              : (p ≡ q → ⊥) → (p ≡ 0 → ⊥) → p < length (guideOf e) → (r : ℕ) → r ≡ node (guideOf e) p .parent → missingFrom r ≡ missingFrom last
+          unfolding missing
+          gap-up h k l r up =
+              let other : eqb p (node (guideOf e) n .parent) ≡ false = ne-eqb p _ (λ (z : p ≡ node (guideOf e) n .parent). h (z ∙ sym parent)) in
+              let s : missingFrom p ≡ missingFrom r =
+              rw (levels-up e p 0 k l, sym here, none, other, up) (level-any (node (guideOf e) p .parent) (node (guideOf e) p .parent) (node (guideOf e) p .counter)) in
+              sym s ∙ given

@@ -16,17 +16,9 @@ use Rattle.judge.proofs.Sound.{sound-at}
 use Rattle.judge.proofs.Tables.{table-fits}
 use Rattle.judge.proofs.Links.{lowest-none}
 
-pub orElse-none : (a : ℕ) → orElse a 0 ≡ a
-orElse-none zero = refl
-orElse-none (suc a) = refl
-
 pub orElse-some : (a b : ℕ) → (a ≡ 0 → ⊥) → orElse a b ≡ a
 orElse-some zero b h = absurd (h refl)
 orElse-some (suc a) b h = refl
-
-pub orElse-assoc : (a b c : ℕ) → orElse (orElse a b) c ≡ orElse a (orElse b c)
-orElse-assoc zero b c = refl
-orElse-assoc (suc a) b c = refl
 
 module _ (e : Edition) where
   pub parent-lower : (p : ℕ) → (p ≡ 0 → ⊥) → p < length (guideOf e) → node (guideOf e) p .parent < p

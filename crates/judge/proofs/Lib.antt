@@ -8,6 +8,7 @@ pub mod Levels
 pub mod Fits
 pub mod Gaps
 pub mod Counts
+pub mod Likely
 pub mod Outcomes
 pub mod Tagged
 pub mod Face

@@ -1,5 +1,5 @@
--- Laws of the links: a walk over the children of a node, from the first one by next siblings, finds what a search through the whole table
--- finds, for every test that holds of children only.
+-- Laws of the links: a walk over the children of a node, or over some of them, from the first one by next ones, finds what a search through
+-- the whole table finds, for every test that holds of these only.
 use Prim.Native.Nat.{ℕ, zero, suc, _-_, _≤_, _<_}
 use mathlib.Core.Path.{_≡_, refl, sym, _∙_, ap}
 use mathlib.Core.Bool.{Bool, true, false}
@@ -10,7 +10,8 @@ use borrow.Author.Tests.{ne-eqb, eqb-true, eqb-false, ltb-true, ltb-false}
 use Rattle.guide.specs.Nodes.{Guide, Node, message, nobody, node}
 use Rattle.guide.specs.Placing.{lowest, firstNode}
 use Rattle.guide.specs.Choices.{pickℕ}
-use Rattle.judge.specs.Rows.{childOf, firstChild, nextSibling}
+use Rattle.judge.specs.Rows.{childOf}
+use Rattle.judge.specs.Workers.{onward}
 
 pub pick-none : (b : Bool) → pickℕ b 0 0 ≡ 0
 pick-none true = refl
@@ -47,10 +48,7 @@ unfolding lowest
 lowest-none test i zero h = refl
 lowest-none test i (suc k) h = rw (h i (omega arith)) (lowest-none test (suc i) k (λ m l. h m (omega arith)))
 
--- from node n on, 0 being none: what a search finds, and how many nodes are left
-unfoldable pub onward : (ℕ → Bool) → Guide → ℕ → ℕ
-onward test g n = pickℕ (eqb n 0) 0 (lowest test n (length g - n))
-
+-- from node n on, 0 being none: how many nodes are left
 unfoldable pub ahead : Guide → ℕ → ℕ
 ahead g n = pickℕ (eqb n 0) 0 (length g - n)
 
@@ -82,6 +80,18 @@ module _ (g : Guide) where
           rw (ne-eqb i 0 (λ (z : i ≡ 0). omega arith), m)
       go false e ih = rw (only i e) ih
 
+  pub first-skip : (test some : ℕ → Bool) → ((m : ℕ) → some m ≡ false → test m ≡ false) → (n : ℕ) → n ≡ firstNode g some → onward test g n ≡ firstNode g test
+  first-skip test some only n e = ap (onward test g) e ∙ onward-skip test some only 1 (length g - 1) (omega arith) refl
+
+  -- a search under q is one under p, where they are one for a node that is there
+  pub onward-under : (test : ℕ → ℕ → Bool) (q p n : ℕ) → ((n ≡ 0 → ⊥) → q ≡ p) → onward (test q) g n ≡ onward (test p) g n
+  unfolding onward
+  onward-under test q p n h = go (eqb n 0) refl
+    where
+      go : (b : Bool) → eqb n 0 ≡ b → pickℕ b 0 (lowest (test q) n (length g - n)) ≡ pickℕ b 0 (lowest (test p) n (length g - n))
+      go true e = refl
+      go false e = ap (λ (x : ℕ). lowest (test x) n (length g - n)) (h (eqb-false n 0 e))
+
   -- a child of a node of the table stands in the table: past the end is nobody's child
   pub child-inside : (p n : ℕ) → p < nobody → childOf g p n ≡ true → n < length g
   child-inside p n h e = go (ltb n (length g)) refl
@@ -93,65 +103,69 @@ module _ (g : Guide) where
           let z : nobody ≡ p = sym (ap (λ (x : Node). x .parent) (List·getD-eq-default g message l)) ∙ eqb-true _ _ e in
           absurd (omega arith)
 
--- a test that holds of children of p only
-abbrev pub Only : Guide → ℕ → (ℕ → Bool) → Type 0
-Only g p test = (m : ℕ) → childOf g p m ≡ false → test m ≡ false
+-- a test that holds only where another does
+abbrev pub Only : (ℕ → Bool) → (ℕ → Bool) → Type 0
+Only some test = (m : ℕ) → some m ≡ false → test m ≡ false
 
--- a walk over the children of p stands at n: n is 0 or a child, and from there on the answer is found
-pub record Walking (g : Guide) (p : ℕ) (test : ℕ → Bool) (n : ℕ) : Type 0 where
-  pub known : p < nobody
-  pub only : Only g p test
-  pub inside : (n ≡ 0 → ⊥) → n < length g
-  pub child : (n ≡ 0 → ⊥) → node g n .parent ≡ p
-  pub answer : onward test g n ≡ firstNode g test
+-- a walk over some children of p, those that `kin` tells, stands at n: n is 0 or one of them, and from there on the answer is found
+pub record Walking (g : Guide) (kin : ℕ → ℕ → Bool) (p : ℕ) (test : ℕ → Bool) (found n : ℕ) : Type 0 where
+  pub known : (n ≡ 0 → ⊥) → p < nobody
+  pub below : (m : ℕ) → kin p m ≡ true → childOf g p m ≡ true
+  pub only : Only (kin p) test
+  pub kind : (n ≡ 0 → ⊥) → kin p n ≡ true
+  pub answer : onward test g n ≡ found
 
-pub walk-begins : (g : Guide) (p : ℕ) (test : ℕ → Bool) (n : ℕ) → p < nobody → Only g p test → n ≡ firstChild g p → Walking g p test n
-unfolding firstChild
-walk-begins g p test n known only e =
-    let passes : (n ≡ 0 → ⊥) → childOf g p n ≡ true =
-    λ z. rw e (lowest-passes (childOf g p) 1 (length g - 1) (λ q. z (e ∙ q))) in
-    record {
-      known = known;
-      only = only;
-      inside = λ z. child-inside g p n known (passes z);
-      child = λ z. eqb-true (node g n .parent) p (passes z);
-      answer = ap (onward test g) e ∙ onward-skip g test (childOf g p) only 1 (length g - 1) (omega arith) refl;
-    }
+module _ (g : Guide) (kin : ℕ → ℕ → Bool) (p : ℕ) (test : ℕ → Bool) (n : ℕ) (below : (m : ℕ) → kin p m ≡ true → childOf g p m ≡ true) (only : Only (kin p) test) where
+  pub walk-begins : p < nobody → n ≡ firstNode g (kin p) → Walking g kin p test (firstNode g test) n
+  walk-begins known e =
+      record {
+        known = λ z. known;
+        below = below;
+        only = only;
+        kind = λ z. rw e (lowest-passes (kin p) 1 (length g - 1) (λ q. z (e ∙ q)));
+        answer = first-skip g test (kin p) only n e;
+      }
 
-module _ {g : Guide} {p : ℕ} {test : ℕ → Bool} {n : ℕ} (w : Walking g p test n) where
-  pub walk-out : n ≡ 0 → 0 ≡ firstNode g test
+  -- a walk from a node on
+  pub walk-from : ((n ≡ 0 → ⊥) → p < nobody) → ((n ≡ 0 → ⊥) → kin p n ≡ true) → Walking g kin p test (onward test g n) n
+  walk-from known kind = record { known = known; below = below; only = only; kind = kind; answer = refl }
+
+module _ {g : Guide} {kin : ℕ → ℕ → Bool} {p : ℕ} {test : ℕ → Bool} {found n : ℕ} (w : Walking g kin p test found n) where
+  pub walk-out : n ≡ 0 → 0 ≡ found
   unfolding onward
   walk-out e = sym (rw e) ∙ w .answer
 
   module _ (some : n ≡ 0 → ⊥) where
-    pub walk-found : test n ≡ true → n ≡ firstNode g test
+    pub walk-inside : n < length g
+    walk-inside = child-inside g p n (w .known some) (w .below n (w .kind some))
+
+    pub walk-child : node g n .parent ≡ p
+    walk-child = eqb-true (node g n .parent) p (w .below n (w .kind some))
+
+    pub walk-found : test n ≡ true → n ≡ found
     unfolding onward lowest
     walk-found t =
-        let m : length g - n ≡ suc (length g - suc n) = omega (arith, w .inside some) in
+        let m : length g - n ≡ suc (length g - suc n) = omega (arith, walk-inside) in
         let q : onward test g n ≡ n = rw (ne-eqb n 0 some, m, t) in
         sym q ∙ w .answer
 
-    module _ (next : ℕ) (link : next ≡ nextSibling g n) where
-      sibling : next ≡ lowest (childOf g p) (suc n) (length g - suc n)
-      unfolding nextSibling
-      sibling = link ∙ ap (λ (q : ℕ). lowest (childOf g q) (suc n) (length g - suc n)) (w .child some)
+    module _ (next : ℕ) (link : next ≡ lowest (kin (node g n .parent)) (suc n) (length g - suc n)) where
+      sibling : next ≡ lowest (kin p) (suc n) (length g - suc n)
+      sibling = link ∙ ap (λ (q : ℕ). lowest (kin q) (suc n) (length g - suc n)) walk-child
 
-      pub walk-next : test n ≡ false → Walking g p test next
+      pub walk-next : test n ≡ false → Walking g kin p test found next
       unfolding onward lowest
       walk-next t =
-          let l : n < length g = w .inside some in
+          let l : n < length g = walk-inside in
           let m : length g - n ≡ suc (length g - suc n) = omega arith in
           let q : onward test g n ≡ lowest test (suc n) (length g - suc n) = rw (ne-eqb n 0 some, m, t) in
-          let passes : (next ≡ 0 → ⊥) → childOf g p next ≡ true =
-          λ z. rw sibling (lowest-passes (childOf g p) (suc n) (length g - suc n) (λ e. z (sibling ∙ e))) in
           record {
-            known = w .known;
+            known = λ z. w .known some;
+            below = w .below;
             only = w .only;
-            inside = λ z. child-inside g p next (w .known) (passes z);
-            child = λ z. eqb-true (node g next .parent) p (passes z);
-            answer =
-                ap (onward test g) sibling ∙ onward-skip g test (childOf g p) (w .only) (suc n) (length g - suc n) (omega arith) (omega arith) ∙ sym q ∙ w .answer;
+            kind = λ z. rw sibling (lowest-passes (kin p) (suc n) (length g - suc n) (λ e. z (sibling ∙ e)));
+            answer = ap (onward test g) sibling ∙ onward-skip g test (kin p) (w .only) (suc n) (length g - suc n) (omega arith) (omega arith) ∙ sym q ∙ w .answer;
           }
 
       pub walk-less : ahead g next < ahead g n
-      walk-less = ahead-less g n next some (w .inside some) (λ z. rw sibling (lowest-from (childOf g p) (suc n) (length g - suc n) (λ q. z (sibling ∙ q))))
+      walk-less = ahead-less g n next some walk-inside (λ z. rw sibling (lowest-from (kin p) (suc n) (length g - suc n) (λ q. z (sibling ∙ q))))

@@ -1,11 +1,10 @@
--- What the code needs of the tables: their sizes, and that a cell of a column is a number of its row.
+-- What the code needs of the tables: their sizes, that each row has an arm, and that a digit of a row's word is a field of the row.
 use Prim.Native.Nat.{ℕ, zero, suc, _≤_, _<_}
 use mathlib.Core.Path.{_≡_, refl, sym, _∙_, ap, subst}
-use mathlib.Core.Bool.{Bool, true, false}
 use mathlib.Core.List.{List}
 use native.Mathlib.Omega.{arith}
 use lib.ListN.{length, getD}
-use lib.Dec.{lit≤, eqb}
+use lib.Dec.{lit≤}
 use Rattle.guide.specs.Nodes.{Guide, nobody, node}
 use Rattle.guide.specs.Pricat.{pricat20d, pricat20c}
 use Rattle.judge.specs.declared.editions.Edition.{Edition}
@@ -13,7 +12,7 @@ use Rattle.judge.specs.declared.editions.Edition.the-variants.{D, C}
 use Rattle.judge.specs.Editions.{guideOf}
 use Rattle.guide.specs.Columns.{values}
 use Rattle.guide.proofs.Columns.{value}
-use Rattle.judge.specs.Rows.{flag, codesOf}
+use Rattle.judge.specs.Rows.{codesOf}
 
 -- every table has fewer rows than there are counts
 pub table-fits : (e : Edition) → length (guideOf e) ≤ 96
@@ -56,11 +55,6 @@ differs-past i (suc k) d =
 -- a row's place in the table of its own edition
 pub row-in : (e f : Edition) → e ≡ f → (n : ℕ) → n < length (guideOf e) → n < length (guideOf f)
 row-in e f q n row = subst (λ (x : Edition). n < length (guideOf x)) q row
-
--- the status as a number
-pub flag-one : (b : Bool) → eqb (flag b) 1 ≡ b
-flag-one true = refl
-flag-one false = refl
 
 pub code-in : (e f : Edition) → e ≡ f → (j : ℕ) → j < length (codesOf (guideOf e)) → j < length (codesOf (guideOf f))
 code-in e f q j inside = subst (λ (x : Edition). j < length (codesOf (guideOf x))) q inside

@@ -1,13 +1,13 @@
 -- Laws of a node's tag: past the table's end there is none, and equal numbers are equal tags.
 use Prim.Native.Nat.{ℕ, zero, suc, _≤_, _<_}
-use mathlib.Core.Path.{_≡_, refl, sym, _∙_, ap, ap₂}
-use mathlib.Core.Bool.{Bool, false}
+use mathlib.Core.Path.{_≡_, refl, _∙_, ap₂}
+use mathlib.Core.Bool.{false}
 use mathlib.Core.List.{List, [], _∷_}
 use native.Mathlib.Omega.{arith}
 use lib.ListN.{length, List·getD-eq-default}
 use lib.Dec.{eqb}
 use Rattle.element.specs.Plain.{same}
-use Rattle.guide.specs.Nodes.{Node, message, node}
+use Rattle.guide.specs.Nodes.{message, node}
 use Rattle.guide.specs.Pricat.{pricat20d, pricat20c}
 use Rattle.guide.specs.Sheet.{isTag}
 use Rattle.judge.specs.declared.editions.Edition.{Edition}

@@ -1,16 +1,12 @@
 -- The tables as numbers: what the code holds of them. No public promise cites these.
 use Prim.Native.Nat.{ℕ, suc, _+_, _*_, _-_}
-use mathlib.Core.Bool.{Bool, true, false}
+use mathlib.Core.Bool.{Bool, _&&_}
 use mathlib.Core.List.{List, [], _∷_, _++_, map}
 use lib.ListN.{length, take}
 use lib.Dec.{eqb}
 use Rattle.guide.specs.Nodes.{Guide, node}
 use Rattle.guide.specs.Placing.{lowest, firstNode}
 use Rattle.judge.specs.Words.{packed}
-
-abbrev pub flag : Bool → ℕ
-flag true = 1
-flag false = 0
 
 -- the codes of all rows, one row's after the other's
 unfoldable pub codesOf : Guide → List ℕ
@@ -28,17 +24,27 @@ firstChild g p = firstNode g (childOf g p)
 unfoldable pub nextSibling : Guide → ℕ → ℕ
 nextSibling g n = lowest (childOf g (node g n .parent)) (suc n) (length g - suc n)
 
--- a row as two words of the code, field above field: what a search reads of node n, and what else there is of it
+-- the same of the required ones alone
+abbrev pub dueOf : Guide → ℕ → ℕ → Bool
+dueOf g p m = childOf g p m && node g m .must
+
+unfoldable pub firstDue : Guide → ℕ → ℕ
+firstDue g p = firstNode g (dueOf g p)
+
+unfoldable pub nextDue : Guide → ℕ → ℕ
+nextDue g n = lowest (dueOf g (node g n .parent)) (suc n) (length g - suc n)
+
+-- a row as two words of the code, field above field
 unfoldable pub linkWord : Guide → ℕ → ℕ
-linkWord g n = firstChild g n + 256 * (nextSibling g n + 256 * (node g n .counter + 4096 * (flag (node g n .must) + 16 * packed (node g n .tag))))
+linkWord g n = firstChild g n + 256 * (nextSibling g n + 256 * (node g n .counter + 4096 * (node g n .refusal + 256 * packed (node g n .tag))))
 
 unfoldable pub termWord : Guide → ℕ → ℕ
 termWord g n =
     node g n .limit
     + 1048576
-    * (node g n .refusal
-    + 256
     * (node g n .parent
     + 4096
     * (node g n .selector .element
-    + 16 * (node g n .selector .component + 16 * (length (codesOf (take n g)) + 256 * length (node g n .selector .codes))))))
+    + 4
+    * (node g n .selector .component
+    + 4 * (length (codesOf (take n g)) + 256 * (length (node g n .selector .codes) + 16 * (nextDue g n + 256 * firstDue g n))))))

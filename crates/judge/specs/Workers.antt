@@ -1,17 +1,26 @@
 -- What the crate's own workers promise each other; no public call cites these.
-use Prim.Native.Nat.{ℕ, suc}
+use Prim.Native.Nat.{ℕ, suc, _-_}
 use mathlib.Core.Bool.{Bool, not, _&&_, _||_}
 use mathlib.Core.List.{List, [], _∷_}
-use lib.Dec.{eqb, ltb}
-use Rattle.guide.specs.Nodes.{Guide, node, required}
-use Rattle.guide.specs.Placing.{tally}
+use lib.ListN.{length}
+use lib.Dec.{eqb, ltb, leb}
+use Rattle.guide.specs.Nodes.{Guide, node}
+use Rattle.guide.specs.Placing.{lowest, tally}
 use Rattle.guide.specs.Choices.{pickℕ}
+use Rattle.judge.specs.Words.{packed}
 use Rattle.judge.specs.Rows.{childOf}
 
--- whether p lacks its child m when n comes: `lacking`, where it is known that m is a child
-unfoldable pub lacksChild : Guide → List ℕ → ℕ → ℕ → ℕ → Bool
-lacksChild g cs n p m =
-    required g m (tally cs) && (eqb (tally cs m) 0 && (not (eqb p (node g n .parent)) || ltb (node g m .counter) (node g n .counter)))
+-- whether m is a child of p that has this tag, and a counter that is not below c
+abbrev pub likely : Guide → ℕ → ℕ → ℕ → ℕ → Bool
+likely g tag c p m = childOf g p m && (leb c (node g m .counter) && eqb (packed (node g m .tag)) tag)
+
+-- from node n on, 0 being none: what a search finds
+unfoldable pub onward : (ℕ → Bool) → Guide → ℕ → ℕ
+onward test g n = pickℕ (eqb n 0) 0 (lowest test n (length g - n))
+
+-- whether p lacks its required child m when n comes: `lacking`, where it is known that m is one
+unfoldable pub lacksDue : Guide → List ℕ → ℕ → ℕ → ℕ → Bool
+lacksDue g cs n p m = eqb (tally cs m) 0 && (not (eqb p (node g n .parent)) || ltb (node g m .counter) (node g n .counter))
 
 -- the counts from node m on, where no child of n has come
 unfoldable pub cleared : Guide → ℕ → ℕ → List ℕ → List ℕ

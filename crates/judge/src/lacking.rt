@@ -1,26 +1,21 @@
 // Looks for the node that is missing when another comes: 14's question.
 use crate::editions::Edition;
 use crate::rows::counter_of;
-use crate::rows::first_child;
-use crate::rows::is_required;
-use crate::rows::next_sibling;
+use crate::rows::first_due;
+use crate::rows::next_due;
 use crate::rows::parent_of;
 ghost use Prim.Native.Nat.{suc, _<_};
 ghost use mathlib.Core.Path.{_≡_};
 ghost use lib.ListN.{length};
 ghost use Rattle.guide.specs.Placing.{firstNode, levels, lacking, missing};
-ghost use Rattle.guide.specs.Choices.{orElse};
 ghost use Rattle.judge.specs.Editions.{guideOf};
-ghost use Rattle.judge.specs.Workers.{lacksChild};
+ghost use Rattle.judge.specs.Workers.{lacksDue};
 
-// Whether the instance p lacks its child m when n comes.
+// Whether the instance p lacks its required child m when n comes.
 fn lacks(edition: Edition, counts: &[u32; 96], n: usize, p: usize, m: usize) -> bool
     requires { ⌜ (n < length (guideOf edition)) × (m < length (guideOf edition)) ⌝ }
-    ensures { λ r. ⌜ r ≡ lacksChild (guideOf edition) (now (counts .entry)) n p m ⌝ }
+    ensures { λ r. ⌜ r ≡ lacksDue (guideOf edition) (now (counts .entry)) n p m ⌝ }
 {
-    if !is_required(edition, m) {
-        return false;
-    }
     if counts[m] != 0 {
         return false;
     }
@@ -35,38 +30,35 @@ fn lacking_in(edition: Edition, counts: &[u32; 96], n: usize, p: usize) -> usize
     requires { ⌜ (n < length (guideOf edition)) × (p < length (guideOf edition)) ⌝ }
     ensures { λ r. ⌜ r ≡ firstNode (guideOf edition) (lacking (guideOf edition) (now (counts .entry)) n p) ⌝ }
 {
-    let mut m = first_child(edition, p);
+    let mut m = first_due(edition, p);
     while m != 0 {
         if lacks(edition, counts, n, p, m) {
             return m;
         }
-        m = next_sibling(edition, m);
+        m = next_due(edition, m);
     }
     0
 }
 
-fn or_else(a: usize, b: usize) -> usize
-    ensures { λ r. ⌜ r ≡ orElse a b ⌝ }
-{
-    if a == 0 {
-        return b;
-    }
-    a
-}
-
 // The lowest missing node, looked for from the innermost open instance outward level by level, up to the one that takes n; 0 if none is
 // missing. The level is the open instance's node: a parent has a lower number, so it falls.
-pub(crate) fn missing_for(edition: Edition, counts: &[u32; 96], n: usize, level: usize) -> usize
-    requires { ⌜ (n < length (guideOf edition)) × (level < length (guideOf edition)) ⌝ }
-    ensures { λ r. ⌜ r ≡ missing (guideOf edition) (now (counts .entry)) n (levels (guideOf edition) (suc level) level 0) ⌝ }
+pub(crate) fn missing_for(edition: Edition, counts: &[u32; 96], n: usize, last: usize) -> usize
+    requires { ⌜ (n < length (guideOf edition)) × (last < length (guideOf edition)) ⌝ }
+    ensures { λ r. ⌜ r ≡ missing (guideOf edition) (now (counts .entry)) n (levels (guideOf edition) (suc last) last 0) ⌝ }
 {
-    let gap = lacking_in(edition, counts, n, level);
-    if level == parent_of(edition, n) {
-        return gap;
+    let taker = parent_of(edition, n);
+    let mut level = last;
+    loop {
+        let gap = lacking_in(edition, counts, n, level);
+        if gap != 0 {
+            return gap;
+        }
+        if level == taker {
+            return 0;
+        }
+        if level == 0 {
+            return 0;
+        }
+        level = parent_of(edition, level);
     }
-    if level == 0 {
-        return gap;
-    }
-    let outer = missing_for(edition, counts, n, parent_of(edition, level));
-    or_else(gap, outer)
 }

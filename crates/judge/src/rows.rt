@@ -7,7 +7,7 @@ ghost use mathlib.Core.Path.{_≡_};
 ghost use lib.ListN.{length, take};
 ghost use Rattle.guide.specs.Nodes.{node};
 ghost use Rattle.judge.specs.Editions.{guideOf};
-ghost use Rattle.judge.specs.Rows.{codesOf, firstChild, nextSibling};
+ghost use Rattle.judge.specs.Rows.{codesOf, firstChild, nextSibling, firstDue, nextDue};
 ghost use Rattle.judge.specs.Words.{packed};
 
 // The tag, as a number.
@@ -15,15 +15,15 @@ pub(crate) fn tag_of(edition: Edition, n: usize) -> u32
     requires { ⌜ n < length (guideOf edition) ⌝ }
     ensures { λ r. ⌜ r ≡ packed (node (guideOf edition) n .tag) ⌝ }
 {
-    (links(edition, n) / 0x1_0000_0000) as u32
+    (links(edition, n) / 0x10_0000_0000) as u32
 }
 
-// Whether the node is required.
-pub(crate) fn is_required(edition: Edition, n: usize) -> bool
+// The number of a passed limit.
+pub(crate) fn refusal_of(edition: Edition, n: usize) -> u32
     requires { ⌜ n < length (guideOf edition) ⌝ }
-    ensures { λ r. ⌜ r ≡ node (guideOf edition) n .must ⌝ }
+    ensures { λ r. ⌜ r ≡ node (guideOf edition) n .refusal ⌝ }
 {
-    links(edition, n) / 0x1000_0000 % 16 == 1
+    (links(edition, n) / 0x1000_0000 % 256) as u32
 }
 
 // The counter.
@@ -39,7 +39,7 @@ pub(crate) fn next_sibling(edition: Edition, n: usize) -> usize
     requires { ⌜ n < length (guideOf edition) ⌝ }
     ensures { λ r. ⌜ r ≡ nextSibling (guideOf edition) n ⌝ }
 {
-    (links(edition, n) / 0x100 % 256) as usize
+    (links(edition, n) / 256 % 256) as usize
 }
 
 // The first child, or 0.
@@ -50,12 +50,28 @@ pub(crate) fn first_child(edition: Edition, n: usize) -> usize
     (links(edition, n) % 256) as usize
 }
 
+// The first child that is required, or 0.
+pub(crate) fn first_due(edition: Edition, n: usize) -> usize
+    requires { ⌜ n < length (guideOf edition) ⌝ }
+    ensures { λ r. ⌜ r ≡ firstDue (guideOf edition) n ⌝ }
+{
+    (terms(edition, n) / 0x100_0000_0000_0000) as usize
+}
+
+// The next node with the same parent that is required, or 0.
+pub(crate) fn next_due(edition: Edition, n: usize) -> usize
+    requires { ⌜ n < length (guideOf edition) ⌝ }
+    ensures { λ r. ⌜ r ≡ nextDue (guideOf edition) n ⌝ }
+{
+    (terms(edition, n) / 0x1_0000_0000_0000 % 256) as usize
+}
+
 // How many codes the row has.
 pub(crate) fn codes_count(edition: Edition, n: usize) -> usize
     requires { ⌜ n < length (guideOf edition) ⌝ }
     ensures { λ r. ⌜ r ≡ length (node (guideOf edition) n .selector .codes) ⌝ }
 {
-    (terms(edition, n) / 0x100_0000_0000_0000) as usize
+    (terms(edition, n) / 0x1000_0000_0000 % 16) as usize
 }
 
 // Where the codes of the row begin among all.
@@ -63,7 +79,7 @@ pub(crate) fn codes_from(edition: Edition, n: usize) -> usize
     requires { ⌜ n < length (guideOf edition) ⌝ }
     ensures { λ r. ⌜ r ≡ length (codesOf (take n (guideOf edition))) ⌝ }
 {
-    (terms(edition, n) / 0x1_0000_0000_0000 % 256) as usize
+    (terms(edition, n) / 0x10_0000_0000 % 256) as usize
 }
 
 // The component of the selector, counted from 0.
@@ -71,7 +87,7 @@ pub(crate) fn component_of(edition: Edition, n: usize) -> usize
     requires { ⌜ n < length (guideOf edition) ⌝ }
     ensures { λ r. ⌜ r ≡ node (guideOf edition) n .selector .component ⌝ }
 {
-    (terms(edition, n) / 0x1000_0000_0000 % 16) as usize
+    (terms(edition, n) / 0x4_0000_0000 % 4) as usize
 }
 
 // The element of the selector, counted from 0.
@@ -79,7 +95,7 @@ pub(crate) fn element_of(edition: Edition, n: usize) -> usize
     requires { ⌜ n < length (guideOf edition) ⌝ }
     ensures { λ r. ⌜ r ≡ node (guideOf edition) n .selector .element ⌝ }
 {
-    (terms(edition, n) / 0x100_0000_0000 % 16) as usize
+    (terms(edition, n) / 0x1_0000_0000 % 4) as usize
 }
 
 // The parent.
@@ -87,15 +103,7 @@ pub(crate) fn parent_of(edition: Edition, n: usize) -> usize
     requires { ⌜ n < length (guideOf edition) ⌝ }
     ensures { λ r. ⌜ r ≡ node (guideOf edition) n .parent ⌝ }
 {
-    (terms(edition, n) / 0x1000_0000 % 0x1000) as usize
-}
-
-// The number of a passed limit.
-pub(crate) fn refusal_of(edition: Edition, n: usize) -> u32
-    requires { ⌜ n < length (guideOf edition) ⌝ }
-    ensures { λ r. ⌜ r ≡ node (guideOf edition) n .refusal ⌝ }
-{
-    (terms(edition, n) / 0x10_0000 % 256) as u32
+    (terms(edition, n) / 0x10_0000 % 0x1000) as usize
 }
 
 // The limit in the parent.

@@ -1,31 +1,34 @@
--- `judge::lacking::lacking_in` meets its contract. The loop's invariant is `Walking`: a walk over the children of p. Assumes nothing.
+-- `judge::lacking::lacking_in` meets its contract. The loop's invariant is `Walking`: a walk over the required children of p. Assumes nothing.
 use borrow.Author.Needs.{needs}
 use native.Mathlib.Omega.{arith}
-use Rattle.guide.specs.Placing.{lacking}
+use Rattle.guide.specs.Placing.{firstNode, lacking}
 use Rattle.judge.specs.Editions.{guideOf}
+use Rattle.judge.specs.Rows.{dueOf, firstDue, nextDue}
 use Rattle.judge.proofs.Tables.{table-fits}
-use Rattle.judge.proofs.Links.{Walking, ahead, walk-begins, walk-out, walk-found, walk-next, walk-less}
-use Rattle.judge.proofs.Gaps.{lacks-only, lacks-child}
+use Rattle.judge.proofs.Links.{Walking, ahead, walk-begins, walk-out, walk-inside, walk-found, walk-next, walk-less}
+use Rattle.judge.proofs.Gaps.{due-below, lacks-only, lacks-due}
 use Rattle.judge.proofs.lacking.lacking_in.Statement.{statement}
 use Rattle.judge.proofs.lacking.lacking_in.Tie as tie
 
 abbrev Inv-loop : tie.InvT-loop
-Inv-loop edition counts n p m₀ m = Walking (guideOf edition) p (lacking (guideOf edition) counts n p) m
+Inv-loop edition counts n p m₀ m = Walking (guideOf edition) (dueOf (guideOf edition)) p (lacking (guideOf edition) counts n p) (firstNode (guideOf edition) (lacking (guideOf edition) counts n p)) m
 
 abbrev μ-loop : tie.MeasureT-loop
 μ-loop edition counts n p m₀ m = ahead (guideOf edition) m
 
-first-child-requires : tie.Need-first-child-requires Inv-loop μ-loop
-first-child-requires c κs = search needs
+first-due-requires : tie.Need-first-due-requires Inv-loop μ-loop
+first-due-requires c κs = search needs
 
 loop-holds : tie.Need-loop-holds Inv-loop μ-loop
+unfolding firstDue
 loop-holds c =
     let a = c .before .args in
     let g = guideOf (a .edition) in
-    walk-begins g (a .p) (lacking g (a .counts .now) (a .n) (a .p)) _ (omega (arith, table-fits (a .edition))) (lacks-only g (a .counts .now) (a .n) (a .p)) (c .first-child .ensures)
+    walk-begins g (dueOf g) (a .p) (lacking g (a .counts .now) (a .n) (a .p)) _ (due-below g (a .counts .now) (a .n) (a .p)) (lacks-only g (a .counts .now) (a .n) (a .p))
+    (omega (arith, table-fits (a .edition))) (c .first-due .ensures)
 
 lacks-requires : tie.Need-lacks-requires Inv-loop μ-loop
-lacks-requires c κs = (c .before .before .before .pre .0, c .before .loop .inv .inside (c .loop-test .taken))
+lacks-requires c κs = (c .before .before .before .pre .0, walk-inside (c .before .loop .inv) (c .loop-test .taken))
 
 returns : tie.Need-returns Inv-loop μ-loop
 returns c =
@@ -34,26 +37,28 @@ returns c =
     let a = loop .before .before .args in
     let some = asked .before .loop-test .taken in
     walk-found (loop .loop .inv) some
-    (lacks-child (guideOf (a .edition)) (a .counts .now) (a .n) (a .p) _ _ _ (loop .loop .inv .child some) (asked .lacks .ensures) (c .if1 .taken))
+    (lacks-due (guideOf (a .edition)) (a .counts .now) (a .n) (a .p) _ _ _ (loop .loop .inv .kind some) (asked .lacks .ensures) (c .if1 .taken))
 
-next-sibling-requires : tie.Need-next-sibling-requires Inv-loop μ-loop
-next-sibling-requires c κs =
+next-due-requires : tie.Need-next-due-requires Inv-loop μ-loop
+next-due-requires c κs =
     let loop = c .before .before in
-    loop .before .loop .inv .inside (loop .loop-test .taken)
+    walk-inside (loop .before .loop .inv) (loop .loop-test .taken)
 
 loop-less : tie.Need-loop-less Inv-loop μ-loop
+unfolding nextDue
 loop-less c =
     let loop = c .before .before .before in
-    walk-less (loop .before .loop .inv) (loop .loop-test .taken) _ (c .next-sibling .ensures)
+    walk-less (loop .before .loop .inv) (loop .loop-test .taken) _ (c .next-due .ensures)
 
 loop-again : tie.Need-loop-again Inv-loop μ-loop
+unfolding nextDue
 loop-again c =
     let asked = c .before .before in
     let loop = asked .before .before in
     let a = loop .before .before .args in
     let some = asked .before .loop-test .taken in
-    walk-next (loop .loop .inv) some _ (c .next-sibling .ensures)
-    (lacks-child (guideOf (a .edition)) (a .counts .now) (a .n) (a .p) _ _ _ (loop .loop .inv .child some) (asked .lacks .ensures) (c .before .if1 .left))
+    walk-next (loop .loop .inv) some _ (c .next-due .ensures)
+    (lacks-due (guideOf (a .edition)) (a .counts .now) (a .n) (a .p) _ _ _ (loop .loop .inv .kind some) (asked .lacks .ensures) (c .before .if1 .left))
 
 returns-2 : tie.Need-returns-2 Inv-loop μ-loop
 returns-2 c = walk-out (c .before .loop .inv) (c .loop-test .left)
@@ -64,11 +69,11 @@ lacking-in-spec =
     (tie.spec
     Inv-loop
     μ-loop
-    first-child-requires
+    first-due-requires
     loop-holds
     lacks-requires
     returns
-    next-sibling-requires
+    next-due-requires
     loop-less
     loop-again
     returns-2)

@@ -1,43 +1,31 @@
 -- `judge::lacking::lacks` meets its contract: one law for each return. Assumes nothing.
 use borrow.Author.Needs.{needs}
 use native.Mathlib.Omega.{arith}
-use borrow.Author.Tests.{not-true, not-false}
 use Rattle.judge.specs.Editions.{guideOf}
 use Rattle.judge.proofs.Tables.{table-fits}
-use Rattle.judge.proofs.Gaps.{lacks-optional, lacks-there, lacks-closed, lacks-earlier}
+use Rattle.judge.proofs.Gaps.{lacks-there, lacks-closed, lacks-earlier}
 use Rattle.judge.proofs.lacking.lacks.Statement.{statement}
 use Rattle.judge.proofs.lacking.lacks.Tie as tie
 
-is-required-requires : tie.Need-is-required-requires
-is-required-requires c κs = search needs
+mul-if1 : tie.Need-mul-if1
+mul-if1 c = omega (arith, table-fits (c .args .edition))
+
+element-copy-out-if1 : tie.Need-element-copy-out-if1
+element-copy-out-if1 c = omega (arith, table-fits (c .args .edition))
 
 returns : tie.Need-returns
 returns c =
     let a = c .before .before .args in
-    lacks-optional (guideOf (a .edition)) (a .counts .now) (a .n) (a .p) (a .m) _ (c .before .is-required .ensures) (not-true _ (c .if1 .taken))
-
-mul-if2 : tie.Need-mul-if2
-mul-if2 c = omega (arith, table-fits (c .before .before .args .edition))
-
-element-copy-out-if2 : tie.Need-element-copy-out-if2
-element-copy-out-if2 c = omega (arith, table-fits (c .before .before .args .edition))
-
-returns-2 : tie.Need-returns-2
-returns-2 c =
-    let asked = c .before .before in
-    let a = asked .before .before .args in
-    lacks-there (guideOf (a .edition)) (a .counts .now) (a .n) (a .p) (a .m) _ (asked .before .is-required .ensures) (not-false _ (asked .if1 .left)) (c .if2 .taken)
+    lacks-there (guideOf (a .edition)) (a .counts .now) (a .n) (a .p) (a .m) (c .if1 .taken)
 
 parent-of-requires : tie.Need-parent-of-requires
 parent-of-requires c κs = search needs
 
-returns-3 : tie.Need-returns-3
-returns-3 c =
+returns-2 : tie.Need-returns-2
+returns-2 c =
     let seen = c .before .before in
-    let asked = seen .before .before in
-    let a = asked .before .before .args in
-    lacks-closed (guideOf (a .edition)) (a .counts .now) (a .n) (a .p) (a .m) _ (asked .before .is-required .ensures) (not-false _ (asked .if1 .left)) (seen .if2 .left)
-    _ (c .before .parent-of .ensures) (c .if3 .taken)
+    let a = seen .before .before .args in
+    lacks-closed (guideOf (a .edition)) (a .counts .now) (a .n) (a .p) (a .m) (seen .if1 .left) _ (c .before .parent-of .ensures) (c .if2 .taken)
 
 counter-of-requires : tie.Need-counter-of-requires
 counter-of-requires c κs = search needs
@@ -45,26 +33,23 @@ counter-of-requires c κs = search needs
 counter-of-requires-2 : tie.Need-counter-of-requires-2
 counter-of-requires-2 c κs = search needs
 
-returns-4 : tie.Need-returns-4
-returns-4 c =
+returns-3 : tie.Need-returns-3
+returns-3 c =
     let same = c .before .before in
     let seen = same .before .before in
-    let asked = seen .before .before in
-    let a = asked .before .before .args in
-    lacks-earlier (guideOf (a .edition)) (a .counts .now) (a .n) (a .p) (a .m) _ (asked .before .is-required .ensures) (not-false _ (asked .if1 .left)) (seen .if2 .left)
-    _ (same .before .parent-of .ensures) _ _ (same .if3 .left) (c .before .counter-of .ensures) (c .counter-of2 .ensures)
+    let a = seen .before .before .args in
+    lacks-earlier (guideOf (a .edition)) (a .counts .now) (a .n) (a .p) (a .m) (seen .if1 .left) _ (same .before .parent-of .ensures) _ _
+    (same .if2 .left) (c .before .counter-of .ensures) (c .counter-of2 .ensures)
 
 pub lacks-spec : {M : Type 1} → statement M
 lacks-spec =
     tie.close
     (tie.spec
-    is-required-requires
+    mul-if1
+    element-copy-out-if1
     returns
-    mul-if2
-    element-copy-out-if2
-    returns-2
     parent-of-requires
-    returns-3
+    returns-2
     counter-of-requires
     counter-of-requires-2
-    returns-4)
+    returns-3)

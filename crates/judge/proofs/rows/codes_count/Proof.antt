@@ -1,11 +1,12 @@
 -- `judge::rows::codes_count` meets its contract: its digit is, computed, the field in every row of both guides. Assumes nothing.
 use borrow.Author.Needs.{needs}
-use Prim.Native.Nat.{ℕ, _/_}
+use Prim.Native.Nat.{ℕ, _/_, _%_}
 use mathlib.Core.Path.{refl}
 use lib.ListN.{length}
 use Rattle.guide.specs.Nodes.{Guide, node}
+use Rattle.guide.specs.Placing.{lowest}
 use Rattle.guide.specs.Pricat.{pricat20d, pricat20c}
-use Rattle.judge.specs.Rows.{termWord, codesOf}
+use Rattle.judge.specs.Rows.{termWord, codesOf, firstDue, nextDue}
 use Rattle.judge.proofs.Tables.{digit-at}
 use Rattle.judge.proofs.rows.codes_count.Statement.{statement}
 use Rattle.judge.proofs.rows.codes_count.Tie as tie
@@ -14,8 +15,8 @@ terms-requires : tie.Need-terms-requires
 terms-requires c κs = search needs
 
 returns : tie.Need-returns
-unfolding pricat20d pricat20c termWord codesOf
-returns c = digit-at termWord (λ (g : Guide) (n : ℕ). length (node g n .selector .codes)) (λ (x : ℕ). x / 72057594037927936) refl refl (c .before .args .edition) (c .before .args .n) (c .before .pre) _ (c .terms .ensures)
+unfolding pricat20d pricat20c termWord codesOf firstDue nextDue lowest
+returns c = digit-at termWord (λ (g : Guide) (n : ℕ). length (node g n .selector .codes)) (λ (x : ℕ). x / 17592186044416 % 16) refl refl (c .before .args .edition) (c .before .args .n) (c .before .pre) _ (c .terms .ensures)
 
 pub codes-count-spec : {M : Type 1} → statement M
 codes-count-spec = tie.close (tie.spec terms-requires returns)

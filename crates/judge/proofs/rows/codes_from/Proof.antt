@@ -4,8 +4,9 @@ use Prim.Native.Nat.{ℕ, _/_, _%_}
 use mathlib.Core.Path.{refl}
 use lib.ListN.{length, take}
 use Rattle.guide.specs.Nodes.{Guide}
+use Rattle.guide.specs.Placing.{lowest}
 use Rattle.guide.specs.Pricat.{pricat20d, pricat20c}
-use Rattle.judge.specs.Rows.{termWord, codesOf}
+use Rattle.judge.specs.Rows.{termWord, codesOf, firstDue, nextDue}
 use Rattle.judge.proofs.Tables.{digit-at}
 use Rattle.judge.proofs.rows.codes_from.Statement.{statement}
 use Rattle.judge.proofs.rows.codes_from.Tie as tie
@@ -14,8 +15,8 @@ terms-requires : tie.Need-terms-requires
 terms-requires c κs = search needs
 
 returns : tie.Need-returns
-unfolding pricat20d pricat20c termWord codesOf
-returns c = digit-at termWord (λ (g : Guide) (n : ℕ). length (codesOf (take n g))) (λ (x : ℕ). x / 281474976710656 % 256) refl refl (c .before .args .edition) (c .before .args .n) (c .before .pre) _ (c .terms .ensures)
+unfolding pricat20d pricat20c termWord codesOf firstDue nextDue lowest
+returns c = digit-at termWord (λ (g : Guide) (n : ℕ). length (codesOf (take n g))) (λ (x : ℕ). x / 68719476736 % 256) refl refl (c .before .args .edition) (c .before .args .n) (c .before .pre) _ (c .terms .ensures)
 
 pub codes-from-spec : {M : Type 1} → statement M
 codes-from-spec = tie.close (tie.spec terms-requires returns)

@@ -3,8 +3,9 @@ use borrow.Author.Needs.{needs}
 use Prim.Native.Nat.{ℕ, _/_, _%_}
 use mathlib.Core.Path.{refl}
 use Rattle.guide.specs.Nodes.{Guide, node}
+use Rattle.guide.specs.Placing.{lowest}
 use Rattle.guide.specs.Pricat.{pricat20d, pricat20c}
-use Rattle.judge.specs.Rows.{termWord, codesOf}
+use Rattle.judge.specs.Rows.{termWord, codesOf, firstDue, nextDue}
 use Rattle.judge.proofs.Tables.{digit-at}
 use Rattle.judge.proofs.rows.element_of.Statement.{statement}
 use Rattle.judge.proofs.rows.element_of.Tie as tie
@@ -13,8 +14,8 @@ terms-requires : tie.Need-terms-requires
 terms-requires c κs = search needs
 
 returns : tie.Need-returns
-unfolding pricat20d pricat20c termWord codesOf
-returns c = digit-at termWord (λ (g : Guide) (n : ℕ). node g n .selector .element) (λ (x : ℕ). x / 1099511627776 % 16) refl refl (c .before .args .edition) (c .before .args .n) (c .before .pre) _ (c .terms .ensures)
+unfolding pricat20d pricat20c termWord codesOf firstDue nextDue lowest
+returns c = digit-at termWord (λ (g : Guide) (n : ℕ). node g n .selector .element) (λ (x : ℕ). x / 4294967296 % 4) refl refl (c .before .args .edition) (c .before .args .n) (c .before .pre) _ (c .terms .ensures)
 
 pub element-of-spec : {M : Type 1} → statement M
 element-of-spec = tie.close (tie.spec terms-requires returns)

@@ -3,21 +3,23 @@ use borrow.Author.Needs.{needs}
 use Prim.Native.Nat.{ℕ, _/_, _%_}
 use mathlib.Core.Path.{refl}
 use Rattle.guide.specs.Nodes.{Guide, node}
+use Rattle.guide.specs.Placing.{lowest}
 use Rattle.guide.specs.Pricat.{pricat20d, pricat20c}
-use Rattle.judge.specs.Rows.{termWord, codesOf}
+use Rattle.judge.specs.Words.{packed}
+use Rattle.judge.specs.Rows.{linkWord, firstChild, nextSibling}
 use Rattle.judge.proofs.Tables.{digit-at}
 use Rattle.judge.proofs.rows.refusal_of.Statement.{statement}
 use Rattle.judge.proofs.rows.refusal_of.Tie as tie
 
-terms-requires : tie.Need-terms-requires
-terms-requires c κs = search needs
+links-requires : tie.Need-links-requires
+links-requires c κs = search needs
 
 cast-result : tie.Need-cast-result
 cast-result c = search needs
 
 returns : tie.Need-returns
-unfolding pricat20d pricat20c termWord codesOf
-returns c = digit-at termWord (λ (g : Guide) (n : ℕ). node g n .refusal) (λ (x : ℕ). x / 1048576 % 256) refl refl (c .before .args .edition) (c .before .args .n) (c .before .pre) _ (c .terms .ensures)
+unfolding pricat20d pricat20c linkWord firstChild nextSibling lowest packed
+returns c = digit-at linkWord (λ (g : Guide) (n : ℕ). node g n .refusal) (λ (x : ℕ). x / 268435456 % 256) refl refl (c .before .args .edition) (c .before .args .n) (c .before .pre) _ (c .links .ensures)
 
 pub refusal-of-spec : {M : Type 1} → statement M
-refusal-of-spec = tie.close (tie.spec terms-requires cast-result returns)
+refusal-of-spec = tie.close (tie.spec links-requires cast-result returns)

@@ -19,7 +19,7 @@ cast-result c = search needs
 
 returns : tie.Need-returns
 unfolding pricat20d pricat20c linkWord firstChild nextSibling lowest packed
-returns c = digit-at linkWord (λ (g : Guide) (n : ℕ). packed (node g n .tag)) (λ (x : ℕ). x / 4294967296) refl refl (c .before .args .edition) (c .before .args .n) (c .before .pre) _ (c .links .ensures)
+returns c = digit-at linkWord (λ (g : Guide) (n : ℕ). packed (node g n .tag)) (λ (x : ℕ). x / 68719476736) refl refl (c .before .args .edition) (c .before .args .n) (c .before .pre) _ (c .links .ensures)
 
 pub tag-of-spec : {M : Type 1} → statement M
 tag-of-spec = tie.close (tie.spec links-requires cast-result returns)

@@ -1,8 +1,9 @@
 -- `judge::term_words::terms_20d` meets its contract: the number of each arm is, computed, the word of its row. Assumes nothing.
 use native.Mathlib.Omega.{arith}
 use mathlib.Core.Path.{sym, ap}
+use Rattle.guide.specs.Placing.{lowest}
 use Rattle.guide.specs.Pricat.{pricat20d}
-use Rattle.judge.specs.Rows.{termWord, codesOf}
+use Rattle.judge.specs.Rows.{termWord, codesOf, firstDue, nextDue}
 use Rattle.judge.proofs.Tables.{differs-past}
 use Rattle.judge.proofs.term_words.terms_20d.Statement.{statement}
 use Rattle.judge.proofs.term_words.terms_20d.Tie as tie
@@ -12,7 +13,7 @@ past : tie.Need-returns-28
 past c = absurd (omega (arith, differs-past _ 27 (c .match .rest), c .before .pre))
 
 pub terms-20d-spec : {M : Type 1} → statement M
-unfolding pricat20d termWord codesOf
+unfolding pricat20d termWord codesOf firstDue nextDue lowest
 terms-20d-spec =
     tie.close
     (tie.spec

@@ -1,0 +1,20 @@
+-- `judge::rows::next_due` meets its contract: its digit is, computed, the field in every row of both guides. Assumes nothing.
+use borrow.Author.Needs.{needs}
+use Prim.Native.Nat.{ℕ, _/_, _%_}
+use mathlib.Core.Path.{refl}
+use Rattle.guide.specs.Placing.{lowest}
+use Rattle.guide.specs.Pricat.{pricat20d, pricat20c}
+use Rattle.judge.specs.Rows.{termWord, codesOf, firstDue, nextDue}
+use Rattle.judge.proofs.Tables.{digit-at}
+use Rattle.judge.proofs.rows.next_due.Statement.{statement}
+use Rattle.judge.proofs.rows.next_due.Tie as tie
+
+terms-requires : tie.Need-terms-requires
+terms-requires c κs = search needs
+
+returns : tie.Need-returns
+unfolding pricat20d pricat20c termWord codesOf firstDue nextDue lowest
+returns c = digit-at termWord nextDue (λ (x : ℕ). x / 281474976710656 % 256) refl refl (c .before .args .edition) (c .before .args .n) (c .before .pre) _ (c .terms .ensures)
+
+pub next-due-spec : {M : Type 1} → statement M
+next-due-spec = tie.close (tie.spec terms-requires returns)
