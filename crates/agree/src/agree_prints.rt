@@ -5,16 +5,25 @@ use cut::releases;
 use element::Span;
 use element::limit_of;
 ghost use Prim.Native.Nat.{_≤_};
+ghost use mathlib.Core.Bool.{false};
 ghost use mathlib.Core.Path.{_≡_};
 ghost use lib.ListN.{length};
 ghost use Rattle.cut.specs.Bytes.{part};
-ghost use Rattle.cut.specs.Segments.{frees};
-ghost use Rattle.element.specs.Elements.{endingOf, stays};
+ghost use Rattle.element.specs.Elements.{endingOf};
 ghost use Rattle.agree.specs.AgreeParts.{partIn, headingIn};
-ghost use Rattle.agree.specs.AgreePrints.{mixedBy, mixedUnless, namedBy, printSegment, printIn, printOf, PrintedTo};
+ghost use Rattle.agree.specs.AgreePrints.{mixedBy, mixedUnless, namedBy, printSegment, printIn, printOf, stopBy, stopping, PrintedTo};
 
-// The place where a component ends, and the print up to it.
+// What stops a component, if anything does.
+pub enum Stop {
+    Segment,
+    Element,
+    Component,
+    Nothing,
+}
+
+// What stopped a component, the place after that, and the print up to there. The end of the bytes stops the segment.
 pub struct Printed {
+    pub stop: Stop,
     pub place: usize,
     pub print: u32,
 }
@@ -39,33 +48,31 @@ fn mixed_unless(skips: bool, mark: bool, a: u32, w: u8, x: u8) -> u32
     mixed(a, w, x)
 }
 
-// Whether a byte is one of its component's own.
-fn is_own(y: Syntax, released: bool, x: u8) -> bool
-    ensures { λ r. ⌜ r ≡ stays (endingOf y released x) ⌝ }
+// What a byte ends that is not released.
+fn stop_of(y: Syntax, x: u8) -> Stop
+    ensures { λ r. ⌜ r ≡ stopBy (endingOf y false x) ⌝ }
 {
-    if released {
-        return true;
-    }
     if x == y.terminator {
-        return false;
+        return Stop::Segment;
     }
     if x == y.element {
-        return false;
+        return Stop::Element;
     }
     if x == y.component {
-        return false;
+        return Stop::Component;
     }
-    true
+    Stop::Nothing
 }
 
-// Whether a byte is a release mark.
-fn is_mark(y: Syntax, released: bool, x: u8) -> bool
-    ensures { λ r. ⌜ r ≡ frees y released x ⌝ }
+fn stops(k: Stop) -> bool
+    ensures { λ r. ⌜ r ≡ stopping k ⌝ }
 {
-    if released {
-        return false;
+    match k {
+        Stop::Segment => true,
+        Stop::Element => true,
+        Stop::Component => true,
+        Stop::Nothing => false,
     }
-    releases(y, x)
 }
 
 fn named(element: usize, component: usize) -> u8
@@ -95,15 +102,28 @@ fn print_own(
     let mut released = false;
     while i < end {
         let x = d[i];
-        if !is_own(y, released, x) {
-            return Printed { place: i, print: a };
-        }
-        let mark = is_mark(y, released, x);
-        a = mixed_unless(skips, mark, a, w, x);
-        released = mark;
         i += 1;
+        if released {
+            a = mixed_unless(skips, false, a, w, x);
+            released = false;
+            continue;
+        }
+        let stop = stop_of(y, x);
+        if stops(stop) {
+            return Printed {
+                stop,
+                place: i,
+                print: a,
+            };
+        }
+        released = releases(y, x);
+        a = mixed_unless(skips, released, a, w, x);
     }
-    Printed { place: i, print: a }
+    Printed {
+        stop: Stop::Segment,
+        place: i,
+        print: a,
+    }
 }
 
 // ... and then the components of a segment, but for those of the element `skip`. Its bytes are looked at once, so no cursor goes through it.
@@ -117,22 +137,24 @@ fn print_segment(y: Syntax, d: &[u8], start: usize, end: usize, skip: usize, bef
     let mut component = 0;
     loop {
         let own = print_own(y, d, i, limit, element, component, skip, a);
-        let stop = own.place;
+        let stop = own.stop;
         a = own.print;
-        if limit <= stop {
-            return a;
+        i = own.place;
+        match stop {
+            Stop::Segment => {
+                return a;
+            }
+            Stop::Element => {
+                element += 1;
+                component = 0;
+            }
+            Stop::Component => {
+                component += 1;
+            }
+            Stop::Nothing => {
+                return a;
+            }
         }
-        let x = d[stop];
-        if x == y.terminator {
-            return a;
-        }
-        i = stop + 1;
-        if x == y.element {
-            element += 1;
-            component = 0;
-            continue;
-        }
-        component += 1;
     }
 }
 
