@@ -119,18 +119,6 @@ module _ (y : Syntax) (d : List ℕ) (x e c end : ℕ) where
   printing-out i r a h = rw (part-none d i end h) (rest-none y x e c r a)
 
   module _ (i : ℕ) (h : i < end) (k : end ≤ length d) where
-    on
-        : (r m q : Bool) (w a a′ : ℕ) → stays (endingOf y r (getD d i 0)) ≡ true → m ≡ frees y r (getD d i 0) → w ≡ namedBy e c
-        → q ≡ eqb e x → a′ ≡ mixedUnless q m a w (getD d i 0) → printing i r a ≡ printing (i + 1) m a′
-    on r m q w a a′ s f n l g =
-        rw (part-next d i end h k, g, l, n, f) (own-step y x e c r (getD d i 0) (part (i + 1) end d) a (endingOf y r (getD d i 0)) refl s)
-
-    pub printing-released
-        : (r q : Bool) (w a a′ : ℕ) → r ≡ true → w ≡ namedBy e c → q ≡ eqb e x → a′ ≡ mixedUnless q false a w (getD d i 0)
-        → printing i r a ≡ printing (i + 1) false a′
-    unfolding endingOf stays frees
-    printing-released r q w a a′ t n l g = rw t (on true false q w a a′ refl refl n l g)
-
     stays-on : (j : Ending) → stopping (stopBy j) ≡ false → stays j ≡ true
     unfolding stays
     stays-on ends-segment s = absurd (true≢false s)
@@ -139,10 +127,16 @@ module _ (y : Syntax) (d : List ℕ) (x e c end : ℕ) where
     stays-on ends-nothing s = refl
 
     pub printing-on
-        : (r o m q : Bool) (z : Stop) (w a a′ : ℕ) → r ≡ false → z ≡ stopBy (endingOf y false (getD d i 0)) → o ≡ stopping z → o ≡ false
-        → m ≡ frees y false (getD d i 0) → w ≡ namedBy e c → q ≡ eqb e x → a′ ≡ mixedUnless q m a w (getD d i 0) → printing i r a ≡ printing (i + 1) m a′
-    printing-on r o m q z w a a′ t u v s f n l g =
-        rw t (on false m q w a a′ (stays-on (endingOf y false (getD d i 0)) (ap stopping (sym u) ∙ sym v ∙ s)) f n l g)
+        : (r o m q : Bool) (z : Stop) (w a a′ : ℕ) → z ≡ stopBy (endingOf y r (getD d i 0)) → o ≡ stopping z → o ≡ false
+        → m ≡ frees y r (getD d i 0) → w ≡ namedBy e c → q ≡ eqb e x → a′ ≡ mixedUnless q m a w (getD d i 0) → printing i r a ≡ printing (i + 1) m a′
+    printing-on r o m q z w a a′ u v s f n l g =
+        let j = stays-on (endingOf y r (getD d i 0)) (ap stopping (sym u) ∙ sym v ∙ s) in
+        rw (part-next d i end h k, g, l, n, f) (own-step y x e c r (getD d i 0) (part (i + 1) end d) a (endingOf y r (getD d i 0)) refl j)
+
+    unreleased : (r : Bool) (b : ℕ) → stopping (stopBy (endingOf y r b)) ≡ true → r ≡ false
+    unfolding endingOf
+    unreleased true b s = absurd (false≢true s)
+    unreleased false b s = refl
 
     stop-step
         : (j : Ending) (a : ℕ) → endingOf y false (getD d i 0) ≡ j → stopping (stopBy j) ≡ true
@@ -154,22 +148,26 @@ module _ (y : Syntax) (d : List ℕ) (x e c end : ℕ) where
     stop-step ends-nothing a u s = absurd (false≢true s)
 
     pub printing-stops
-        : (from b : ℕ) (r o : Bool) (z : Stop) (a : ℕ) → from ≤ i → printing from false b ≡ printing i r a → r ≡ false
-        → z ≡ stopBy (endingOf y false (getD d i 0)) → o ≡ stopping z → o ≡ true
-        → PrintedTo y d x e c from end b (record { stop = z; place = i + 1; print = a })
-    printing-stops from b r o z a f s t u v p =
-        let q : printing from false b ≡ printing i false a = rw t at s in
-        let j : stopping (stopBy (endingOf y false (getD d i 0))) ≡ true = ap stopping (sym u) ∙ sym v ∙ p in
-        record {
-          same = q ∙ stop-step (endingOf y false (getD d i 0)) a refl j ∙ ap (λ (m : Stop). printBehind y d x e c end m (i + 1) a) (sym u);
+        : (from b : ℕ) (r o : Bool) (z : Stop) (a : ℕ) (p : Printed) → from ≤ i → printing from false b ≡ printing i r a
+        → z ≡ stopBy (endingOf y r (getD d i 0)) → o ≡ stopping z → o ≡ true → p ≡ record { stop = z; place = i + 1; print = a }
+        → PrintedTo y d x e c from end b p
+    printing-stops from b r o z a p f s u v t g =
+        let j : stopping (stopBy (endingOf y r (getD d i 0))) ≡ true = ap stopping (sym u) ∙ sym v ∙ t in
+        let n = unreleased r (getD d i 0) j in
+        let l : stopping (stopBy (endingOf y false (getD d i 0))) ≡ true = rw n at j in
+        let m : z ≡ stopBy (endingOf y false (getD d i 0)) = rw n at u in
+        let q : printing from false b ≡ printing i false a = rw n at s in
+        rw g
+        (record {
+          same = q ∙ stop-step (endingOf y false (getD d i 0)) a refl l ∙ ap (λ (m : Stop). printBehind y d x e c end m (i + 1) a) (sym m);
           onward = λ n. (omega (arith, f), omega (arith, h));
-        }
+        })
 
   pub printing-through
-      : (from b i : ℕ) (r : Bool) (a : ℕ) → end ≤ i → printing from false b ≡ printing i r a
-      → PrintedTo y d x e c from end b (record { stop = Segment; place = i; print = a })
+      : (from b i : ℕ) (r : Bool) (a : ℕ) (p : Printed) → end ≤ i → printing from false b ≡ printing i r a
+      → p ≡ record { stop = Segment; place = i; print = a } → PrintedTo y d x e c from end b p
   unfolding printBehind
-  printing-through from b i r a l s = record { same = s ∙ printing-out i r a l; onward = λ n. absurd (n refl) }
+  printing-through from b i r a p l s g = rw g (record { same = s ∙ printing-out i r a l; onward = λ n. absurd (n refl) })
 
   -- what the whole walk does behind a component
   module _ (from b : ℕ) (r : Printed) (p : PrintedTo y d x e c from end b r) where

@@ -5,10 +5,10 @@ use cut::releases;
 use element::Span;
 use element::limit_of;
 ghost use Prim.Native.Nat.{_≤_};
-ghost use mathlib.Core.Bool.{false};
 ghost use mathlib.Core.Path.{_≡_};
 ghost use lib.ListN.{length};
 ghost use Rattle.cut.specs.Bytes.{part};
+ghost use Rattle.cut.specs.Segments.{frees};
 ghost use Rattle.element.specs.Elements.{endingOf};
 ghost use Rattle.agree.specs.AgreeParts.{partIn, headingIn};
 ghost use Rattle.agree.specs.AgreePrints.{mixedBy, mixedUnless, namedBy, printSegment, printIn, printOf, stopBy, stopping, PrintedTo};
@@ -48,10 +48,23 @@ fn mixed_unless(skips: bool, mark: bool, a: u32, w: u8, x: u8) -> u32
     mixed(a, w, x)
 }
 
-// What a byte ends that is not released.
-fn stop_of(y: Syntax, x: u8) -> Stop
-    ensures { λ r. ⌜ r ≡ stopBy (endingOf y false x) ⌝ }
+// Whether a byte is a release mark.
+fn is_mark(y: Syntax, released: bool, x: u8) -> bool
+    ensures { λ r. ⌜ r ≡ frees y released x ⌝ }
 {
+    if released {
+        return false;
+    }
+    releases(y, x)
+}
+
+// What a byte ends.
+fn stop_of(y: Syntax, released: bool, x: u8) -> Stop
+    ensures { λ r. ⌜ r ≡ stopBy (endingOf y released x) ⌝ }
+{
+    if released {
+        return Stop::Nothing;
+    }
     if x == y.terminator {
         return Stop::Segment;
     }
@@ -81,6 +94,12 @@ fn named(element: usize, component: usize) -> u8
     (element % 16 * 16 + component % 16) as u8
 }
 
+fn stopped(stop: Stop, place: usize, print: u32) -> Printed
+    ensures { λ r. ⌜ r ≡ record { stop = stop; place = place; print = print } ⌝ }
+{
+    Printed { stop, place, print }
+}
+
 // The print `before`, and then the bytes from `from` on that are component `component` of element `element`; it changes nothing if that is `skip`.
 fn print_own(
     y: Syntax,
@@ -103,27 +122,14 @@ fn print_own(
     while i < end {
         let x = d[i];
         i += 1;
-        if released {
-            a = mixed_unless(skips, false, a, w, x);
-            released = false;
-            continue;
-        }
-        let stop = stop_of(y, x);
+        let stop = stop_of(y, released, x);
         if stops(stop) {
-            return Printed {
-                stop,
-                place: i,
-                print: a,
-            };
+            return stopped(stop, i, a);
         }
-        released = releases(y, x);
+        released = is_mark(y, released, x);
         a = mixed_unless(skips, released, a, w, x);
     }
-    Printed {
-        stop: Stop::Segment,
-        place: i,
-        print: a,
-    }
+    stopped(Stop::Segment, i, a)
 }
 
 // ... and then the components of a segment, but for those of the element `skip`. Its bytes are looked at once, so no cursor goes through it.

@@ -3,7 +3,7 @@ use Prim.Native.Nat.{_-_, _≤_}
 use mathlib.Core.Bool.{false}
 use mathlib.Core.Path.{_≡_, refl, _∙_}
 use native.Mathlib.Omega.{arith}
-use Rattle.agree.proofs.AgreePrinting.{printing, printing-released, printing-on, printing-stops, printing-through}
+use Rattle.agree.proofs.AgreePrinting.{printing, printing-on, printing-stops, printing-through}
 use borrow.Author.Needs.{needs}
 use Rattle.agree.proofs.agree_prints.print_own.Statement.{statement}
 use Rattle.agree.proofs.agree_prints.print_own.Tie as tie
@@ -27,6 +27,23 @@ shared-slice-read-x c = search needs
 add-i : tie.Need-add-i Inv-loop μ-loop
 add-i c = search needs
 
+stop-of-requires : tie.Need-stop-of-requires Inv-loop μ-loop
+stop-of-requires c κs = search needs
+
+stops-requires : tie.Need-stops-requires Inv-loop μ-loop
+stops-requires c κs = search needs
+
+stopped-requires : tie.Need-stopped-requires Inv-loop μ-loop
+stopped-requires c κs = search needs
+
+returns : tie.Need-returns Inv-loop μ-loop
+returns c =
+    let l = c .before .before .before .before .before .before in
+    printing-stops _ _ _ _ _ _ _ (c .before .before .before .before .before .loop-test .taken) (search needs) _ _ _ _ _ _ _ (l .loop .inv .0) (l .loop .inv .1) (c .before .before .before .stop-of .ensures) (c .before .before .stops .ensures) (c .before .if1 .taken) (c .stopped .ensures)
+
+is-mark-requires : tie.Need-is-mark-requires Inv-loop μ-loop
+is-mark-requires c κs = search needs
+
 mixed-unless-requires : tie.Need-mixed-unless-requires Inv-loop μ-loop
 mixed-unless-requires c κs = search needs
 
@@ -35,38 +52,14 @@ loop-less c = search needs
 
 loop-again : tie.Need-loop-again Inv-loop μ-loop
 loop-again c =
-    let l = c .before .before .before .before in
-    (omega (arith, l .loop .inv .0), l .loop .inv .1 ∙ printing-released _ _ _ _ _ _ _ (c .before .before .before .loop-test .taken) (search needs) _ _ _ _ _ (c .before .if1 .taken) (l .before .named .ensures) refl (c .mixed-unless .ensures))
+    let l = c .before .before .before .before .before .before .before in
+    (omega (arith, l .loop .inv .0), l .loop .inv .1 ∙ printing-on _ _ _ _ _ _ _ (c .before .before .before .before .before .before .loop-test .taken) (search needs) _ _ _ _ _ _ _ _ (c .before .before .before .before .stop-of .ensures) (c .before .before .before .stops .ensures) (c .before .before .if1 .left) (c .before .is-mark .ensures) (l .before .named .ensures) refl (c .mixed-unless .ensures))
 
-stop-of-requires : tie.Need-stop-of-requires Inv-loop μ-loop
-stop-of-requires c κs = search needs
-
-stops-requires : tie.Need-stops-requires Inv-loop μ-loop
-stops-requires c κs = search needs
-
-returns : tie.Need-returns Inv-loop μ-loop
-returns c =
-    let b = c .before .before .before in
-    let v = b .before .before .before .loop .inv in
-    printing-stops _ _ _ _ _ _ _ (b .before .before .loop-test .taken) (search needs) _ _ _ _ _ _ (v .0) (v .1) (b .if1 .left) (c .before .before .stop-of .ensures) (c .before .stops .ensures) (c .if2 .taken)
-
-releases-requires : tie.Need-releases-requires Inv-loop μ-loop
-releases-requires c κs = search needs
-
-mixed-unless-requires-2 : tie.Need-mixed-unless-requires-2 Inv-loop μ-loop
-mixed-unless-requires-2 c κs = search needs
-
-loop-less-2 : tie.Need-loop-less-2 Inv-loop μ-loop
-loop-less-2 c = search needs
-
-loop-again-2 : tie.Need-loop-again-2 Inv-loop μ-loop
-loop-again-2 c =
-    let b = c .before .before .before .before .before in
-    let l = b .before .before .before in
-    (omega (arith, l .loop .inv .0), l .loop .inv .1 ∙ printing-on _ _ _ _ _ _ _ (b .before .before .loop-test .taken) (search needs) _ _ _ _ _ _ _ _ (b .if1 .left) (c .before .before .before .before .stop-of .ensures) (c .before .before .before .stops .ensures) (c .before .before .if2 .left) (c .before .releases .ensures) (l .before .named .ensures) refl (c .mixed-unless2 .ensures))
+stopped-requires-2 : tie.Need-stopped-requires-2 Inv-loop μ-loop
+stopped-requires-2 c κs = search needs
 
 returns-2 : tie.Need-returns-2 Inv-loop μ-loop
-returns-2 c = printing-through _ _ _ _ _ _ _ _ _ _ _ (c .loop-test .left) (c .before .loop .inv .1)
+returns-2 c = printing-through _ _ _ _ _ _ _ _ _ _ _ _ (c .before .loop-test .left) (c .before .before .loop .inv .1) (c .stopped2 .ensures)
 
 pub print-own-spec : {M : Type 1} → statement M
 print-own-spec =
@@ -78,14 +71,13 @@ print-own-spec =
     loop-holds
     shared-slice-read-x
     add-i
+    stop-of-requires
+    stops-requires
+    stopped-requires
+    returns
+    is-mark-requires
     mixed-unless-requires
     loop-less
     loop-again
-    stop-of-requires
-    stops-requires
-    returns
-    releases-requires
-    mixed-unless-requires-2
-    loop-less-2
-    loop-again-2
+    stopped-requires-2
     returns-2)
