@@ -49,7 +49,7 @@ use Rattle.agree.specs.AgreePrints.{
 use Rattle.agree.specs.declared.agree_headings.Head.{Head}
 use Rattle.agree.specs.declared.agree_prints.Printed.{Printed}
 use Rattle.agree.specs.declared.agree_prints.Stop.{Stop}
-use Rattle.agree.specs.declared.agree_prints.Stop.the-variants.{Segment, Element, Component, Nothing}
+use Rattle.agree.specs.declared.agree_prints.Stop.the-variants.{Segment}
 
 -- a byte before what follows it
 module _ (y : Syntax) (x e c : ℕ) where
@@ -167,31 +167,13 @@ module _ (y : Syntax) (d : List ℕ) (x e c end : ℕ) where
       : (from b i : ℕ) (r : Bool) (a : ℕ) (p : Printed) → end ≤ i → printing from false b ≡ printing i r a
       → p ≡ record { stop = Segment; place = i; print = a } → PrintedTo y d x e c from end b p
   unfolding printBehind
-  printing-through from b i r a p l s g = rw g (record { same = s ∙ printing-out i r a l; onward = λ n. absurd (n refl) })
+  printing-through from b i r a p l s g = rw g (record { same = s ∙ printing-out i r a l; onward = λ n. absurd (false≢true n) })
 
-  -- what the whole walk does behind a component
-  module _ (from b : ℕ) (r : Printed) (p : PrintedTo y d x e c from end b r) where
-    pub behind-segment : r .stop ≡ Segment → printing from false b ≡ r .print
-    unfolding printBehind
-    behind-segment h = p .same ∙ rw h
-
-    pub behind-nothing : r .stop ≡ Nothing → printing from false b ≡ r .print
-    unfolding printBehind
-    behind-nothing h = p .same ∙ rw h
-
-    pub behind-element : r .stop ≡ Element → printing from false b ≡ printRest y x (e + 1) 0 false (part (r .place) end d) (r .print)
-    unfolding printBehind
-    behind-element h = p .same ∙ rw h
-
-    pub behind-component : r .stop ≡ Component → printing from false b ≡ printRest y x e (c + 1) false (part (r .place) end d) (r .print)
-    unfolding printBehind
-    behind-component h = p .same ∙ rw h
-
-    pub element-onward : r .stop ≡ Element → (from < r .place) × (r .place ≤ end)
-    element-onward h = p .onward (λ n. let z : _≡_ {A = ℕ} 0 1 = cc in omega arith)
-
-    pub component-onward : r .stop ≡ Component → (from < r .place) × (r .place ≤ end)
-    component-onward h = p .onward (λ n. let z : _≡_ {A = ℕ} 0 1 = cc in omega arith)
+  -- what is left behind a component
+  pub printing-behind
+      : (from b : ℕ) (r : Printed) (k : Stop) → PrintedTo y d x e c from end b r → r .stop ≡ k
+      → printing from false b ≡ printBehind y d x e c end k (r .place) (r .print)
+  printing-behind from b r k p h = p .same ∙ ap (λ (j : Stop). printBehind y d x e c end j (r .place) (r .print)) h
 
 pub limit-fits : (d : List ℕ) (e m : ℕ) → m ≡ min e (length d) → m ≤ length d
 limit-fits d e m h = omega (arith, h)

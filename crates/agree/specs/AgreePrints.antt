@@ -75,6 +75,13 @@ stopping Element = true
 stopping Component = true
 stopping Nothing = false
 
+-- whether the segment goes on behind it
+abbrev pub passing : Stop → Bool
+passing Segment = false
+passing Element = true
+passing Component = true
+passing Nothing = false
+
 -- the print a, and then what follows from the place i up to `end` where component c of element e is stopped so
 unfoldable pub printBehind : Syntax → List ℕ → ℕ → ℕ → ℕ → ℕ → Stop → ℕ → ℕ → ℕ
 printBehind y d x e c end Segment i a = a
@@ -85,4 +92,4 @@ printBehind y d x e c end Nothing i a = a
 -- r is how the component c of element e that begins at `from` is stopped, and the print up to there
 pub record PrintedTo (y : Syntax) (d : List ℕ) (x e c from end a : ℕ) (r : Printed) : Type 0 where
   pub same : printRest y x e c false (part from end d) a ≡ printBehind y d x e c end (r .stop) (r .place) (r .print)
-  pub onward : (r .stop ≡ Segment → ⊥) → (from < r .place) × (r .place ≤ end)
+  pub onward : passing (r .stop) ≡ true → (from < r .place) × (r .place ≤ end)

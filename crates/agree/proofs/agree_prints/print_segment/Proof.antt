@@ -1,19 +1,14 @@
 -- `agree::agree_prints::print_segment` meets its contract. The loop's invariant: what is left, printed after what is passed, gives the print.
 use Prim.Native.Nat.{_-_, _≤_}
 use mathlib.Core.Bool.{false}
-use mathlib.Core.Path.{_≡_, sym, _∙_}
+use mathlib.Core.Path.{_≡_, sym, ap, _∙_}
 use native.Mathlib.Omega.{arith}
 use Rattle.cut.specs.Bytes.{part}
-use Rattle.agree.specs.AgreePrints.{printSegment}
+use Rattle.agree.specs.AgreePrints.{printSegment, passing, printBehind}
 use Rattle.agree.proofs.AgreePrinting.{
   printing,
   printing-first,
-  behind-segment,
-  behind-nothing,
-  behind-element,
-  behind-component,
-  element-onward,
-  component-onward,
+  printing-behind,
   limit-fits,
 }
 use borrow.Author.Needs.{needs}
@@ -40,7 +35,8 @@ enum-told : tie.Need-enum-told Inv-loop μ-loop
 enum-told c = search needs
 
 returns : tie.Need-returns Inv-loop μ-loop
-returns c = sym (behind-segment _ _ _ _ _ _ _ _ _ (c .before .before .print-own .ensures) (c .enum-told .given .1)) ∙ c .before .before .before .loop .inv .2
+unfolding printBehind
+returns c = sym (printing-behind _ _ _ _ _ _ _ _ _ _ (c .before .before .print-own .ensures) (c .enum-told .given .1)) ∙ c .before .before .before .loop .inv .2
 
 enum-told-2 : tie.Need-enum-told-2 Inv-loop μ-loop
 enum-told-2 c = search needs
@@ -48,20 +44,21 @@ enum-told-2 c = search needs
 add-element : tie.Need-add-element Inv-loop μ-loop
 add-element c =
     let o = c .before .before in
-    let on = element-onward _ _ _ _ _ _ _ _ _ (o .print-own .ensures) (c .enum-told2 .given .1) in
+    let on = o .print-own .ensures .onward (ap passing (c .enum-told2 .given .1)) in
     omega (arith, on .0, on .1, o .before .loop .inv .0, limit-fits (o .before .before .before .before .args .d .now) _ _ (o .before .before .limit-of .ensures))
 
 loop-less : tie.Need-loop-less Inv-loop μ-loop
 loop-less c =
     let o = c .before .before in
-    let on = element-onward _ _ _ _ _ _ _ _ _ (o .print-own .ensures) (c .enum-told2 .given .1) in
+    let on = o .print-own .ensures .onward (ap passing (c .enum-told2 .given .1)) in
     omega (arith, on .0, on .1)
 
 loop-again : tie.Need-loop-again Inv-loop μ-loop
+unfolding printBehind
 loop-again c =
     let o = c .before .before in
-    let on = element-onward _ _ _ _ _ _ _ _ _ (o .print-own .ensures) (c .enum-told2 .given .1) in
-    (omega (arith, on .0, o .before .loop .inv .0), omega arith, sym (behind-element _ _ _ _ _ _ _ _ _ (o .print-own .ensures) (c .enum-told2 .given .1)) ∙ o .before .loop .inv .2)
+    let on = o .print-own .ensures .onward (ap passing (c .enum-told2 .given .1)) in
+    (omega (arith, on .0, o .before .loop .inv .0), omega arith, sym (printing-behind _ _ _ _ _ _ _ _ _ _ (o .print-own .ensures) (c .enum-told2 .given .1)) ∙ o .before .loop .inv .2)
 
 enum-told-3 : tie.Need-enum-told-3 Inv-loop μ-loop
 enum-told-3 c = search needs
@@ -69,26 +66,28 @@ enum-told-3 c = search needs
 add-component : tie.Need-add-component Inv-loop μ-loop
 add-component c =
     let o = c .before .before in
-    let on = component-onward _ _ _ _ _ _ _ _ _ (o .print-own .ensures) (c .enum-told3 .given .1) in
+    let on = o .print-own .ensures .onward (ap passing (c .enum-told3 .given .1)) in
     omega (arith, on .0, on .1, o .before .loop .inv .1, limit-fits (o .before .before .before .before .args .d .now) _ _ (o .before .before .limit-of .ensures))
 
 loop-less-2 : tie.Need-loop-less-2 Inv-loop μ-loop
 loop-less-2 c =
     let o = c .before .before in
-    let on = component-onward _ _ _ _ _ _ _ _ _ (o .print-own .ensures) (c .enum-told3 .given .1) in
+    let on = o .print-own .ensures .onward (ap passing (c .enum-told3 .given .1)) in
     omega (arith, on .0, on .1)
 
 loop-again-2 : tie.Need-loop-again-2 Inv-loop μ-loop
+unfolding printBehind
 loop-again-2 c =
     let o = c .before .before in
-    let on = component-onward _ _ _ _ _ _ _ _ _ (o .print-own .ensures) (c .enum-told3 .given .1) in
-    (omega (arith, on .0, o .before .loop .inv .0), omega (arith, on .0, o .before .loop .inv .1), sym (behind-component _ _ _ _ _ _ _ _ _ (o .print-own .ensures) (c .enum-told3 .given .1)) ∙ o .before .loop .inv .2)
+    let on = o .print-own .ensures .onward (ap passing (c .enum-told3 .given .1)) in
+    (omega (arith, on .0, o .before .loop .inv .0), omega (arith, on .0, o .before .loop .inv .1), sym (printing-behind _ _ _ _ _ _ _ _ _ _ (o .print-own .ensures) (c .enum-told3 .given .1)) ∙ o .before .loop .inv .2)
 
 enum-told-4 : tie.Need-enum-told-4 Inv-loop μ-loop
 enum-told-4 c = search needs
 
 returns-2 : tie.Need-returns-2 Inv-loop μ-loop
-returns-2 c = sym (behind-nothing _ _ _ _ _ _ _ _ _ (c .before .before .print-own .ensures) (c .enum-told4 .given .1)) ∙ c .before .before .before .loop .inv .2
+unfolding printBehind
+returns-2 c = sym (printing-behind _ _ _ _ _ _ _ _ _ _ (c .before .before .print-own .ensures) (c .enum-told4 .given .1)) ∙ c .before .before .before .loop .inv .2
 
 pub print-segment-spec : {M : Type 1} → statement M
 print-segment-spec =
