@@ -28,14 +28,14 @@ pub struct Printed {
     pub print: u32,
 }
 
-// The factor is odd and near 2^32 divided by the golden ratio, so that the upper half of the print depends on every byte but the last.
+// The factor is odd and near 2^32 divided by the golden ratio, so that every byte but the last changes the upper half of the print.
 pub(crate) fn mixed(a: u32, w: u8, x: u8) -> u32
     ensures { λ r. ⌜ r ≡ mixedBy a w x ⌝ }
 {
     (((a as u64) * 2654435769 + (w as u64) * 256 + (x as u64)) % 4294967296) as u32
 }
 
-// The same of a byte that does not change the print of the element that is left out, nor as a release mark.
+// The same, unless the byte is of the element that is left out or is a release mark.
 fn mixed_unless(skips: bool, mark: bool, a: u32, w: u8, x: u8) -> u32
     ensures { λ r. ⌜ r ≡ mixedUnless skips mark a w x ⌝ }
 {
