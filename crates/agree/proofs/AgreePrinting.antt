@@ -6,7 +6,7 @@ use mathlib.Core.List.{List, [], _∷_}
 use native.Mathlib.Omega.{arith}
 use lib.ListN.{length, getD}
 use lib.Dec.{eqb}
-use borrow.Author.Tests.{le-leb, lt-leb, eq-eqb, ne-eqb}
+use borrow.Author.Tests.{le-leb, lt-leb}
 use Rattle.cut.specs.declared.service.Syntax.{Syntax}
 use Rattle.cut.specs.Bytes.{part}
 use Rattle.cut.specs.Segments.{frees}
@@ -41,9 +41,15 @@ use Rattle.agree.specs.AgreePrints.{
   printOf,
   printSplit,
   printRest,
+  stopBy,
+  stopping,
+  printBehind,
   PrintedTo,
 }
 use Rattle.agree.specs.declared.agree_headings.Head.{Head}
+use Rattle.agree.specs.declared.agree_prints.Printed.{Printed}
+use Rattle.agree.specs.declared.agree_prints.Stop.{Stop}
+use Rattle.agree.specs.declared.agree_prints.Stop.the-variants.{Segment}
 
 -- a byte before what follows it
 module _ (y : Syntax) (x e c : ℕ) where
@@ -113,65 +119,61 @@ module _ (y : Syntax) (d : List ℕ) (x e c end : ℕ) where
   printing-out i r a h = rw (part-none d i end h) (rest-none y x e c r a)
 
   module _ (i : ℕ) (h : i < end) (k : end ≤ length d) where
-    pub printing-on
-        : (r o m q : Bool) (w a a′ : ℕ) → o ≡ stays (endingOf y r (getD d i 0)) → o ≡ true → m ≡ frees y r (getD d i 0) → w ≡ namedBy e c
-        → q ≡ eqb e x → a′ ≡ mixedUnless q m a w (getD d i 0) → printing i r a ≡ printing (i + 1) m a′
-    printing-on r o m q w a a′ s t f n l g =
-        rw (part-next d i end h k, g, l, n, f) (own-step y x e c r (getD d i 0) (part (i + 1) end d) a (endingOf y r (getD d i 0)) refl (sym s ∙ t))
-
-    pub printing-ends : (a : ℕ) → getD d i 0 ≡ y .terminator → printing i false a ≡ a
-    unfolding endingOf
-    printing-ends a t =
-        let z : endingOf y false (getD d i 0) ≡ ends-segment = rw (eq-eqb _ _ t) in
-        rw (part-next d i end h k) (segment-byte y x e c (getD d i 0) (part (i + 1) end d) a z)
-
-    pub printing-element
-        : (a : ℕ) → (getD d i 0 ≡ y .terminator → ⊥) → getD d i 0 ≡ y .element
-        → printing i false a ≡ printRest y x (e + 1) 0 false (part (i + 1) end d) a
-    unfolding endingOf
-    printing-element a t u =
-        let z : endingOf y false (getD d i 0) ≡ ends-element = rw (ne-eqb _ _ t, eq-eqb _ _ u) in
-        rw (part-next d i end h k) (element-byte y x e c (getD d i 0) (part (i + 1) end d) a z)
-
-    component-ends : (b : Bool) → stays (cond b ends-component ends-nothing) ≡ false → cond b ends-component ends-nothing ≡ ends-component
+    stays-on : (j : Ending) → stopping (stopBy j) ≡ false → stays j ≡ true
     unfolding stays
-    component-ends true s = refl
-    component-ends false s = absurd (true≢false s)
+    stays-on ends-segment s = absurd (true≢false s)
+    stays-on ends-element s = absurd (true≢false s)
+    stays-on ends-component s = absurd (true≢false s)
+    stays-on ends-nothing s = refl
 
-    pub printing-component
-        : (a : ℕ) → (getD d i 0 ≡ y .terminator → ⊥) → (getD d i 0 ≡ y .element → ⊥) → stays (endingOf y false (getD d i 0)) ≡ false
-        → printing i false a ≡ printRest y x e (c + 1) false (part (i + 1) end d) a
+    pub printing-on
+        : (r o m q : Bool) (z : Stop) (w a a′ : ℕ) → z ≡ stopBy (endingOf y r (getD d i 0)) → o ≡ stopping z → o ≡ false
+        → m ≡ frees y r (getD d i 0) → w ≡ namedBy e c → q ≡ eqb e x → a′ ≡ mixedUnless q m a w (getD d i 0) → printing i r a ≡ printing (i + 1) m a′
+    printing-on r o m q z w a a′ u v s f n l g =
+        let j = stays-on (endingOf y r (getD d i 0)) (ap stopping (sym u) ∙ sym v ∙ s) in
+        rw (part-next d i end h k, g, l, n, f) (own-step y x e c r (getD d i 0) (part (i + 1) end d) a (endingOf y r (getD d i 0)) refl j)
+
+    unreleased : (r : Bool) (b : ℕ) → stopping (stopBy (endingOf y r b)) ≡ true → r ≡ false
     unfolding endingOf
-    printing-component a t u s =
-        let v : stays (cond (eqb (getD d i 0) (y .component)) ends-component ends-nothing) ≡ false = rw (ne-eqb _ _ t, ne-eqb _ _ u) at s in
-        let z : endingOf y false (getD d i 0) ≡ ends-component = rw (ne-eqb _ _ t, ne-eqb _ _ u) (component-ends (eqb (getD d i 0) (y .component)) v) in
-        rw (part-next d i end h k) (component-byte y x e c (getD d i 0) (part (i + 1) end d) a z)
+    unreleased true b s = absurd (false≢true s)
+    unreleased false b s = refl
 
--- a byte that is not the component's own is not released
-unreleased : (y : Syntax) (r : Bool) (b : ℕ) → stays (endingOf y r b) ≡ false → r ≡ false
-unfolding endingOf stays
-unreleased y true b h = absurd (true≢false h)
-unreleased y false b h = refl
+    stop-step
+        : (j : Ending) (a : ℕ) → endingOf y false (getD d i 0) ≡ j → stopping (stopBy j) ≡ true
+        → printing i false a ≡ printBehind y d x e c end (stopBy j) (i + 1) a
+    unfolding printBehind
+    stop-step ends-segment a u s = rw (part-next d i end h k) (segment-byte y x e c (getD d i 0) (part (i + 1) end d) a u)
+    stop-step ends-element a u s = rw (part-next d i end h k) (element-byte y x e c (getD d i 0) (part (i + 1) end d) a u)
+    stop-step ends-component a u s = rw (part-next d i end h k) (component-byte y x e c (getD d i 0) (part (i + 1) end d) a u)
+    stop-step ends-nothing a u s = absurd (false≢true s)
 
--- where the walk over a component ends
-module _ (y : Syntax) (d : List ℕ) (x e c from end b i a : ℕ) (r : Bool) (on : from ≤ i)
-    (same : printing y d x e c end from false b ≡ printing y d x e c end i r a) where
-  pub printing-stops : stays (endingOf y r (getD d i 0)) ≡ false → PrintedTo y d x e c from end b (record { place = i; print = a })
-  printing-stops s =
-      let z = unreleased y r (getD d i 0) s in
-      record {
-        onward = on;
-        same = rw z at same;
-        ends = λ l. rw z at s;
-      }
+    pub printing-stops
+        : (from b : ℕ) (r o : Bool) (z : Stop) (a : ℕ) (p : Printed) → from ≤ i → printing from false b ≡ printing i r a
+        → z ≡ stopBy (endingOf y r (getD d i 0)) → o ≡ stopping z → o ≡ true → p ≡ record { stop = z; place = i + 1; print = a }
+        → PrintedTo y d x e c from end b p
+    printing-stops from b r o z a p f s u v t g =
+        let j : stopping (stopBy (endingOf y r (getD d i 0))) ≡ true = ap stopping (sym u) ∙ sym v ∙ t in
+        let n = unreleased r (getD d i 0) j in
+        let l : stopping (stopBy (endingOf y false (getD d i 0))) ≡ true = rw n at j in
+        let m : z ≡ stopBy (endingOf y false (getD d i 0)) = rw n at u in
+        let q : printing from false b ≡ printing i false a = rw n at s in
+        rw g
+        (record {
+          same = q ∙ stop-step (endingOf y false (getD d i 0)) a refl l ∙ ap (λ (m : Stop). printBehind y d x e c end m (i + 1) a) (sym m);
+          onward = λ n. (omega (arith, f), omega (arith, h));
+        })
 
-  pub printing-through : end ≤ i → PrintedTo y d x e c from end b (record { place = i; print = a })
-  printing-through l =
-      record {
-        onward = on;
-        same = same ∙ printing-out y d x e c end i r a l ∙ sym (printing-out y d x e c end i false a l);
-        ends = λ m. absurd (omega (arith, l, m));
-      }
+  pub printing-through
+      : (from b i : ℕ) (r : Bool) (a : ℕ) (p : Printed) → end ≤ i → printing from false b ≡ printing i r a
+      → p ≡ record { stop = Segment; place = i; print = a } → PrintedTo y d x e c from end b p
+  unfolding printBehind
+  printing-through from b i r a p l s g = rw g (record { same = s ∙ printing-out i r a l; onward = λ n. absurd (false≢true n) })
+
+  -- what is left behind a component
+  pub printing-behind
+      : (from b : ℕ) (r : Printed) (k : Stop) → PrintedTo y d x e c from end b r → r .stop ≡ k
+      → printing from false b ≡ printBehind y d x e c end k (r .place) (r .print)
+  printing-behind from b r k p h = p .same ∙ ap (λ (j : Stop). printBehind y d x e c end j (r .place) (r .print)) h
 
 pub limit-fits : (d : List ℕ) (e m : ℕ) → m ≡ min e (length d) → m ≤ length d
 limit-fits d e m h = omega (arith, h)

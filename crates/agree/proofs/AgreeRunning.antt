@@ -179,12 +179,12 @@ module _ (y : Syntax) (d t b : List ℕ) (e : ℕ) where
     unfolding notedIn
     noted-lin h f t′ u k p m = m ∙ rw (sym tag ∙ u, p, k)
 
-abbrev pub run : ℕ → ℕ → Run
-run n e = record { count = n; end = e }
+abbrev pub run : Bool → ℕ → ℕ → Run
+run b n e = record { count = n; end = e; stopped = b }
 
 -- the run that has passed n segments, up to the place here, and the table with its marks
 pub record Growing (y : Syntax) (d : List ℕ) (at : ℕ) (t : List ℕ) (n here : ℕ) : Type 0 where
-  pub is : Running y d at t (run n here)
+  pub is : Running y d at t (run false n here)
   pub size : length t ≡ 8192
 
 -- a run grows by a segment
@@ -194,13 +194,13 @@ module _ (y : Syntax) (d : List ℕ) (at : ℕ) where
   run-begins t l = record { is = record { passed = refl; few = omega arith; fits = omega arith; apart = refl; marked = refl }; size = l }
 
   module _ (t : List ℕ) (n here : ℕ) (g : Growing y d at t n here) where
-    abbrev k : Running y d at t (run n here)
+    abbrev k : Running y d at t (run false n here)
     k = g .is
 
-    pub run-stops : (r : Bool) (t′ u : List ℕ) → r ≡ true → t′ ≡ cond r t u → Running y d at t′ (run n here)
+    pub run-stops : (r : Bool) (t′ u : List ℕ) → r ≡ true → t′ ≡ cond r t u → Running y d at t′ (run true n here)
     run-stops r t′ u h w =
         let m : t′ ≡ t = rw h at w in
-        rw m k
+        rw m (record { passed = k .passed; few = k .few; fits = k .fits; apart = k .apart; marked = k .marked })
 
     abbrev inside : List Heading
     inside = headingsIn n (segmentsAt y d at)

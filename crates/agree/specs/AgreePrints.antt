@@ -1,16 +1,17 @@
 -- The print of a position: a number made of all that is compared of it, so that positions that agree have the same; no public call cites these.
 use Prim.Native.Nat.{ℕ, _+_, _*_, _%_, _≤_, _<_}
 use mathlib.Core.Path.{_≡_}
-use mathlib.Core.Bool.{Bool, false, cond}
+use mathlib.Core.Bool.{Bool, true, false, cond}
 use mathlib.Core.List.{List, [], _∷_}
-use lib.ListN.{getD}
 use lib.Dec.{eqb}
 use Rattle.cut.specs.declared.service.Syntax.{Syntax}
 use Rattle.cut.specs.Bytes.{part}
-use Rattle.element.specs.Elements.{Split, elements, endingOf, stays, splitFrom}
+use Rattle.element.specs.Elements.{Ending, ends-segment, ends-element, ends-component, ends-nothing, Split, elements, splitFrom}
 use Rattle.element.specs.Plain.{plain}
 use Rattle.agree.specs.Agreement.{Heading}
 use Rattle.agree.specs.declared.agree_prints.Printed.{Printed}
+use Rattle.agree.specs.declared.agree_prints.Stop.{Stop}
+use Rattle.agree.specs.declared.agree_prints.Stop.the-variants.{Segment, Element, Component, Nothing}
 
 -- the print a, and then a byte x of the component that w names
 unfoldable pub mixedBy : ℕ → ℕ → ℕ → ℕ
@@ -61,8 +62,34 @@ printSplit y x e c r s a =
 unfoldable pub printRest : Syntax → ℕ → ℕ → ℕ → Bool → List ℕ → ℕ → ℕ
 printRest y x e c r xs a = printSplit y x e c r (splitFrom y r xs) a
 
--- r is where the component c of element e that goes on at `from` ends, and the print up to there
+-- what a byte stops that ends this
+abbrev pub stopBy : Ending → Stop
+stopBy ends-segment = Segment
+stopBy ends-element = Element
+stopBy ends-component = Component
+stopBy ends-nothing = Nothing
+
+abbrev pub stopping : Stop → Bool
+stopping Segment = true
+stopping Element = true
+stopping Component = true
+stopping Nothing = false
+
+-- whether the segment goes on behind it
+abbrev pub passing : Stop → Bool
+passing Segment = false
+passing Element = true
+passing Component = true
+passing Nothing = false
+
+-- the print a, and then what follows from the place i up to `end` where component c of element e is stopped so
+unfoldable pub printBehind : Syntax → List ℕ → ℕ → ℕ → ℕ → ℕ → Stop → ℕ → ℕ → ℕ
+printBehind y d x e c end Segment i a = a
+printBehind y d x e c end Element i a = printRest y x (e + 1) 0 false (part i end d) a
+printBehind y d x e c end Component i a = printRest y x e (c + 1) false (part i end d) a
+printBehind y d x e c end Nothing i a = a
+
+-- r is how the component c of element e that begins at `from` is stopped, and the print up to there
 pub record PrintedTo (y : Syntax) (d : List ℕ) (x e c from end a : ℕ) (r : Printed) : Type 0 where
-  pub onward : from ≤ r .place
-  pub same : printRest y x e c false (part from end d) a ≡ printRest y x e c false (part (r .place) end d) (r .print)
-  pub ends : r .place < end → stays (endingOf y false (getD d (r .place) 0)) ≡ false
+  pub same : printRest y x e c false (part from end d) a ≡ printBehind y d x e c end (r .stop) (r .place) (r .print)
+  pub onward : passing (r .stop) ≡ true → (from < r .place) × (r .place ≤ end)

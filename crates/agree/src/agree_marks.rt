@@ -4,6 +4,7 @@ use crate::agree_prints::mixed;
 ghost use mathlib.Core.Path.{_≡_};
 ghost use Rattle.agree.specs.AgreeMarks.{cellOf, markOf, mergedBy, heldIn, setIn, markedIn, markIn};
 
+// The remainder changes nothing here: it is there for the laws, which take any number.
 fn cell_of(f: u32) -> usize
     ensures { λ r. ⌜ r ≡ cellOf f ⌝ }
 {

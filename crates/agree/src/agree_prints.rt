@@ -9,24 +9,33 @@ ghost use mathlib.Core.Path.{_≡_};
 ghost use lib.ListN.{length};
 ghost use Rattle.cut.specs.Bytes.{part};
 ghost use Rattle.cut.specs.Segments.{frees};
-ghost use Rattle.element.specs.Elements.{endingOf, stays};
+ghost use Rattle.element.specs.Elements.{endingOf};
 ghost use Rattle.agree.specs.AgreeParts.{partIn, headingIn};
-ghost use Rattle.agree.specs.AgreePrints.{mixedBy, mixedUnless, namedBy, printSegment, printIn, printOf, PrintedTo};
+ghost use Rattle.agree.specs.AgreePrints.{mixedBy, mixedUnless, namedBy, printSegment, printIn, printOf, stopBy, stopping, PrintedTo};
 
-// The place where a component ends, and the print up to it.
+// What stops a component, if anything does.
+pub enum Stop {
+    Segment,
+    Element,
+    Component,
+    Nothing,
+}
+
+// What stopped a component, the place after that, and the print up to there. The end of the bytes stops the segment.
 pub struct Printed {
+    pub stop: Stop,
     pub place: usize,
     pub print: u32,
 }
 
-// The factor is odd and near 2^32 divided by the golden ratio, so that the upper half of the print depends on every byte but the last.
+// The factor is odd and near 2^32 divided by the golden ratio, so that every byte but the last changes the upper half of the print.
 pub(crate) fn mixed(a: u32, w: u8, x: u8) -> u32
     ensures { λ r. ⌜ r ≡ mixedBy a w x ⌝ }
 {
     (((a as u64) * 2654435769 + (w as u64) * 256 + (x as u64)) % 4294967296) as u32
 }
 
-// The same of a byte that does not change the print of the element that is left out, nor as a release mark.
+// The same, unless the byte is of the element that is left out or is a release mark.
 fn mixed_unless(skips: bool, mark: bool, a: u32, w: u8, x: u8) -> u32
     ensures { λ r. ⌜ r ≡ mixedUnless skips mark a w x ⌝ }
 {
@@ -39,25 +48,6 @@ fn mixed_unless(skips: bool, mark: bool, a: u32, w: u8, x: u8) -> u32
     mixed(a, w, x)
 }
 
-// Whether a byte is one of its component's own.
-fn is_own(y: Syntax, released: bool, x: u8) -> bool
-    ensures { λ r. ⌜ r ≡ stays (endingOf y released x) ⌝ }
-{
-    if released {
-        return true;
-    }
-    if x == y.terminator {
-        return false;
-    }
-    if x == y.element {
-        return false;
-    }
-    if x == y.component {
-        return false;
-    }
-    true
-}
-
 // Whether a byte is a release mark.
 fn is_mark(y: Syntax, released: bool, x: u8) -> bool
     ensures { λ r. ⌜ r ≡ frees y released x ⌝ }
@@ -68,10 +58,46 @@ fn is_mark(y: Syntax, released: bool, x: u8) -> bool
     releases(y, x)
 }
 
+// What a byte ends.
+fn stop_of(y: Syntax, released: bool, x: u8) -> Stop
+    ensures { λ r. ⌜ r ≡ stopBy (endingOf y released x) ⌝ }
+{
+    if released {
+        return Stop::Nothing;
+    }
+    if x == y.terminator {
+        return Stop::Segment;
+    }
+    if x == y.element {
+        return Stop::Element;
+    }
+    if x == y.component {
+        return Stop::Component;
+    }
+    Stop::Nothing
+}
+
+fn stops(k: Stop) -> bool
+    ensures { λ r. ⌜ r ≡ stopping k ⌝ }
+{
+    match k {
+        Stop::Segment => true,
+        Stop::Element => true,
+        Stop::Component => true,
+        Stop::Nothing => false,
+    }
+}
+
 fn named(element: usize, component: usize) -> u8
     ensures { λ r. ⌜ r ≡ namedBy element component ⌝ }
 {
     (element % 16 * 16 + component % 16) as u8
+}
+
+fn stopped(stop: Stop, place: usize, print: u32) -> Printed
+    ensures { λ r. ⌜ r ≡ record { stop = stop; place = place; print = print } ⌝ }
+{
+    Printed { stop, place, print }
 }
 
 // The print `before`, and then the bytes from `from` on that are component `component` of element `element`; it changes nothing if that is `skip`.
@@ -95,15 +121,15 @@ fn print_own(
     let mut released = false;
     while i < end {
         let x = d[i];
-        if !is_own(y, released, x) {
-            return Printed { place: i, print: a };
-        }
-        let mark = is_mark(y, released, x);
-        a = mixed_unless(skips, mark, a, w, x);
-        released = mark;
         i += 1;
+        let stop = stop_of(y, released, x);
+        if stops(stop) {
+            return stopped(stop, i, a);
+        }
+        released = is_mark(y, released, x);
+        a = mixed_unless(skips, released, a, w, x);
     }
-    Printed { place: i, print: a }
+    stopped(Stop::Segment, i, a)
 }
 
 // ... and then the components of a segment, but for those of the element `skip`. Its bytes are looked at once, so no cursor goes through it.
@@ -117,22 +143,24 @@ fn print_segment(y: Syntax, d: &[u8], start: usize, end: usize, skip: usize, bef
     let mut component = 0;
     loop {
         let own = print_own(y, d, i, limit, element, component, skip, a);
-        let stop = own.place;
+        let stop = own.stop;
         a = own.print;
-        if limit <= stop {
-            return a;
+        i = own.place;
+        match stop {
+            Stop::Segment => {
+                return a;
+            }
+            Stop::Element => {
+                element += 1;
+                component = 0;
+            }
+            Stop::Component => {
+                component += 1;
+            }
+            Stop::Nothing => {
+                return a;
+            }
         }
-        let x = d[stop];
-        if x == y.terminator {
-            return a;
-        }
-        i = stop + 1;
-        if x == y.element {
-            element += 1;
-            component = 0;
-            continue;
-        }
-        component += 1;
     }
 }
 

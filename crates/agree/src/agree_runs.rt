@@ -20,10 +20,12 @@ ghost use Rattle.agree.specs.AgreePrints.{printOf};
 ghost use Rattle.agree.specs.AgreeMarks.{allMarked};
 ghost use Rattle.agree.specs.AgreeRuns.{meets, notedIn, Running, Searched};
 
-// How many segments it has, and the place where they end.
+// How many segments it has, the place where they end, and whether a position stopped it that agrees with one of it. That decides only how the
+// search goes on, so nothing is promised of it.
 pub struct Run {
     pub count: usize,
     pub end: usize,
+    pub stopped: bool,
 }
 
 // Whether a segment stops a run, and for how many positions there is room behind it.
@@ -124,6 +126,7 @@ fn run_from(y: Syntax, d: &[u8], at: usize, most: usize, t: &mut [u8; 8192]) -> 
             return Run {
                 count: n,
                 end: here,
+                stopped: false,
             };
         };
         let joined = join(y, d, at, n, place, end, room, t);
@@ -131,6 +134,7 @@ fn run_from(y: Syntax, d: &[u8], at: usize, most: usize, t: &mut [u8; 8192]) -> 
             return Run {
                 count: n,
                 end: here,
+                stopped: true,
             };
         }
         room = joined.room;
@@ -140,6 +144,7 @@ fn run_from(y: Syntax, d: &[u8], at: usize, most: usize, t: &mut [u8; 8192]) -> 
     Run {
         count: n,
         end: here,
+        stopped: false,
     }
 }
 
@@ -187,10 +192,18 @@ pub(crate) fn fresh_run(y: Syntax, d: &[u8], start: usize, at: usize, n: usize, 
     let run = run_from(y, d, at, most, &mut t);
     let count = run.count;
     if count == 0 {
-        return Run { count: 0, end: at };
+        return Run {
+            count: 0,
+            end: at,
+            stopped: false,
+        };
     }
     if meets_run(y, d, start, n, at, count, &t) {
-        return Run { count: 0, end: at };
+        return Run {
+            count: 0,
+            end: at,
+            stopped: false,
+        };
     }
     run
 }

@@ -28,19 +28,25 @@ add-n c =
     let r = c .before .fresh-run .ensures in
     omega (arith, r .0 .few)
 
-loop-less : tie.Need-loop-less Inv-loop μ-loop
-loop-less c =
-    let r = c .before .fresh-run .ensures in
-    omega (arith, r .1, r .2, c .if2 .taken)
-
-loop-again : tie.Need-loop-again Inv-loop μ-loop
-loop-again c = c .before .fresh-run .ensures .0
-
 search-from-requires : tie.Need-search-from-requires Inv-loop μ-loop
-search-from-requires c κs = c .before .before .before .before .loop .inv
+search-from-requires c κs = c .before .before .fresh-run .ensures .0
 
 returns-2 : tie.Need-returns-2 Inv-loop μ-loop
 returns-2 c = c .search-from .ensures
+
+loop-less : tie.Need-loop-less Inv-loop μ-loop
+loop-less c =
+    let r = c .before .before .fresh-run .ensures in
+    omega (arith, r .1, r .2, c .before .if2 .taken)
+
+loop-again : tie.Need-loop-again Inv-loop μ-loop
+loop-again c = c .before .before .fresh-run .ensures .0
+
+search-from-requires-2 : tie.Need-search-from-requires-2 Inv-loop μ-loop
+search-from-requires-2 c κs = c .before .before .before .before .loop .inv
+
+returns-3 : tie.Need-returns-3 Inv-loop μ-loop
+returns-3 c = c .search-from2 .ensures
 
 loop-less-2 : tie.Need-loop-less-2 Inv-loop μ-loop
 loop-less-2 c = search needs
@@ -58,9 +64,11 @@ first-from-spec =
     returns
     fresh-run-requires
     add-n
-    loop-less
-    loop-again
     search-from-requires
     returns-2
+    loop-less
+    loop-again
+    search-from-requires-2
+    returns-3
     loop-less-2
     loop-again-2)

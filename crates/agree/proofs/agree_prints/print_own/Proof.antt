@@ -1,9 +1,8 @@
 -- `agree::agree_prints::print_own` meets its contract. The loop's invariant: the print of what is left, after that of what is passed, is the whole one.
 use Prim.Native.Nat.{_-_, _≤_}
 use mathlib.Core.Bool.{false}
-use mathlib.Core.Path.{_≡_, refl, sym, _∙_}
+use mathlib.Core.Path.{_≡_, refl, _∙_}
 use native.Mathlib.Omega.{arith}
-use borrow.Author.Tests.{not-true, not-false}
 use Rattle.agree.proofs.AgreePrinting.{printing, printing-on, printing-stops, printing-through}
 use borrow.Author.Needs.{needs}
 use Rattle.agree.proofs.agree_prints.print_own.Statement.{statement}
@@ -25,13 +24,22 @@ loop-holds c = (omega arith, refl)
 shared-slice-read-x : tie.Need-shared-slice-read-x Inv-loop μ-loop
 shared-slice-read-x c = search needs
 
-is-own-requires : tie.Need-is-own-requires Inv-loop μ-loop
-is-own-requires c κs = search needs
+add-i : tie.Need-add-i Inv-loop μ-loop
+add-i c = search needs
+
+stop-of-requires : tie.Need-stop-of-requires Inv-loop μ-loop
+stop-of-requires c κs = search needs
+
+stops-requires : tie.Need-stops-requires Inv-loop μ-loop
+stops-requires c κs = search needs
+
+stopped-requires : tie.Need-stopped-requires Inv-loop μ-loop
+stopped-requires c κs = search needs
 
 returns : tie.Need-returns Inv-loop μ-loop
 returns c =
-    let v = c .before .before .before .before .loop .inv in
-    printing-stops _ _ _ _ _ _ _ _ _ _ _ (v .0) (v .1) (sym (c .before .is-own .ensures) ∙ not-true _ (c .if1 .taken))
+    let l = c .before .before .before .before .before .before in
+    printing-stops _ _ _ _ _ _ _ (c .before .before .before .before .before .loop-test .taken) (search needs) _ _ _ _ _ _ _ (l .loop .inv .0) (l .loop .inv .1) (c .before .before .before .stop-of .ensures) (c .before .before .stops .ensures) (c .before .if1 .taken) (c .stopped .ensures)
 
 is-mark-requires : tie.Need-is-mark-requires Inv-loop μ-loop
 is-mark-requires c κs = search needs
@@ -39,21 +47,19 @@ is-mark-requires c κs = search needs
 mixed-unless-requires : tie.Need-mixed-unless-requires Inv-loop μ-loop
 mixed-unless-requires c κs = search needs
 
-add-i : tie.Need-add-i Inv-loop μ-loop
-add-i c = search needs
-
 loop-less : tie.Need-loop-less Inv-loop μ-loop
 loop-less c = search needs
 
 loop-again : tie.Need-loop-again Inv-loop μ-loop
 loop-again c =
-    let l = c .before .before .before .before .before .before in
-    (omega (arith, l .loop .inv .0), l .loop .inv .1 ∙ printing-on _ _ _ _ _ _ _ (c .before .before .before .before .before .loop-test .taken) (search needs) _ _ _ _ _ _ _ (c .before .before .before .is-own .ensures) (not-false _ (c .before .before .if1 .left)) (c .before .is-mark .ensures) (l .before .named .ensures) refl (c .mixed-unless .ensures))
+    let l = c .before .before .before .before .before .before .before in
+    (omega (arith, l .loop .inv .0), l .loop .inv .1 ∙ printing-on _ _ _ _ _ _ _ (c .before .before .before .before .before .before .loop-test .taken) (search needs) _ _ _ _ _ _ _ _ (c .before .before .before .before .stop-of .ensures) (c .before .before .before .stops .ensures) (c .before .before .if1 .left) (c .before .is-mark .ensures) (l .before .named .ensures) refl (c .mixed-unless .ensures))
+
+stopped-requires-2 : tie.Need-stopped-requires-2 Inv-loop μ-loop
+stopped-requires-2 c κs = search needs
 
 returns-2 : tie.Need-returns-2 Inv-loop μ-loop
-returns-2 c =
-    let v = c .before .loop .inv in
-    printing-through _ _ _ _ _ _ _ _ _ _ _ (v .0) (v .1) (c .loop-test .left)
+returns-2 c = printing-through _ _ _ _ _ _ _ _ _ _ _ _ (c .before .loop-test .left) (c .before .before .loop .inv .1) (c .stopped2 .ensures)
 
 pub print-own-spec : {M : Type 1} → statement M
 print-own-spec =
@@ -64,11 +70,14 @@ print-own-spec =
     named-requires
     loop-holds
     shared-slice-read-x
-    is-own-requires
+    add-i
+    stop-of-requires
+    stops-requires
+    stopped-requires
     returns
     is-mark-requires
     mixed-unless-requires
-    add-i
     loop-less
     loop-again
+    stopped-requires-2
     returns-2)

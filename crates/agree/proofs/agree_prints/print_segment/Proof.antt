@@ -1,11 +1,16 @@
 -- `agree::agree_prints::print_segment` meets its contract. The loop's invariant: what is left, printed after what is passed, gives the print.
 use Prim.Native.Nat.{_-_, _≤_}
 use mathlib.Core.Bool.{false}
-use mathlib.Core.Path.{_≡_, sym, _∙_}
+use mathlib.Core.Path.{_≡_, sym, ap, _∙_}
 use native.Mathlib.Omega.{arith}
 use Rattle.cut.specs.Bytes.{part}
-use Rattle.agree.specs.AgreePrints.{printSegment}
-use Rattle.agree.proofs.AgreePrinting.{printing, printing-first, printing-out, printing-ends, printing-element, printing-component, limit-fits}
+use Rattle.agree.specs.AgreePrints.{printSegment, passing, printBehind}
+use Rattle.agree.proofs.AgreePrinting.{
+  printing,
+  printing-first,
+  printing-behind,
+  limit-fits,
+}
 use borrow.Author.Needs.{needs}
 use Rattle.agree.proofs.agree_prints.print_segment.Statement.{statement}
 use Rattle.agree.proofs.agree_prints.print_segment.Tie as tie
@@ -26,52 +31,63 @@ loop-holds c = (omega arith, omega arith, printing-first _ _ _ _ _ _ _ (c .limit
 print-own-requires : tie.Need-print-own-requires Inv-loop μ-loop
 print-own-requires c κs = omega (arith, c .before .limit-of .ensures)
 
+enum-told : tie.Need-enum-told Inv-loop μ-loop
+enum-told c = search needs
+
 returns : tie.Need-returns Inv-loop μ-loop
-returns c = sym (printing-out _ _ _ _ _ _ _ _ _ (c .if1 .taken)) ∙ sym (c .before .print-own .ensures .same) ∙ c .before .before .loop .inv .2
+unfolding printBehind
+returns c = sym (printing-behind _ _ _ _ _ _ _ _ _ _ (c .before .before .print-own .ensures) (c .enum-told .given .1)) ∙ c .before .before .before .loop .inv .2
 
-shared-slice-read-x : tie.Need-shared-slice-read-x Inv-loop μ-loop
-shared-slice-read-x c = omega (arith, c .before .if1 .left, c .before .before .before .before .limit-of .ensures)
-
-returns-2 : tie.Need-returns-2 Inv-loop μ-loop
-returns-2 c =
-    let o = c .before .before .before .before in
-    sym (printing-ends _ _ _ _ _ _ _ (c .before .before .before .if1 .left) (limit-fits (o .before .before .before .before .args .d .now) _ _ (o .before .before .limit-of .ensures)) _ (c .if2 .taken)) ∙ sym (o .print-own .ensures .same) ∙ o .before .loop .inv .2
-
-add-i : tie.Need-add-i Inv-loop μ-loop
-add-i c = search needs
+enum-told-2 : tie.Need-enum-told-2 Inv-loop μ-loop
+enum-told-2 c = search needs
 
 add-element : tie.Need-add-element Inv-loop μ-loop
 add-element c =
-    let o = c .before .before .before .before .before .before in
-    omega (arith, c .before .before .before .before .before .if1 .left, o .before .loop .inv .0, o .print-own .ensures .onward, limit-fits (o .before .before .before .before .args .d .now) _ _ (o .before .before .limit-of .ensures))
+    let o = c .before .before in
+    let on = o .print-own .ensures .onward (ap passing (c .enum-told2 .given .1)) in
+    omega (arith, on .0, on .1, o .before .loop .inv .0, limit-fits (o .before .before .before .before .args .d .now) _ _ (o .before .before .limit-of .ensures))
 
 loop-less : tie.Need-loop-less Inv-loop μ-loop
 loop-less c =
-    let o = c .before .before .before .before .before .before in
-    omega (arith, c .before .before .before .before .before .if1 .left, o .print-own .ensures .onward)
+    let o = c .before .before in
+    let on = o .print-own .ensures .onward (ap passing (c .enum-told2 .given .1)) in
+    omega (arith, on .0, on .1)
 
 loop-again : tie.Need-loop-again Inv-loop μ-loop
+unfolding printBehind
 loop-again c =
-    let o = c .before .before .before .before .before .before in
-    let on = o .print-own .ensures .onward in
-    (omega (arith, o .before .loop .inv .0, on), omega arith, sym (printing-element _ _ _ _ _ _ _ (c .before .before .before .before .before .if1 .left) (limit-fits (o .before .before .before .before .args .d .now) _ _ (o .before .before .limit-of .ensures)) _ (c .before .before .if2 .left) (c .if3 .taken)) ∙ sym (o .print-own .ensures .same) ∙ o .before .loop .inv .2)
+    let o = c .before .before in
+    let on = o .print-own .ensures .onward (ap passing (c .enum-told2 .given .1)) in
+    (omega (arith, on .0, o .before .loop .inv .0), omega arith, sym (printing-behind _ _ _ _ _ _ _ _ _ _ (o .print-own .ensures) (c .enum-told2 .given .1)) ∙ o .before .loop .inv .2)
+
+enum-told-3 : tie.Need-enum-told-3 Inv-loop μ-loop
+enum-told-3 c = search needs
 
 add-component : tie.Need-add-component Inv-loop μ-loop
 add-component c =
-    let o = c .before .before .before .before .before .before in
-    omega (arith, c .before .before .before .before .before .if1 .left, o .before .loop .inv .1, o .print-own .ensures .onward, limit-fits (o .before .before .before .before .args .d .now) _ _ (o .before .before .limit-of .ensures))
+    let o = c .before .before in
+    let on = o .print-own .ensures .onward (ap passing (c .enum-told3 .given .1)) in
+    omega (arith, on .0, on .1, o .before .loop .inv .1, limit-fits (o .before .before .before .before .args .d .now) _ _ (o .before .before .limit-of .ensures))
 
 loop-less-2 : tie.Need-loop-less-2 Inv-loop μ-loop
 loop-less-2 c =
-    let o = c .before .before .before .before .before .before in
-    omega (arith, c .before .before .before .before .before .if1 .left, o .print-own .ensures .onward)
+    let o = c .before .before in
+    let on = o .print-own .ensures .onward (ap passing (c .enum-told3 .given .1)) in
+    omega (arith, on .0, on .1)
 
 loop-again-2 : tie.Need-loop-again-2 Inv-loop μ-loop
+unfolding printBehind
 loop-again-2 c =
-    let o = c .before .before .before .before .before .before in
-    let on = o .print-own .ensures .onward in
-    let less = c .before .before .before .before .before .if1 .left in
-    (omega (arith, o .before .loop .inv .0, on), omega (arith, o .before .loop .inv .1, on), sym (printing-component _ _ _ _ _ _ _ less (limit-fits (o .before .before .before .before .args .d .now) _ _ (o .before .before .limit-of .ensures)) _ (c .before .before .if2 .left) (c .if3 .left) (o .print-own .ensures .ends less)) ∙ sym (o .print-own .ensures .same) ∙ o .before .loop .inv .2)
+    let o = c .before .before in
+    let on = o .print-own .ensures .onward (ap passing (c .enum-told3 .given .1)) in
+    (omega (arith, on .0, o .before .loop .inv .0), omega (arith, on .0, o .before .loop .inv .1), sym (printing-behind _ _ _ _ _ _ _ _ _ _ (o .print-own .ensures) (c .enum-told3 .given .1)) ∙ o .before .loop .inv .2)
+
+enum-told-4 : tie.Need-enum-told-4 Inv-loop μ-loop
+enum-told-4 c = search needs
+
+returns-2 : tie.Need-returns-2 Inv-loop μ-loop
+unfolding printBehind
+returns-2 c = sym (printing-behind _ _ _ _ _ _ _ _ _ _ (c .before .before .print-own .ensures) (c .enum-told4 .given .1)) ∙ c .before .before .before .loop .inv .2
 
 pub print-segment-spec : {M : Type 1} → statement M
 print-segment-spec =
@@ -82,13 +98,15 @@ print-segment-spec =
     limit-of-requires
     loop-holds
     print-own-requires
+    enum-told
     returns
-    shared-slice-read-x
-    returns-2
-    add-i
+    enum-told-2
     add-element
     loop-less
     loop-again
+    enum-told-3
     add-component
     loop-less-2
-    loop-again-2)
+    loop-again-2
+    enum-told-4
+    returns-2)
