@@ -36,9 +36,13 @@ second-told f g r x e h p = p ∙ or-second f x h ∙ rw e
 
 -- the row of a component, by its word
 pub row-passed
-    : (y : Syntax) (k r : Row) (e c m : ℕ) (t : List ℕ) (n fault m′ : ℕ) → r ≡ k → fault ≡ moodFault y (moodOf m) r t → MoodAfter n m r m′
-    → n ≡ length t → PassedRow y k e c m t fault e c m′
-row-passed y k r e c m t n fault m′ p f a l = record { told = f ∙ rw p; mood = a t l ∙ rw p; element = refl; component = refl }
+    : (y : Syntax) (w e c m : ℕ) (t : List ℕ) (r : Row) (n fault m′ : ℕ) → r ≡ getD (elementIn w .rows) c unused → fault ≡ moodFault y (moodOf m) r t
+    → MoodAfter n m r m′ → n ≡ length t → PassedRow y w e c m t fault e c w m′
+row-passed y w e c m t r n fault m′ p f a l = record { told = f ∙ rw p; mood = a t l ∙ rw p; element = refl; component = refl; word = refl }
+
+-- the pass stands in the element, so that its word is known
+pub known-word : (page : Page) (w e i : ℕ) → ElementWord w (elementOf page i) → e ≡ i → ElementWord w (elementOf page e)
+known-word page w e i v h = rw h v
 
 module _ (y : Syntax) (page : Page) where
   module _ (d : List ℕ) (e₀ c₀ m₀ e c a b : ℕ) where
@@ -65,20 +69,22 @@ module _ (y : Syntax) (page : Page) where
         unfolding rowOf
         row-here = rw (v .element)
 
+        -- and so has the one where the pass stands then
+        pub word-after : (m fault e′ c′ w′ m′ : ℕ) → PassedRow y w e c m (decoded y a b d) fault e′ c′ w′ m′ → ElementWord w′ (elementOf page e′)
+        word-after m fault e′ c′ w′ m′ p = rw (p .word, p .element) v
+
         pub passed-further
-            : (fault e′ c′ m′ : ℕ) → 0 < c → PassedRow y (getD (elementIn w .rows) c unused) e c m₀ (decoded y a b d) fault e′ c′ m′
-            → Passed y page e₀ c₀ m₀ here fault e′ c′ m′
+            : (fault e′ c′ w′ m′ : ℕ) → 0 < c → PassedRow y w e c m₀ (decoded y a b d) fault e′ c′ w′ m′ → Passed y page e₀ c₀ m₀ here fault e′ c′ m′
         unfolding decoded
-        passed-further fault e′ c′ m′ h p ks =
+        passed-further fault e′ c′ w′ m′ h p ks =
             walk-further y page e₀ (c₀ + 1) (moodOf m₀) here ks z (λ q. omega arith)
             ∙ rw (← row-here, p .told, p .mood, p .element, p .component)
 
         pub passed-entered
-            : (f m fault e′ c′ m′ : ℕ) → c ≤ 0 → f ≡ endFault (moodOf m₀) (drop (c₀ + 1) (elementOf page e₀ .rows)) → f ≤ 0
-            → moodOf m ≡ opened (elementIn w) → PassedRow y (getD (elementIn w .rows) c unused) e c m (decoded y a b d) fault e′ c′ m′
-            → Passed y page e₀ c₀ m₀ here fault e′ c′ m′
+            : (f m fault e′ c′ w′ m′ : ℕ) → c ≤ 0 → f ≡ endFault (moodOf m₀) (drop (c₀ + 1) (elementOf page e₀ .rows)) → f ≤ 0
+            → moodOf m ≡ opened (elementIn w) → PassedRow y w e c m (decoded y a b d) fault e′ c′ w′ m′ → Passed y page e₀ c₀ m₀ here fault e′ c′ m′
         unfolding decoded
-        passed-entered f m fault e′ c′ m′ h p l o r ks =
+        passed-entered f m fault e′ c′ w′ m′ h p l o r ks =
             let q : f ≡ 0 = omega arith in
             let u : opened (elementOf page e) ≡ moodOf m = ap opened (sym (v .element)) ∙ sym o in
             walk-enter y page e₀ (c₀ + 1) (moodOf m₀) here ks z (omega arith)
