@@ -47,10 +47,12 @@ fn filled_fault(y: Syntax, d: &[u8], a: usize, b: usize, n: usize, row: usize) -
     if row / 65536 % 4 == 0 {
         return 18;
     }
-    if !is_formed(y, d, a, b, n, row) {
+    let fitting = is_formed(y, d, a, b, n, row);
+    let known = listed(y, d, a, b, n, row);
+    if !fitting {
         return 19;
     }
-    if !listed(y, d, a, b, n, row) {
+    if !known {
         return 20;
     }
     0
