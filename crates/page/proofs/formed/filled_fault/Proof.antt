@@ -17,12 +17,12 @@ returns-2 : tie.Need-returns-2
 returns-2 c = filled-format _ _ _ _ (c .before .before .before .before .before .pre) (c .before .before .before .if1 .left) _ (c .before .before .is-formed .ensures) (not-true _ (c .if2 .taken))
 
 returns-3 : tie.Need-returns-3
-returns-3 c = 
+returns-3 c =
     filled-code _ _ _ _ (c .before .before .before .before .before .before .pre) (c .before .before .before .before .if1 .left) _ (c .before .before .before .is-formed .ensures) (not-false _ (c .before .if2 .left)) _ (c .before .before .listed .ensures)
     (not-true _ (c .if3 .taken))
 
 returns-4 : tie.Need-returns-4
-returns-4 c = 
+returns-4 c =
     filled-right _ _ _ _ (c .before .before .before .before .before .before .pre) (c .before .before .before .before .if1 .left) _ (c .before .before .before .is-formed .ensures) (not-false _ (c .before .if2 .left)) _ (c .before .before .listed .ensures)
     (not-false _ (c .if3 .left))
 
