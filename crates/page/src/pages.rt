@@ -18,7 +18,7 @@ ghost use Rattle.guide.specs.Pages20d.{pageOf};
 ghost use Rattle.guide.specs.PageFault.{pageFault};
 ghost use Rattle.guide.specs.Choices.{orElse};
 ghost use Rattle.guide.proofs.PageFace.{opened, moodFault, endFault, absentFault};
-ghost use Rattle.page.specs.PageWalk.{moodOf, MoodAfter, EndFault, Passed, PassedRow};
+ghost use Rattle.page.specs.PageWalk.{moodOf, entered, MoodAfter, EndFault, LeftFault, Passed, PassedRow};
 ghost use Rattle.page.specs.PageWords.{rowIn, elementIn, ElementWord};
 
 // Where the pass stands: the component that it passed last, the word of its element and its mood (0 idle, 1 asking, 2 owing), and the fault, if any.
@@ -76,6 +76,26 @@ fn ending(word: usize, c: usize, mood: usize) -> u32
         return 17;
     }
     0
+}
+
+// The fault that is known before component c of an element: the first ends the element before it.
+fn left_fault(at: Pass, c: usize) -> u32
+    ensures { λ r. ⌜ LeftFault (at .word) (at .component) (at .mood) c r ⌝ }
+{
+    if 0 < c {
+        return 0;
+    }
+    ending(at.word, at.component, at.mood)
+}
+
+// The mood before component c of the element that has a word, where the component before it left the given mood.
+fn entering(word: usize, c: usize, mood: usize) -> usize
+    ensures { λ r. ⌜ moodOf r ≡ entered c (moodOf mood) (elementIn word) ⌝ }
+{
+    if 0 < c {
+        return mood;
+    }
+    opening(word)
 }
 
 // The fault that is known at a component of n bytes.
@@ -153,10 +173,7 @@ fn pass_component(
         return at;
     }
     let word = word_of(node, at, e);
-    if 0 < c {
-        return pass_row(y, d, a, b, word, e, c, at.mood);
-    }
-    let fault = ending(at.word, at.component, at.mood);
+    let fault = left_fault(at, c);
     if 0 < fault {
         return Pass {
             fault,
@@ -166,7 +183,7 @@ fn pass_component(
             mood: 0,
         };
     }
-    pass_row(y, d, a, b, word, e, c, opening(word))
+    pass_row(y, d, a, b, word, e, c, entering(word, c, at.mood))
 }
 
 // The fault that is known where no component is left.
