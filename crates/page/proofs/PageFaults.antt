@@ -11,7 +11,7 @@ use Rattle.cut.specs.declared.service.Syntax.{Syntax}
 use Rattle.element.specs.Format.{fitsFormat}
 use Rattle.element.specs.declared.formats.Format.{Format}
 use Rattle.element.specs.declared.formats.Format.the-variants.{NUpTo, N}
-use Rattle.guide.specs.Page.{Row, used, unused}
+use Rattle.guide.specs.Page.{Row}
 use Rattle.guide.specs.Nodes.{chosen}
 use Rattle.guide.specs.PageFault.{textFault}
 use Rattle.guide.specs.Choices.{pickℕ}

@@ -1,5 +1,4 @@
 -- `page::formed::is_formed` meets its contract: each return by the kind.
-use native.Mathlib.Omega.{arith}
 use mathlib.Core.Path.{ap, _∙_}
 use Rattle.element.specs.declared.formats.Format.{Format}
 use Rattle.element.specs.Format.{fitsFormat}
