@@ -1,10 +1,10 @@
 -- The number of a component: byte by byte from its last, from the delivery itself or from a copy without release marks.
-use Prim.Native.Nat.{ℕ, zero, suc, _+_, _-_, _*_, _^_, _≤_, _<_, min}
+use Prim.Native.Nat.{ℕ, suc, _+_, _-_, _*_, _^_, _≤_, _<_, min}
 use mathlib.Core.Bool.{Bool, true, false}
 use mathlib.Core.Path.{_≡_, refl, sym, ap, _∙_}
 use mathlib.Core.List.{List, [], _∷_}
 use native.Mathlib.Omega.{arith}
-use native.Mathlib.Nat.{pow-suc, pow-le-pow-right, lt-of-lt-of-le}
+use native.Mathlib.Nat.{pow-suc, pow-le-pow-right}
 use lib.ListN.{length, getD}
 use lib.Seq.{take-all, take-at}
 use lib.Dec.{lit<}

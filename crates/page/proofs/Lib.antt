@@ -1,4 +1,5 @@
 pub mod PageTables
+pub mod PageCells
 pub mod PageSpans
 pub mod PageLookup
 pub mod KeyNumbers

@@ -11,7 +11,7 @@ use Rattle.cut.specs.declared.service.Syntax.{Syntax}
 use Rattle.element.specs.Format.{fitsFormat}
 use Rattle.element.specs.declared.formats.Format.{Format}
 use Rattle.element.specs.declared.formats.Format.the-variants.{NUpTo, N}
-use Rattle.guide.specs.Page.{Row, used, unused}
+use Rattle.guide.specs.Page.{Row}
 use Rattle.guide.specs.Nodes.{chosen}
 use Rattle.guide.specs.PageFault.{textFault}
 use Rattle.guide.specs.Choices.{pickℕ}
@@ -42,23 +42,27 @@ module _ (y : Syntax) (w : ℕ) (t : List ℕ) where
         let l : 1 ≤ length t = omega arith in
         rw (k, count, le-leb 1 (length t) l)
 
-    pub formed-exactly : kind ≡ 1 → eqb n size ≡ fitsFormat y (formatIn w) t
+    pub formed-exactly : kind < 2 → (kind ≡ 0 → ⊥) → eqb n size ≡ fitsFormat y (formatIn w) t
     unfolding formatIn fitsFormat
-    formed-exactly k = rw (k, count)
+    formed-exactly l h =
+        let k : kind ≡ 1 = omega arith in
+        rw (k, count)
 
-  pub formed-digits : kind ≡ 2 → fitsFormat y (NUpTo size) t ≡ fitsFormat y (formatIn w) t
+-- a format for numbers, by its kind
+module _ (w : ℕ) where
+  pub format-digits : w / 262144 % 4 ≡ 2 → NUpTo (w / 1048576) ≡ formatIn w
   unfolding formatIn
-  formed-digits k = rw k
+  format-digits h = rw h
 
-  pub formed-number : (kind ≡ 0 → ⊥) → (kind ≡ 1 → ⊥) → (kind ≡ 2 → ⊥) → fitsFormat y (N size) t ≡ fitsFormat y (formatIn w) t
+  pub format-number : 2 ≤ w / 262144 % 4 → (w / 262144 % 4 ≡ 2 → ⊥) → N (w / 1048576) ≡ formatIn w
   unfolding formatIn
-  formed-number a b c = go kind a b c
+  format-number l h = go (w / 262144 % 4) l h
     where
-      go : (k : ℕ) → (k ≡ 0 → ⊥) → (k ≡ 1 → ⊥) → (k ≡ 2 → ⊥) → fitsFormat y (N size) t ≡ fitsFormat y (formatBy k size) t
-      go zero a b c = absurd (a refl)
-      go (suc zero) a b c = absurd (b refl)
-      go (suc (suc zero)) a b c = absurd (c refl)
-      go (suc (suc (suc k))) a b c = refl
+      go : (k : ℕ) → 2 ≤ k → (k ≡ 2 → ⊥) → N (w / 1048576) ≡ formatBy k (w / 1048576)
+      go zero l h = absurd (omega arith)
+      go (suc zero) l h = absurd (omega arith)
+      go (suc (suc zero)) l h = absurd (h refl)
+      go (suc (suc (suc k))) l h = refl
 
 filled : (t : List ℕ) → 0 < length t → t ≡ [] → ⊥
 filled t h e = absurd (omega (arith, ap length e))

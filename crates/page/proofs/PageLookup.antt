@@ -3,8 +3,7 @@ use Prim.Native.Nat.{ℕ, zero, suc, _+_, _-_, _/_, _%_, _≤_, _<_}
 use mathlib.Core.Path.{_≡_, refl, sym, ap, _∙_}
 use native.Mathlib.Omega.{arith}
 use lib.ListN.{getD}
-use Rattle.guide.specs.Page.{Row, unused, Composite, Page, beyond, elementOf}
-use Rattle.guide.proofs.PageFace.{isMust}
+use Rattle.guide.specs.Page.{unused, Composite, Page, beyond, elementOf}
 use Rattle.page.specs.PageColumns.{allElements, allRows}
 use Rattle.page.specs.PageWords.{span, reach, codesIn, formatIn, rowIn, elementIn, ElementWord, pageIn, NodeWord}
 use Rattle.page.proofs.PageSpans.{span-at, span-past}

@@ -9,11 +9,11 @@ use Rattle.cut.specs.Bytes.{part}
 use Rattle.cut.specs.declared.service.Syntax.{Syntax}
 use Rattle.element.specs.Components.{Component, components}
 use Rattle.element.specs.Plain.{plain, decoded}
-use Rattle.guide.specs.Page.{Row, unused, Page, elementOf, rowOf}
+use Rattle.guide.specs.Page.{Row, unused, Composite, Page, elementOf, rowOf}
 use Rattle.guide.specs.PageFault.{pageFault}
 use Rattle.guide.specs.Choices.{orElse}
-use Rattle.guide.proofs.PageFace.{opened, moodAfter, moodFault, endFault, absentFault, absent-pass, walkFault, walk-done, walk-tag, walk-further, walk-enter, segment-pass}
-use Rattle.page.specs.PageWalk.{moodOf, MoodAfter, Passed, PassedRow}
+use Rattle.guide.proofs.PageFace.{Mood, opened, moodAfter, moodFault, endFault, absentFault, absent-pass, walkFault, walk-done, walk-tag, walk-further, walk-enter, segment-pass}
+use Rattle.page.specs.PageWalk.{moodOf, MoodAfter, leftFault, entered, Passed, PassedRow}
 use Rattle.page.specs.PageWords.{elementIn, ElementWord}
 
 pub or-first : (f x : ℕ) → 0 < f → f ≡ orElse f x
@@ -36,9 +36,40 @@ second-told f g r x e h p = p ∙ or-second f x h ∙ rw e
 
 -- the row of a component, by its word
 pub row-passed
-    : (y : Syntax) (k r : Row) (e c m : ℕ) (t : List ℕ) (n fault m′ : ℕ) → r ≡ k → fault ≡ moodFault y (moodOf m) r t → MoodAfter n m r m′
-    → n ≡ length t → PassedRow y k e c m t fault e c m′
-row-passed y k r e c m t n fault m′ p f a l = record { told = f ∙ rw p; mood = a t l ∙ rw p; element = refl; component = refl }
+    : (y : Syntax) (w e c m : ℕ) (t : List ℕ) (r : Row) (n fault m′ : ℕ) → r ≡ getD (elementIn w .rows) c unused → fault ≡ moodFault y (moodOf m) r t
+    → MoodAfter n m r m′ → n ≡ length t → PassedRow y w e c m t fault e c w m′
+row-passed y w e c m t r n fault m′ p f a l = record { told = f ∙ rw p; mood = a t l ∙ rw p; element = refl; component = refl; word = refl }
+
+-- before a component, by the test of its number
+module _ (c fault : ℕ) where
+  pub left-further : 0 < c → 0 ≡ leftFault c fault
+  left-further h = go c h
+    where
+      go : (i : ℕ) → 0 < i → 0 ≡ leftFault i fault
+      go zero h = absurd (omega arith)
+      go (suc i) h = refl
+
+  pub left-first : c ≤ 0 → fault ≡ leftFault c fault
+  left-first h =
+      let z : c ≡ 0 = omega arith in
+      rw z
+
+module _ (c : ℕ) (m : Mood) (k : Composite) where
+  pub entered-further : 0 < c → m ≡ entered c m k
+  entered-further h = go c h
+    where
+      go : (i : ℕ) → 0 < i → m ≡ entered i m k
+      go zero h = absurd (omega arith)
+      go (suc i) h = refl
+
+  pub entered-first : c ≤ 0 → opened k ≡ entered c m k
+  entered-first h =
+      let z : c ≡ 0 = omega arith in
+      rw z
+
+-- the pass stands in the element, so that its word is known
+pub known-word : (page : Page) (w e i : ℕ) → ElementWord w (elementOf page i) → e ≡ i → ElementWord w (elementOf page e)
+known-word page w e i v h = rw h v
 
 module _ (y : Syntax) (page : Page) where
   module _ (d : List ℕ) (e₀ c₀ m₀ e c a b : ℕ) where
@@ -48,41 +79,48 @@ module _ (y : Syntax) (page : Page) where
     pub passed-tag : e ≡ 0 → (fault : ℕ) → fault ≡ 0 → Passed y page e₀ c₀ m₀ here fault e₀ c₀ m₀
     passed-tag h fault z ks = walk-tag y page e₀ (c₀ + 1) (moodOf m₀) here ks h ∙ or-second fault _ (omega arith)
 
-    module _ (z : e ≡ 0 → ⊥) where
-      pub passed-ended : (fault e′ c′ m′ : ℕ) → c ≤ 0 → fault ≡ endFault (moodOf m₀) (drop (c₀ + 1) (elementOf page e₀ .rows)) → 0 < fault → Passed y page e₀ c₀ m₀ here fault e′ c′ m′
-      passed-ended fault e′ c′ m′ h p l ks =
-          let k = opened (elementOf page e) in
-          let t = plain y false (part a b d) in
-          let x = orElse (moodFault y k (rowOf page e c) t) (walkFault y page e (c + 1) (moodAfter k (rowOf page e c) t) ks) in
-          walk-enter y page e₀ (c₀ + 1) (moodOf m₀) here ks z (omega arith)
-          ∙ ap (λ (f : ℕ). orElse f x) (sym p)
-          ∙ sym (or-first fault x l)
-          ∙ or-first fault (walkFault y page e′ (c′ + 1) (moodOf m′) ks) l
+    module _ (z : e ≡ 0 → ⊥) (f : ℕ) (p : f ≡ leftFault c (endFault (moodOf m₀) (drop (c₀ + 1) (elementOf page e₀ .rows)))) where
+      ended : c ≡ 0 → f ≡ endFault (moodOf m₀) (drop (c₀ + 1) (elementOf page e₀ .rows))
+      ended h = p ∙ ap (λ (n : ℕ). leftFault n (endFault (moodOf m₀) (drop (c₀ + 1) (elementOf page e₀ .rows)))) h
+
+      pub passed-ended : (e′ c′ m′ : ℕ) → 0 < f → Passed y page e₀ c₀ m₀ here f e′ c′ m′
+      passed-ended e′ c′ m′ l ks = go c refl
+        where
+          go : (i : ℕ) → c ≡ i → walkFault y page e₀ (c₀ + 1) (moodOf m₀) (here ∷ ks) ≡ orElse f (walkFault y page e′ (c′ + 1) (moodOf m′) ks)
+          go zero h =
+              let k = opened (elementOf page e) in
+              let t = plain y false (part a b d) in
+              let x = orElse (moodFault y k (rowOf page e c) t) (walkFault y page e (c + 1) (moodAfter k (rowOf page e c) t) ks) in
+              walk-enter y page e₀ (c₀ + 1) (moodOf m₀) here ks z h
+              ∙ ap (λ (g : ℕ). orElse g x) (sym (ended h))
+              ∙ sym (or-first f x l)
+              ∙ or-first f (walkFault y page e′ (c′ + 1) (moodOf m′) ks) l
+          go (suc i) h = absurd (omega (arith, p ∙ ap (λ (n : ℕ). leftFault n (endFault (moodOf m₀) (drop (c₀ + 1) (elementOf page e₀ .rows)))) h))
 
       -- its element has the word w
-      module _ (w : ℕ) (v : ElementWord w (elementOf page e)) where
+      module _ (w : ℕ) (v : ElementWord w (elementOf page e)) (m fault e′ c′ w′ m′ : ℕ) (r : PassedRow y w e c m (decoded y a b d) fault e′ c′ w′ m′) where
+        -- and so has the one where the pass stands then
+        pub word-after : ElementWord w′ (elementOf page e′)
+        word-after = rw (r .word, r .element) v
+
         row-here : getD (elementIn w .rows) c unused ≡ rowOf page e c
         unfolding rowOf
         row-here = rw (v .element)
 
-        pub passed-further
-            : (fault e′ c′ m′ : ℕ) → 0 < c → PassedRow y (getD (elementIn w .rows) c unused) e c m₀ (decoded y a b d) fault e′ c′ m′
-            → Passed y page e₀ c₀ m₀ here fault e′ c′ m′
+        pub passed-on : f ≤ 0 → moodOf m ≡ entered c (moodOf m₀) (elementIn w) → Passed y page e₀ c₀ m₀ here fault e′ c′ m′
         unfolding decoded
-        passed-further fault e′ c′ m′ h p ks =
-            walk-further y page e₀ (c₀ + 1) (moodOf m₀) here ks z (λ q. omega arith)
-            ∙ rw (← row-here, p .told, p .mood, p .element, p .component)
-
-        pub passed-entered
-            : (f m fault e′ c′ m′ : ℕ) → c ≤ 0 → f ≡ endFault (moodOf m₀) (drop (c₀ + 1) (elementOf page e₀ .rows)) → f ≤ 0
-            → moodOf m ≡ opened (elementIn w) → PassedRow y (getD (elementIn w .rows) c unused) e c m (decoded y a b d) fault e′ c′ m′
-            → Passed y page e₀ c₀ m₀ here fault e′ c′ m′
-        unfolding decoded
-        passed-entered f m fault e′ c′ m′ h p l o r ks =
-            let q : f ≡ 0 = omega arith in
-            let u : opened (elementOf page e) ≡ moodOf m = ap opened (sym (v .element)) ∙ sym o in
-            walk-enter y page e₀ (c₀ + 1) (moodOf m₀) here ks z (omega arith)
-            ∙ rw (sym p ∙ q, u, ← row-here, r .told, r .mood, r .element, r .component)
+        passed-on l o ks = go c refl
+          where
+            go : (i : ℕ) → c ≡ i → walkFault y page e₀ (c₀ + 1) (moodOf m₀) (here ∷ ks) ≡ orElse fault (walkFault y page e′ (c′ + 1) (moodOf m′) ks)
+            go zero h =
+                let q : endFault (moodOf m₀) (drop (c₀ + 1) (elementOf page e₀ .rows)) ≡ 0 = sym (ended h) ∙ omega arith in
+                let u : opened (elementOf page e) ≡ moodOf m = ap opened (sym (v .element)) ∙ sym (o ∙ rw h) in
+                walk-enter y page e₀ (c₀ + 1) (moodOf m₀) here ks z h
+                ∙ rw (q, u, ← row-here, r .told, r .mood, r .element, r .component)
+            go (suc i) h =
+                let u : moodOf m₀ ≡ moodOf m = sym (o ∙ rw h) in
+                walk-further y page e₀ (c₀ + 1) (moodOf m₀) here ks z (λ q. omega arith)
+                ∙ rw (u, ← row-here, r .told, r .mood, r .element, r .component)
 
   -- no component is left
   pub passed-all

@@ -2,7 +2,7 @@
 use crate::keys::key_of;
 use crate::words::code_word;
 use cut::Syntax;
-ghost use Prim.Native.Nat.{_-_, _≤_};
+ghost use Prim.Native.Nat.{_-_};
 ghost use mathlib.Core.Path.{_≡_};
 ghost use mathlib.Core.List.{[]};
 ghost use lib.ListN.{length};

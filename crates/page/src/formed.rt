@@ -3,7 +3,7 @@ use crate::coded::listed;
 use cut::Syntax;
 use element::Format;
 use element::fits;
-ghost use Prim.Native.Nat.{_<_};
+ghost use Prim.Native.Nat.{_/_, _%_, _≤_, _<_};
 ghost use mathlib.Core.Path.{_≡_};
 ghost use mathlib.Core.Bool.{false, _&&_};
 ghost use lib.ListN.{length};
@@ -20,23 +20,32 @@ pub(crate) fn is_must(row: usize) -> bool
     2 <= row / 65536 % 4
 }
 
+// The format of a row for numbers.
+fn number_format(row: usize) -> Format
+    requires { ⌜ 2 ≤ row / 262144 % 4 ⌝ }
+    ensures { λ r. ⌜ r ≡ formatIn row ⌝ }
+{
+    let size = row / 1048576;
+    if row / 262144 % 4 == 2 {
+        return Format::NUpTo(size);
+    }
+    Format::N(size)
+}
+
 // Whether a component that is not empty has its row's format.
 fn is_formed(y: Syntax, d: &[u8], a: usize, b: usize, n: usize, row: usize) -> bool
     requires { ⌜ (n ≡ length (decoded y a b (now d))) × (0 < n) ⌝ }
     ensures { λ r. ⌜ r ≡ fitsFormat y (formatIn row) (decoded y a b (now (d .entry))) ⌝ }
 {
     let kind = row / 262144 % 4;
+    if 2 <= kind {
+        return fits(y, d, a, b, number_format(row));
+    }
     let size = row / 1048576;
     if kind == 0 {
         return n <= size;
     }
-    if kind == 1 {
-        return n == size;
-    }
-    if kind == 2 {
-        return fits(y, d, a, b, Format::NUpTo(size));
-    }
-    fits(y, d, a, b, Format::N(size))
+    n == size
 }
 
 // The fault of a component that is not empty.
@@ -47,10 +56,12 @@ fn filled_fault(y: Syntax, d: &[u8], a: usize, b: usize, n: usize, row: usize) -
     if row / 65536 % 4 == 0 {
         return 18;
     }
-    if !is_formed(y, d, a, b, n, row) {
+    let fitting = is_formed(y, d, a, b, n, row);
+    let known = listed(y, d, a, b, n, row);
+    if !fitting {
         return 19;
     }
-    if !listed(y, d, a, b, n, row) {
+    if !known {
         return 20;
     }
     0

@@ -10,22 +10,23 @@ use element::Visit;
 use element::plain_length;
 ghost use Prim.Native.Nat.{_+_};
 ghost use mathlib.Core.Path.{_≡_};
-ghost use lib.ListN.{length, getD, drop};
+ghost use lib.ListN.{length, drop};
 ghost use Rattle.cut.specs.Bytes.{part};
 ghost use Rattle.element.specs.Plain.{decoded};
-ghost use Rattle.guide.specs.Page.{unused, elementOf};
+ghost use Rattle.guide.specs.Page.{elementOf};
 ghost use Rattle.guide.specs.Pages20d.{pageOf};
 ghost use Rattle.guide.specs.PageFault.{pageFault};
 ghost use Rattle.guide.specs.Choices.{orElse};
 ghost use Rattle.guide.proofs.PageFace.{opened, moodFault, endFault, absentFault};
-ghost use Rattle.page.specs.PageWalk.{moodOf, MoodAfter, Passed, PassedRow};
-ghost use Rattle.page.specs.PageWords.{rowIn, elementIn};
+ghost use Rattle.page.specs.PageWalk.{moodOf, entered, MoodAfter, EndFault, LeftFault, Passed, PassedRow};
+ghost use Rattle.page.specs.PageWords.{rowIn, elementIn, ElementWord};
 
-// Where the pass stands: the component that it passed last, the mood of its element (0 idle, 1 asking, 2 owing), and the fault, if any.
+// Where the pass stands: the component that it passed last, the word of its element and its mood (0 idle, 1 asking, 2 owing), and the fault, if any.
 struct Pass {
     fault: u32,
     element: usize,
     component: usize,
+    word: usize,
     mood: usize,
 }
 
@@ -39,24 +40,35 @@ fn absent(node: usize, e: usize) -> u32
     0
 }
 
-// The mood of the element that has a word before its first component.
-fn opening(element: usize) -> usize
-    ensures { λ r. ⌜ moodOf r ≡ opened (elementIn element) ⌝ }
+// The word of element e, which is known where the pass stands in it.
+fn word_of(node: usize, at: Pass, e: usize) -> usize
+    requires { ⌜ ElementWord (at .word) (elementOf (pageOf node) (at .element)) ⌝ }
+    ensures { λ r. ⌜ ElementWord r (elementOf (pageOf node) e) ⌝ }
 {
-    if element / 1048576 == 1 {
+    if e == at.element {
+        return at.word;
+    }
+    element_at(node, e)
+}
+
+// The mood of the element that has a word before its first component.
+fn opening(word: usize) -> usize
+    ensures { λ r. ⌜ moodOf r ≡ opened (elementIn word) ⌝ }
+{
+    if word / 1048576 == 1 {
         return 1;
     }
     0
 }
 
-// The fault that is known where element e ends behind component c.
-fn ending(node: usize, e: usize, c: usize, mood: usize) -> u32
-    ensures { λ r. ⌜ r ≡ endFault (moodOf mood) (drop (c + 1) (elementOf (pageOf node) e .rows)) ⌝ }
+// The fault that is known where the element that has a word ends behind component c.
+fn ending(word: usize, c: usize, mood: usize) -> u32
+    ensures { λ r. ⌜ EndFault word c mood r ⌝ }
 {
     if mood != 1 {
         return 0;
     }
-    let must = element_at(node, e) / 32768 % 32;
+    let must = word / 32768 % 32;
     if must <= c {
         return 0;
     }
@@ -64,6 +76,26 @@ fn ending(node: usize, e: usize, c: usize, mood: usize) -> u32
         return 17;
     }
     0
+}
+
+// The fault that is known before component c of an element: the first ends the element before it.
+fn left_fault(at: Pass, c: usize) -> u32
+    ensures { λ r. ⌜ LeftFault (at .word) (at .component) (at .mood) c r ⌝ }
+{
+    if 0 < c {
+        return 0;
+    }
+    ending(at.word, at.component, at.mood)
+}
+
+// The mood before component c of the element that has a word, where the component before it left the given mood.
+fn entering(word: usize, c: usize, mood: usize) -> usize
+    ensures { λ r. ⌜ moodOf r ≡ entered c (moodOf mood) (elementIn word) ⌝ }
+{
+    if 0 < c {
+        return mood;
+    }
+    opening(word)
 }
 
 // The fault that is known at a component of n bytes.
@@ -102,14 +134,14 @@ fn pass_row(
     d: &[u8],
     a: usize,
     b: usize,
-    element: usize,
+    word: usize,
     e: usize,
     c: usize,
     mood: usize,
 ) -> Pass
-    ensures { λ r. ⌜ PassedRow y (getD (elementIn element .rows) c unused) e c mood (decoded y a b (now (d .entry))) (r .fault) (r .element) (r .component) (r .mood) ⌝ }
+    ensures { λ r. ⌜ PassedRow y word e c mood (decoded y a b (now (d .entry))) (r .fault) (r .element) (r .component) (r .word) (r .mood) ⌝ }
 {
-    let row = row_at(element, c);
+    let row = row_at(word, c);
     let n = plain_length(y, d, a, b);
     let fault = known_fault(y, d, a, b, n, row, mood);
     let after = mood_after(n, row, mood);
@@ -117,6 +149,7 @@ fn pass_row(
         fault,
         element: e,
         component: c,
+        word,
         mood: after,
     }
 }
@@ -132,33 +165,33 @@ fn pass_component(
     e: usize,
     c: usize,
 ) -> Pass
-    requires { ⌜ at .fault ≡ 0 ⌝ }
+    requires { ⌜ (at .fault ≡ 0) × ElementWord (at .word) (elementOf (pageOf node) (at .element)) ⌝ }
     ensures { λ r. ⌜ Passed y (pageOf node) (at .element) (at .component) (at .mood) (record { element = e; component = c; start = a; bytes = part a b (now (d .entry)) }) (r .fault) (r .element) (r .component) (r .mood) ⌝ }
+    ensures { λ r. ⌜ ElementWord (r .word) (elementOf (pageOf node) (r .element)) ⌝ }
 {
     if e == 0 {
         return at;
     }
-    let element = element_at(node, e);
-    if 0 < c {
-        return pass_row(y, d, a, b, element, e, c, at.mood);
-    }
-    let fault = ending(node, at.element, at.component, at.mood);
+    let word = word_of(node, at, e);
+    let fault = left_fault(at, c);
     if 0 < fault {
         return Pass {
             fault,
             element: e,
             component: c,
+            word,
             mood: 0,
         };
     }
-    pass_row(y, d, a, b, element, e, c, opening(element))
+    pass_row(y, d, a, b, word, e, c, entering(word, c, at.mood))
 }
 
 // The fault that is known where no component is left.
 fn last_fault(node: usize, at: Pass) -> u32
+    requires { ⌜ ElementWord (at .word) (elementOf (pageOf node) (at .element)) ⌝ }
     ensures { λ r. ⌜ r ≡ orElse (endFault (moodOf (at .mood)) (drop (at .component + 1) (elementOf (pageOf node) (at .element) .rows))) (absentFault (drop (at .element) (pageOf node))) ⌝ }
 {
-    let fault = ending(node, at.element, at.component, at.mood);
+    let fault = ending(at.word, at.component, at.mood);
     if 0 < fault {
         return fault;
     }
@@ -174,6 +207,7 @@ pub fn page_fault(y: Syntax, node: usize, d: &[u8], start: usize, end: usize) ->
         fault: 0,
         element: 0,
         component: 0,
+        word: 0,
         mood: 0,
     };
     loop {

@@ -1,28 +1,30 @@
 -- `page::formed::is_formed` meets its contract: each return by the kind.
-use mathlib.Core.Path.{_∙_}
-use Rattle.page.proofs.PageFaults.{formed-up-to, formed-exactly, formed-digits, formed-number}
+use mathlib.Core.Path.{ap, _∙_}
+use Rattle.element.specs.declared.formats.Format.{Format}
+use Rattle.element.specs.Format.{fitsFormat}
+use Rattle.element.specs.Plain.{decoded}
+use Rattle.page.proofs.PageFaults.{formed-up-to, formed-exactly}
 use borrow.Author.Needs.{needs}
 use Rattle.page.proofs.formed.is_formed.Statement.{statement}
 use Rattle.page.proofs.formed.is_formed.Tie as tie
 
-returns : tie.Need-returns
-returns c = formed-up-to _ _ _ _ (c .before .before .pre .0) (c .before .before .pre .1) (c .if1 .taken)
-
-returns-2 : tie.Need-returns-2
-returns-2 c = formed-exactly _ _ _ _ (c .before .before .before .pre .0) (c .if2 .taken)
+number-format-requires : tie.Need-number-format-requires
+number-format-requires c κs = search needs
 
 fits-requires : tie.Need-fits-requires
 fits-requires c κs = search needs
 
+returns : tie.Need-returns
+returns c =
+    let a = c .before .before .before .before .args in
+    c .fits2 .ensures ∙ ap (λ (f : Format). fitsFormat (a .y) f (decoded (a .y) (a .a) (a .b) (a .d .now))) (c .before .number-format .ensures)
+
+returns-2 : tie.Need-returns-2
+returns-2 c = formed-up-to _ _ _ _ (c .before .before .before .pre .0) (c .before .before .before .pre .1) (c .if2 .taken)
+
 returns-3 : tie.Need-returns-3
-returns-3 c = c .fits2 .ensures ∙ formed-digits _ _ _ (c .before .if3 .taken)
-
-fits-requires-2 : tie.Need-fits-requires-2
-fits-requires-2 c κs = search needs
-
-returns-4 : tie.Need-returns-4
-returns-4 c = c .fits3 .ensures ∙ formed-number _ _ _ (c .before .before .before .if1 .left) (c .before .before .if2 .left) (c .before .if3 .left)
+returns-3 c = formed-exactly _ _ _ _ (c .before .before .before .pre .0) (c .before .if1 .left) (c .if2 .left)
 
 pub is-formed-spec : {M : Type 1} → statement M
 is-formed-spec =
-    tie.close (tie.spec returns returns-2 fits-requires returns-3 fits-requires-2 returns-4)
+    tie.close (tie.spec number-format-requires fits-requires returns returns-2 returns-3)

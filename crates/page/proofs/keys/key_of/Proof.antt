@@ -1,6 +1,5 @@
 -- `page::keys::key_of` meets its contract: too long, none, without and with a release mark.
 use native.Mathlib.Omega.{arith}
-use mathlib.Core.Path.{sym, _∙_}
 use Rattle.page.proofs.KeyNumbers.{key-long, key-none, key-plain, key-copied}
 use borrow.Author.Needs.{needs}
 use Rattle.page.proofs.keys.key_of.Statement.{statement}

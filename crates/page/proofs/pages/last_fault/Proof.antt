@@ -13,13 +13,13 @@ ending-requires c κs = search needs
 returns : tie.Need-returns
 returns c =
     let a = c .before .before .args in
-    first-told _ _ (absentFault (drop (a .at .element) (pageOf (a .node)))) (c .before .ending .ensures) (c .if1 .taken)
+    first-told _ _ (absentFault (drop (a .at .element) (pageOf (a .node)))) (c .before .ending .ensures _ (c .before .before .pre)) (c .if1 .taken)
 
 absent-requires : tie.Need-absent-requires
 absent-requires c κs = search needs
 
 returns-2 : tie.Need-returns-2
-returns-2 c = second-told _ _ _ _ (c .before .before .ending .ensures) (c .before .if1 .left) (c .absent .ensures)
+returns-2 c = second-told _ _ _ _ (c .before .before .ending .ensures _ (c .before .before .before .pre)) (c .before .if1 .left) (c .absent .ensures)
 
 pub last-fault-spec : {M : Type 1} → statement M
 last-fault-spec = tie.close (tie.spec ending-requires returns absent-requires returns-2)

@@ -7,10 +7,13 @@ use lib.ListN.{length}
 use Rattle.cut.specs.Bytes.{part}
 use Rattle.element.specs.Cursors.{rest}
 use Rattle.element.proofs.ComponentFace.{Visited, visited, nothing-left, rest-new, step-less}
+use Rattle.guide.specs.Page.{elementOf}
 use Rattle.guide.specs.Pages20d.{pageOf}
 use Rattle.guide.specs.PageFault.{pageFault}
 use Rattle.guide.proofs.PageFace.{walkFault}
 use Rattle.page.specs.PageWalk.{moodOf}
+use Rattle.page.specs.PageWords.{ElementWord}
+use Rattle.page.proofs.PageLookup.{element-tag}
 use Rattle.page.proofs.PageSteps.{no-fault, passed-all, passed-none, pass-stops, pass-goes}
 use Rattle.page.proofs.pages.page_fault.Statement.{statement}
 use Rattle.page.proofs.pages.page_fault.Tie as tie
@@ -19,6 +22,7 @@ abbrev Inv-loop : tie.InvT-loop
 Inv-loop y node d start end cursor₀ at₀ cursor at =
     (at .fault ≡ 0)
     × (walkFault y (pageOf node) (at .element) (at .component + 1) (moodOf (at .mood)) (rest y d cursor) ≡ pageFault y (pageOf node) (part start end d))
+    × ElementWord (at .word) (elementOf (pageOf node) (at .element))
 
 abbrev μ-loop : tie.MeasureT-loop
 μ-loop y node d start end cursor₀ at₀ cursor at = length (rest y d cursor)
@@ -34,7 +38,7 @@ new-requires : tie.Need-new-requires Inv-loop μ-loop
 new-requires c κs = search needs
 
 loop-holds : tie.Need-loop-holds Inv-loop μ-loop
-loop-holds c = (refl, passed-none _ _ _ _ _ (rest-new _ _ _ _ _ (c .new .ensures)))
+loop-holds c = (refl, passed-none _ _ _ _ _ (rest-new _ _ _ _ _ (c .new .ensures)), element-tag _ 0 refl)
 
 step-requires : tie.Need-step-requires Inv-loop μ-loop
 step-requires c κs = search needs
@@ -46,7 +50,7 @@ enum-told : tie.Need-enum-told Inv-loop μ-loop
 enum-told c = search needs
 
 last-fault-requires : tie.Need-last-fault-requires Inv-loop μ-loop
-last-fault-requires c κs = search needs
+last-fault-requires c κs = c .before .before .before .loop .inv .2
 
 returns : tie.Need-returns Inv-loop μ-loop
 returns c =
@@ -54,20 +58,23 @@ returns c =
     c .last-fault .ensures ∙ sym (passed-all _ _ _ _ (c .before .before .before .before .loop .at .mood) _ l) ∙ c .before .before .before .before .loop .inv .1
 
 pass-component-requires : tie.Need-pass-component-requires Inv-loop μ-loop
-pass-component-requires c κs = c .before .before .before .before .loop .inv .0
+pass-component-requires c κs = (c .before .before .before .before .loop .inv .0, c .before .before .before .before .loop .inv .2)
 
 returns-2 : tie.Need-returns-2 Inv-loop μ-loop
 returns-2 c =
     let t = c .before .before .before in
-    sym (pass-stops _ _ _ _ (c .before .before .before .before .before .before .before .loop .at .mood) _ _ _ (c .before .before .pass-component .result .mood) _ _ _ (c .before .before .pass-component .ensures) (took t .list) (omega arith)) ∙ c .before .before .before .before .before .before .before .loop .inv .1
+    sym (pass-stops _ _ _ _ (c .before .before .before .before .before .before .before .loop .at .mood) _ _ _ (c .before .before .pass-component .result .mood) _ _ _ (c .before .before .pass-component .ensures .0) (took t .list) (omega arith)) ∙ c .before .before .before .before .before .before .before .loop .inv .1
 
 loop-less : tie.Need-loop-less Inv-loop μ-loop
 loop-less c = step-less _ _ _ _ _ _ _ _ (took (c .before .before .before))
 
 loop-again : tie.Need-loop-again Inv-loop μ-loop
 loop-again c =
-    let t = c .before .before .before in
-    (no-fault _ (c .if1 .left), sym (pass-goes _ _ _ _ (c .before .before .before .before .before .before .before .loop .at .mood) _ _ _ (c .before .before .pass-component .result .mood) _ _ _ (c .before .before .pass-component .ensures) (took t .list) (c .if1 .left)) ∙ c .before .before .before .before .before .before .before .loop .inv .1)
+    let t = c .before .before .before in (
+      no-fault _ (c .if1 .left),
+      sym (pass-goes _ _ _ _ (c .before .before .before .before .before .before .before .loop .at .mood) _ _ _ (c .before .before .pass-component .result .mood) _ _ _ (c .before .before .pass-component .ensures .0) (took t .list) (c .if1 .left)) ∙ c .before .before .before .before .before .before .before .loop .inv .1,
+      c .before .before .pass-component .ensures .1,
+    )
 
 pub page-fault-spec : {M : Type 1} → statement M
 page-fault-spec =

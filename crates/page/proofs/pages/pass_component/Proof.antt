@@ -1,6 +1,6 @@
--- `page::pages::pass_component` meets its contract: each return is one of the four steps of the pass.
+-- `page::pages::pass_component` meets its contract: each return is one of the three steps of the pass.
 use Rattle.guide.specs.Pages20d.{pageOf}
-use Rattle.page.proofs.PageSteps.{passed-tag, passed-further, passed-ended, passed-entered}
+use Rattle.page.proofs.PageSteps.{passed-tag, passed-ended, word-after, passed-on}
 use borrow.Author.Needs.{needs}
 use Rattle.page.proofs.pages.pass_component.Statement.{statement}
 use Rattle.page.proofs.pages.pass_component.Tie as tie
@@ -8,49 +8,44 @@ use Rattle.page.proofs.pages.pass_component.Tie as tie
 returns : tie.Need-returns
 returns c =
     let a = c .before .before .args in
-    passed-tag (a .y) (pageOf (a .node)) (a .d .now) (a .at .element) (a .at .component) (a .at .mood) (a .e) (a .c) (a .a) (a .b) (c .if1 .taken) _ (c .before .before .pre)
+    (passed-tag (a .y) (pageOf (a .node)) (a .d .now) (a .at .element) (a .at .component) (a .at .mood) (a .e) (a .c) (a .a) (a .b) (c .if1 .taken) _ (c .before .before .pre .0), c .before .before .pre .1)
 
-element-at-requires : tie.Need-element-at-requires
-element-at-requires c κs = search needs
+word-of-requires : tie.Need-word-of-requires
+word-of-requires c κs = c .before .before .pre .1
+
+left-fault-requires : tie.Need-left-fault-requires
+left-fault-requires c κs = search needs
+
+returns-2 : tie.Need-returns-2
+returns-2 c =
+    let start = c .before .before .before .before .before in
+    let a = start .args in
+    (passed-ended (a .y) (pageOf (a .node)) (a .d .now) (a .at .element) (a .at .component) (a .at .mood) (a .e) (a .c) (a .a) (a .b) (c .before .before .before .if1 .left) _ (c .before .left-fault .ensures _ (start .pre .1)) _ _ 0 (c .if2 .taken), c .before .before .word-of .ensures)
+
+entering-requires : tie.Need-entering-requires
+entering-requires c κs = search needs
 
 pass-row-requires : tie.Need-pass-row-requires
 pass-row-requires c κs = search needs
 
-returns-2 : tie.Need-returns-2
-returns-2 c =
-    let a = c .before .before .before .before .before .args in
-    passed-further (a .y) (pageOf (a .node)) (a .d .now) (a .at .element) (a .at .component) (a .at .mood) (a .e) (a .c) (a .a) (a .b) (c .before .before .before .if1 .left) _ (c .before .before .element-at .ensures) _ _ _ _ (c .before .if2 .taken) (c .pass-row .ensures)
-
-ending-requires : tie.Need-ending-requires
-ending-requires c κs = search needs
-
 returns-3 : tie.Need-returns-3
 returns-3 c =
-    let a = c .before .before .before .before .before .before .args in
-    passed-ended (a .y) (pageOf (a .node)) (a .d .now) (a .at .element) (a .at .component) (a .at .mood) (a .e) (a .c) (a .a) (a .b) (c .before .before .before .before .if1 .left) _ _ _ 0 (c .before .before .if2 .left) (c .before .ending .ensures) (c .if3 .taken)
-
-opening-requires : tie.Need-opening-requires
-opening-requires c κs = search needs
-
-pass-row-requires-2 : tie.Need-pass-row-requires-2
-pass-row-requires-2 c κs = search needs
-
-returns-4 : tie.Need-returns-4
-returns-4 c =
-    let a = c .before .before .before .before .before .before .before .before .args in
-    passed-entered (a .y) (pageOf (a .node)) (a .d .now) (a .at .element) (a .at .component) (a .at .mood) (a .e) (a .c) (a .a) (a .b) (c .before .before .before .before .before .before .if1 .left) _ (c .before .before .before .before .before .element-at .ensures) _ _ _ _ _ _ (c .before .before .before .before .if2 .left)
-    (c .before .before .before .ending .ensures) (c .before .before .if3 .left) (c .before .opening .ensures) (c .pass-row2 .ensures)
+    let start = c .before .before .before .before .before .before .before in
+    let a = start .args in
+    let f = c .before .before .before .left-fault .ensures _ (start .pre .1) in
+    let w = c .before .before .before .before .word-of .ensures in (
+      passed-on (a .y) (pageOf (a .node)) (a .d .now) (a .at .element) (a .at .component) (a .at .mood) (a .e) (a .c) (a .a) (a .b) (c .before .before .before .before .before .if1 .left) _ f _ w _ _ _ _ _ _ (c .pass-row .ensures) (c .before .before .if2 .left) (c .before .entering .ensures),
+      word-after (a .y) (pageOf (a .node)) (a .d .now) (a .at .element) (a .at .component) (a .at .mood) (a .e) (a .c) (a .a) (a .b) (c .before .before .before .before .before .if1 .left) _ f _ w _ _ _ _ _ _ (c .pass-row .ensures),
+    )
 
 pub pass-component-spec : {M : Type 1} → statement M
 pass-component-spec =
     tie.close
     (tie.spec
     returns
-    element-at-requires
-    pass-row-requires
+    word-of-requires
+    left-fault-requires
     returns-2
-    ending-requires
-    returns-3
-    opening-requires
-    pass-row-requires-2
-    returns-4)
+    entering-requires
+    pass-row-requires
+    returns-3)

@@ -1,5 +1,4 @@
 -- `page::pages::pass_row` meets its contract: the row by its word.
-use mathlib.Core.Path.{_∙_}
 use Rattle.page.proofs.PageSteps.{row-passed}
 use borrow.Author.Needs.{needs}
 use Rattle.page.proofs.pages.pass_row.Statement.{statement}

@@ -1,124 +1,96 @@
--- `page::words::node_word` meets its contract: each arm by computation.
+-- `page::words::node_word` meets its contract: each arm is a cell of the table.
 use mathlib.Core.List.{[]}
 use mathlib.Core.Path.{refl}
 use Rattle.guide.specs.Pages20d.{pages20d, pageOf}
-use Rattle.guide.proofs.PageFace.{isMust, anyMust}
-use Rattle.page.specs.PageColumns.{joined, allElements}
-use Rattle.page.specs.PageWords.{span, reach, lacking, pageIn}
+use Rattle.page.specs.PageWords.{span, reach, pageIn}
 use Rattle.page.proofs.PageTables.{past-all}
+use Rattle.page.proofs.PageCells.{node-arm}
 use Rattle.page.proofs.words.node_word.Statement.{statement}
 use Rattle.page.proofs.words.node_word.Tie as tie
 
 returns : tie.Need-returns
-unfolding pages20d pageOf isMust anyMust joined allElements span reach lacking pageIn
-returns c = rw (c .match .keys1) (record { page = refl; reach = refl })
+returns c = node-arm 0 _ (c .match .keys1)
 
 returns-2 : tie.Need-returns-2
-unfolding pages20d pageOf isMust anyMust joined allElements span reach lacking pageIn
-returns-2 c = rw (c .match .keys2) (record { page = refl; reach = refl })
+returns-2 c = node-arm 1 _ (c .match .keys2)
 
 returns-3 : tie.Need-returns-3
-unfolding pages20d pageOf isMust anyMust joined allElements span reach lacking pageIn
-returns-3 c = rw (c .match .keys3) (record { page = refl; reach = refl })
+returns-3 c = node-arm 2 _ (c .match .keys3)
 
 returns-4 : tie.Need-returns-4
-unfolding pages20d pageOf isMust anyMust joined allElements span reach lacking pageIn
-returns-4 c = rw (c .match .keys4) (record { page = refl; reach = refl })
+returns-4 c = node-arm 3 _ (c .match .keys4)
 
 returns-5 : tie.Need-returns-5
-unfolding pages20d pageOf isMust anyMust joined allElements span reach lacking pageIn
-returns-5 c = rw (c .match .keys5) (record { page = refl; reach = refl })
+returns-5 c = node-arm 4 _ (c .match .keys5)
 
 returns-6 : tie.Need-returns-6
-unfolding pages20d pageOf isMust anyMust joined allElements span reach lacking pageIn
-returns-6 c = rw (c .match .keys6) (record { page = refl; reach = refl })
+returns-6 c = node-arm 5 _ (c .match .keys6)
 
 returns-7 : tie.Need-returns-7
-unfolding pages20d pageOf isMust anyMust joined allElements span reach lacking pageIn
-returns-7 c = rw (c .match .keys7) (record { page = refl; reach = refl })
+returns-7 c = node-arm 6 _ (c .match .keys7)
 
 returns-8 : tie.Need-returns-8
-unfolding pages20d pageOf isMust anyMust joined allElements span reach lacking pageIn
-returns-8 c = rw (c .match .keys8) (record { page = refl; reach = refl })
+returns-8 c = node-arm 7 _ (c .match .keys8)
 
 returns-9 : tie.Need-returns-9
-unfolding pages20d pageOf isMust anyMust joined allElements span reach lacking pageIn
-returns-9 c = rw (c .match .keys9) (record { page = refl; reach = refl })
+returns-9 c = node-arm 8 _ (c .match .keys9)
 
 returns-10 : tie.Need-returns-10
-unfolding pages20d pageOf isMust anyMust joined allElements span reach lacking pageIn
-returns-10 c = rw (c .match .keys10) (record { page = refl; reach = refl })
+returns-10 c = node-arm 9 _ (c .match .keys10)
 
 returns-11 : tie.Need-returns-11
-unfolding pages20d pageOf isMust anyMust joined allElements span reach lacking pageIn
-returns-11 c = rw (c .match .keys11) (record { page = refl; reach = refl })
+returns-11 c = node-arm 10 _ (c .match .keys11)
 
 returns-12 : tie.Need-returns-12
-unfolding pages20d pageOf isMust anyMust joined allElements span reach lacking pageIn
-returns-12 c = rw (c .match .keys12) (record { page = refl; reach = refl })
+returns-12 c = node-arm 11 _ (c .match .keys12)
 
 returns-13 : tie.Need-returns-13
-unfolding pages20d pageOf isMust anyMust joined allElements span reach lacking pageIn
-returns-13 c = rw (c .match .keys13) (record { page = refl; reach = refl })
+returns-13 c = node-arm 12 _ (c .match .keys13)
 
 returns-14 : tie.Need-returns-14
-unfolding pages20d pageOf isMust anyMust joined allElements span reach lacking pageIn
-returns-14 c = rw (c .match .keys14) (record { page = refl; reach = refl })
+returns-14 c = node-arm 13 _ (c .match .keys14)
 
 returns-15 : tie.Need-returns-15
-unfolding pages20d pageOf isMust anyMust joined allElements span reach lacking pageIn
-returns-15 c = rw (c .match .keys15) (record { page = refl; reach = refl })
+returns-15 c = node-arm 14 _ (c .match .keys15)
 
 returns-16 : tie.Need-returns-16
-unfolding pages20d pageOf isMust anyMust joined allElements span reach lacking pageIn
-returns-16 c = rw (c .match .keys16) (record { page = refl; reach = refl })
+returns-16 c = node-arm 15 _ (c .match .keys16)
 
 returns-17 : tie.Need-returns-17
-unfolding pages20d pageOf isMust anyMust joined allElements span reach lacking pageIn
-returns-17 c = rw (c .match .keys17) (record { page = refl; reach = refl })
+returns-17 c = node-arm 16 _ (c .match .keys17)
 
 returns-18 : tie.Need-returns-18
-unfolding pages20d pageOf isMust anyMust joined allElements span reach lacking pageIn
-returns-18 c = rw (c .match .keys18) (record { page = refl; reach = refl })
+returns-18 c = node-arm 17 _ (c .match .keys18)
 
 returns-19 : tie.Need-returns-19
-unfolding pages20d pageOf isMust anyMust joined allElements span reach lacking pageIn
-returns-19 c = rw (c .match .keys19) (record { page = refl; reach = refl })
+returns-19 c = node-arm 18 _ (c .match .keys19)
 
 returns-20 : tie.Need-returns-20
-unfolding pages20d pageOf isMust anyMust joined allElements span reach lacking pageIn
-returns-20 c = rw (c .match .keys20) (record { page = refl; reach = refl })
+returns-20 c = node-arm 19 _ (c .match .keys20)
 
 returns-21 : tie.Need-returns-21
-unfolding pages20d pageOf isMust anyMust joined allElements span reach lacking pageIn
-returns-21 c = rw (c .match .keys21) (record { page = refl; reach = refl })
+returns-21 c = node-arm 20 _ (c .match .keys21)
 
 returns-22 : tie.Need-returns-22
-unfolding pages20d pageOf isMust anyMust joined allElements span reach lacking pageIn
-returns-22 c = rw (c .match .keys22) (record { page = refl; reach = refl })
+returns-22 c = node-arm 21 _ (c .match .keys22)
 
 returns-23 : tie.Need-returns-23
-unfolding pages20d pageOf isMust anyMust joined allElements span reach lacking pageIn
-returns-23 c = rw (c .match .keys23) (record { page = refl; reach = refl })
+returns-23 c = node-arm 22 _ (c .match .keys23)
 
 returns-24 : tie.Need-returns-24
-unfolding pages20d pageOf isMust anyMust joined allElements span reach lacking pageIn
-returns-24 c = rw (c .match .keys24) (record { page = refl; reach = refl })
+returns-24 c = node-arm 23 _ (c .match .keys24)
 
 returns-25 : tie.Need-returns-25
-unfolding pages20d pageOf isMust anyMust joined allElements span reach lacking pageIn
-returns-25 c = rw (c .match .keys25) (record { page = refl; reach = refl })
+returns-25 c = node-arm 24 _ (c .match .keys25)
 
 returns-26 : tie.Need-returns-26
-unfolding pages20d pageOf isMust anyMust joined allElements span reach lacking pageIn
-returns-26 c = rw (c .match .keys26) (record { page = refl; reach = refl })
+returns-26 c = node-arm 25 _ (c .match .keys26)
 
 returns-27 : tie.Need-returns-27
-unfolding pages20d pageOf isMust anyMust joined allElements span reach lacking pageIn
-returns-27 c = rw (c .match .keys27) (record { page = refl; reach = refl })
+returns-27 c = node-arm 26 _ (c .match .keys27)
 
 returns-28 : tie.Need-returns-28
-unfolding pages20d pageOf isMust anyMust joined allElements span reach lacking pageIn
+unfolding pages20d pageOf span reach pageIn
 returns-28 c = rw (past-all pages20d [] (c .before .args .n) (c .match .rest)) (record { page = refl; reach = refl })
 
 pub node-word-spec : {M : Type 1} → statement M
