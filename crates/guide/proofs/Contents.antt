@@ -11,7 +11,7 @@ use Rattle.element.specs.declared.formats.Format.{Format}
 use Rattle.element.specs.declared.formats.Format.the-variants.{AnUpTo, NUpTo}
 use Rattle.guide.specs.Page.{Status, must, Row, used, unused, Page, any, elementOf, rowOf}
 use Rattle.guide.specs.Composites.{C212, C509}
-use Rattle.guide.specs.Pages20d.{LIN, PRI}
+use Rattle.guide.specs.PageMakers.{LIN, PRI}
 use Rattle.guide.specs.Content.{text, Empty, Filled, by-status, Holds}
 use Rattle.guide.specs.Nodes.{among}
 use Rattle.guide.proofs.Listing.{begun, among-member, member-among}

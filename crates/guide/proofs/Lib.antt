@@ -19,6 +19,8 @@ pub mod Clearing
 pub mod Face
 pub mod Sheets
 pub mod PageSamples
+pub mod PageSamples20c
+pub mod TwoEditions
 pub mod Scanned
 pub mod Listing
 pub mod PageFaults

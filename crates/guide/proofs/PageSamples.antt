@@ -1,4 +1,4 @@
--- The definitions on the lines of document 01, 'Run and compared', that are about pages, and of the settled readings; by computation.
+-- The pages of 2.0d on the lines of document 01, 'Run and compared', that are about pages, and of the settled readings; by computation.
 use Prim.Native.Nat.{ℕ}
 use Prim.Native.String.{String}
 use mathlib.Core.Path.{_≡_, refl}
@@ -17,7 +17,7 @@ use Rattle.guide.specs.Nodes.{among, chosen}
 use Rattle.guide.specs.PageFault.{firstOf, notUsed, missing, wrongFormat, wrongCode, textFault, componentFault, anyFilled, elementFault, pageFault}
 
 -- the fault of a segment on a page, with the base's service characters
-faultOn : Page → String → ℕ
+unfoldable pub faultOn : Page → String → ℕ
 unfolding
     frees endingOf stays releases before splitFrom elements unlessMark plain same some none isDigit digitsAhead behindDigits minus unsigned
     whole fraction digits isTail isNumber fitsFormat codes simple firstOf among chosen notUsed missing wrongFormat wrongCode
@@ -25,7 +25,7 @@ unfolding
 faultOn page segment = pageFault edifact page (bytesOf segment)
 
 -- at a node of PRICAT 2.0d
-at : ℕ → String → ℕ
+unfoldable pub at : ℕ → String → ℕ
 unfolding faultOn pages20d pageOf
 at node segment = faultOn (pageOf node) segment
 

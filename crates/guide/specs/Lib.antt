@@ -12,7 +12,9 @@ pub mod Columns
 pub mod Links
 pub mod Page
 pub mod Composites
+pub mod PageMakers
 pub mod Pages20d
+pub mod Pages20c
 pub mod Content
 pub mod FirstFault
 pub mod PageFault
