@@ -3,6 +3,7 @@
 //! A wrapper crate implements `plain::Library` for another library and calls `run` with both.
 
 mod stack;
+mod walk;
 mod yardstick;
 
 use std::hint::black_box;
@@ -12,12 +13,14 @@ use generator::{kind, KINDS};
 use plain::Library;
 
 pub use stack::stack_of;
+pub use walk::{walk, ROW};
 pub use yardstick::terminators;
 
 /// The two sizes that are timed.
 const SIZES: [usize; 2] = [131_072, 1_048_576];
 
-/// Each kind at each size: the yardstick, then survey of every library as a multiple of it.
+/// Each kind at each size: the yardstick, then of every library survey and counting segments as multiples of it, and the
+/// way through all messages and prices as a multiple of that library's survey.
 pub fn run(libraries: &[&'static (dyn Library + Sync)], for_each: Duration) {
     for size in SIZES {
         for name in KINDS {
@@ -47,20 +50,59 @@ fn describe(name: &str, d: &[u8], library: &dyn Library) -> String {
 
 /// The rounds go in turn over yardstick and libraries, so that a slow moment of the machine meets all of them.
 fn times(d: &[u8], libraries: &[&'static (dyn Library + Sync)], for_each: Duration) {
+    let outside = without_messages(d);
+    let mut row = vec![0; ROW];
     let mut yardstick = Duration::MAX;
-    let mut best = vec![Duration::MAX; libraries.len()];
+    let mut best = vec![Best::default(); libraries.len()];
     let until = Instant::now() + for_each * (libraries.len() as u32 + 1);
     while Instant::now() < until {
         yardstick = yardstick.min(time(|| ignore(terminators(black_box(d)))));
         for (best, library) in best.iter_mut().zip(libraries) {
-            *best = (*best).min(time(|| ignore(library.survey(black_box(d)))));
+            best.survey = best.survey.min(time(|| ignore(library.survey(black_box(d)))));
+            best.count = best.count.min(time(|| ignore(library.survey(black_box(&outside)))));
+            best.walk = best.walk.min(time(|| ignore(walk(*library, black_box(d), &mut row))));
         }
     }
     println!("  {:<12} {:>9.1} us", "yardstick", micros(yardstick));
     for (best, library) in best.iter().zip(libraries) {
-        let ratio = best.as_secs_f64() / yardstick.as_secs_f64();
-        println!("  {:<12} {:>9.1} us  {ratio:.2} yardsticks", library.name(), micros(*best));
+        println!(
+            "  {:<12} {:>9.1} us  {:.2} yardsticks; counting segments {:.2} yardsticks; all messages and prices {:.2} surveys",
+            library.name(),
+            micros(best.survey),
+            ratio(best.survey, yardstick),
+            ratio(best.count, yardstick),
+            ratio(best.walk, best.survey)
+        );
     }
+}
+
+/// The shortest times of one library.
+#[derive(Clone)]
+struct Best {
+    survey: Duration,
+    count: Duration,
+    walk: Duration,
+}
+
+impl Default for Best {
+    fn default() -> Best {
+        Best { survey: Duration::MAX, count: Duration::MAX, walk: Duration::MAX }
+    }
+}
+
+/// The same bytes without any UNH: all segments lie outside, and survey does nothing but count them.
+fn without_messages(d: &[u8]) -> Vec<u8> {
+    let mut d = d.to_vec();
+    for at in 2..d.len() {
+        if &d[at - 2..=at] == b"UNH" {
+            d[at] = b'X';
+        }
+    }
+    d
+}
+
+fn ratio(time: Duration, other: Duration) -> f64 {
+    time.as_secs_f64() / other.as_secs_f64()
 }
 
 /// The answer is wanted, as far as the compiler knows.
