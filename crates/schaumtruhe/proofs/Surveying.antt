@@ -3,7 +3,7 @@ use Prim.Native.Nat.{ℕ, zero, suc, _+_, _≤_, _<_}
 use mathlib.Core.Bool.{false}
 use mathlib.Core.Path.{_≡_, refl, sym, _∙_, ap}
 use mathlib.Core.List.{List, [], _∷_, _++_}
-use native.Mathlib.Nat.{add-zero}
+use native.Mathlib.Nat.{add-zero, zero-add}
 use native.Mathlib.Omega.{arith}
 use lib.ListN.{length, drop, length-append}
 use Rattle.cut.specs.declared.service.Syntax.{Syntax}
@@ -98,9 +98,9 @@ module _ (y : Syntax) (d : List ℕ) where
         let here : from at ≡ [] = none-left y d at h in
         let end : from (length d) ≡ [] = segments-none y d (length d) false (omega arith) in
         record {
-          messages = rw (here, end);
-          accepts = rw (here, end);
-          outside = rw (here, end);
+          messages = rw (here, end) (zero-add _);
+          accepts = rw (here, end) (zero-add _);
+          outside = rw (here, end) (zero-add _);
           few = (omega arith, omega arith, omega arith);
           some = n;
           fits = omega arith;

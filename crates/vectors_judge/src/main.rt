@@ -5,7 +5,7 @@ use cut::Syntax;
 use libc::STDIN_FILENO;
 use libc::STDOUT_FILENO;
 use verdict::Verdict;
-use verdict::verdict_of;
+use verdict::judged;
 
 fn put(text: &[u8]) {
     io::write_all(STDOUT_FILENO, text);
@@ -38,11 +38,13 @@ fn put_verdict(v: Verdict) {
     }
 }
 
-fn message_line(y: Syntax, d: &[u8], number: usize, start: usize, end: usize) {
+fn message_line(y: Syntax, d: &[u8], number: usize, start: usize) {
     put(b"M");
     put_number(number);
     put_number(start);
-    put_verdict(verdict_of(y, d, start, end));
+    let j = judged(y, d, start);
+    let verdict = j.verdict;
+    put_verdict(verdict);
     put(b"\n");
 }
 
@@ -55,7 +57,7 @@ fn message_lines(y: Syntax, d: &[u8]) {
             return;
         };
         number += 1;
-        message_line(y, d, number, start, end);
+        message_line(y, d, number, start);
         from = end;
     }
 }
