@@ -26,3 +26,4 @@ pub mod Accepted
 pub mod Judging
 pub mod Refusal
 pub mod Runs
+pub mod Editions

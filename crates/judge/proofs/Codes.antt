@@ -12,9 +12,9 @@ use Rattle.cut.specs.Bytes.{part}
 use Rattle.cut.proofs.Parts.{part-none, part-next}
 use Rattle.guide.specs.Nodes.{Guide, node}
 use Rattle.guide.specs.Pricat.{pricat20d, pricat20c}
-use Rattle.judge.specs.declared.editions.Edition.{Edition}
-use Rattle.judge.specs.declared.editions.Edition.the-variants.{D, C}
-use Rattle.judge.specs.Editions.{guideOf}
+use Rattle.guide.specs.declared.edition.Edition.{Edition}
+use Rattle.guide.specs.declared.edition.Edition.the-variants.{D, C}
+use Rattle.guide.specs.Editions.{guideOf}
 use Rattle.judge.specs.Words.{packed, holds}
 use Rattle.judge.specs.Rows.{codesOf}
 

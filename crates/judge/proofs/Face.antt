@@ -11,9 +11,9 @@ use borrow.Author.Tests.{eqb-false}
 use Rattle.guide.specs.Nodes.{View, Guide, node, over}
 use Rattle.guide.specs.Answers.{Answer, placed, refused}
 use Rattle.guide.specs.Placing.{pickAnswer, levels, seek, missing, place, countsAfter, lastAfter, State, fault, run}
-use Rattle.judge.specs.declared.editions.Edition.{Edition}
+use Rattle.guide.specs.declared.edition.Edition.{Edition}
 use Rattle.judge.specs.declared.placing.Placed.the-variants.{At, Refused}
-use Rattle.judge.specs.Editions.{guideOf}
+use Rattle.guide.specs.Editions.{guideOf}
 use Rattle.judge.specs.Answers.{answerOf}
 use Rattle.judge.proofs.Outcomes.{found-inside}
 

@@ -8,8 +8,8 @@ use lib.Dec.{eqb, ltb}
 use borrow.Author.Tests.{eq-eqb, ne-eqb}
 use Rattle.guide.specs.Nodes.{Guide, node, required}
 use Rattle.guide.specs.Placing.{firstNode, levels, tally, lacking, missing}
-use Rattle.judge.specs.declared.editions.Edition.{Edition}
-use Rattle.judge.specs.Editions.{guideOf}
+use Rattle.guide.specs.declared.edition.Edition.{Edition}
+use Rattle.guide.specs.Editions.{guideOf}
 use Rattle.judge.specs.Rows.{childOf, dueOf}
 use Rattle.judge.specs.Workers.{lacksDue}
 use Rattle.judge.proofs.Links.{Only, pick-none}

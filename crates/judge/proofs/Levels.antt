@@ -10,8 +10,8 @@ use borrow.Author.Tests.{eq-eqb, ne-eqb, eqb-false, ltb-true, ltb-false}
 use Rattle.guide.specs.Nodes.{View, message, node, matches}
 use Rattle.guide.specs.Placing.{firstNode, Level, pickLevels, levels, fitsIn, seek}
 use Rattle.guide.specs.Choices.{orElse}
-use Rattle.judge.specs.declared.editions.Edition.{Edition}
-use Rattle.judge.specs.Editions.{guideOf}
+use Rattle.guide.specs.declared.edition.Edition.{Edition}
+use Rattle.guide.specs.Editions.{guideOf}
 use Rattle.judge.proofs.Sound.{sound-at}
 use Rattle.judge.proofs.Tables.{table-fits}
 use Rattle.judge.proofs.Links.{lowest-none}

@@ -12,8 +12,8 @@ use Rattle.cut.specs.declared.service.Syntax.{Syntax}
 use Rattle.guide.specs.Nodes.{Guide, nobody, node, matches}
 use Rattle.guide.specs.Placing.{firstNode, fitsIn}
 use Rattle.guide.specs.Views.{viewOf}
-use Rattle.judge.specs.declared.editions.Edition.{Edition}
-use Rattle.judge.specs.Editions.{guideOf}
+use Rattle.guide.specs.declared.edition.Edition.{Edition}
+use Rattle.guide.specs.Editions.{guideOf}
 use Rattle.judge.specs.Words.{packed, Bytes}
 use Rattle.judge.specs.Rows.{childOf, firstChild}
 use Rattle.judge.specs.Workers.{likely, onward}

@@ -10,10 +10,10 @@ use Rattle.guide.specs.Nodes.{View, Node, Guide, message, node, matches, over}
 use Rattle.guide.specs.Placing.{firstNode, Level, levels, fitsIn, seek, missing, place, recounted, countsAfter}
 use Rattle.guide.specs.Answers.{Answer, placed, refused}
 use Rattle.guide.specs.Choices.{orElse}
-use Rattle.judge.specs.declared.editions.Edition.{Edition}
+use Rattle.guide.specs.declared.edition.Edition.{Edition}
 use Rattle.judge.specs.declared.placing.Placed.{Placed}
 use Rattle.judge.specs.declared.placing.Placed.the-variants.{At, Refused}
-use Rattle.judge.specs.Editions.{guideOf}
+use Rattle.guide.specs.Editions.{guideOf}
 use Rattle.judge.specs.Answers.{answerOf}
 use Rattle.judge.proofs.Links.{lowest-passes}
 use Rattle.judge.proofs.Levels.{seek-outside}

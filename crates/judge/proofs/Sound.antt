@@ -9,9 +9,9 @@ use Rattle.guide.specs.Nodes.{Guide, node}
 use Rattle.guide.specs.Pricat.{pricat20d, pricat20c}
 use Rattle.guide.specs.Checks.{every}
 use Rattle.guide.proofs.Basics.{every-at, and-left, and-right}
-use Rattle.judge.specs.declared.editions.Edition.{Edition}
-use Rattle.judge.specs.declared.editions.Edition.the-variants.{D, C}
-use Rattle.judge.specs.Editions.{guideOf}
+use Rattle.guide.specs.declared.edition.Edition.{Edition}
+use Rattle.guide.specs.declared.edition.Edition.the-variants.{D, C}
+use Rattle.guide.specs.Editions.{guideOf}
 use Rattle.judge.specs.Words.{Bytes}
 
 -- bytes alone

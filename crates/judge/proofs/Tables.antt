@@ -7,9 +7,9 @@ use lib.ListN.{length, getD}
 use lib.Dec.{lit≤}
 use Rattle.guide.specs.Nodes.{Guide, nobody, node}
 use Rattle.guide.specs.Pricat.{pricat20d, pricat20c}
-use Rattle.judge.specs.declared.editions.Edition.{Edition}
-use Rattle.judge.specs.declared.editions.Edition.the-variants.{D, C}
-use Rattle.judge.specs.Editions.{guideOf}
+use Rattle.guide.specs.declared.edition.Edition.{Edition}
+use Rattle.guide.specs.declared.edition.Edition.the-variants.{D, C}
+use Rattle.guide.specs.Editions.{guideOf}
 use Rattle.guide.specs.Columns.{values}
 use Rattle.guide.proofs.Columns.{value}
 use Rattle.judge.specs.Rows.{codesOf}

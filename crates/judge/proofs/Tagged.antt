@@ -10,9 +10,9 @@ use Rattle.element.specs.Plain.{same}
 use Rattle.guide.specs.Nodes.{message, node}
 use Rattle.guide.specs.Pricat.{pricat20d, pricat20c}
 use Rattle.guide.specs.Sheet.{isTag}
-use Rattle.judge.specs.declared.editions.Edition.{Edition}
-use Rattle.judge.specs.declared.editions.Edition.the-variants.{D, C}
-use Rattle.judge.specs.Editions.{guideOf}
+use Rattle.guide.specs.declared.edition.Edition.{Edition}
+use Rattle.guide.specs.declared.edition.Edition.the-variants.{D, C}
+use Rattle.guide.specs.Editions.{guideOf}
 use Rattle.judge.specs.Words.{packed, Bytes}
 use Rattle.judge.proofs.Sound.{sound-at}
 use Rattle.judge.proofs.Packing.{packed-same}

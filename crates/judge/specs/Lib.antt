@@ -1,4 +1,3 @@
-pub mod Editions
 pub mod Words
 pub mod Rows
 pub mod Answers

@@ -1,10 +1,10 @@
 // The codes of all rows, one row's after the other's, as numbers.
-use crate::editions::Edition;
+use guide::Edition;
 ghost use Prim.Native.Nat.{_<_};
 ghost use mathlib.Core.Path.{_≡_};
 ghost use lib.ListN.{length, getD};
 ghost use Rattle.guide.specs.Pricat.{pricat20d, pricat20c};
-ghost use Rattle.judge.specs.Editions.{guideOf};
+ghost use Rattle.guide.specs.Editions.{guideOf};
 ghost use Rattle.judge.specs.Rows.{codesOf};
 
 fn code_20d(j: usize) -> u32

@@ -1,12 +1,12 @@
 // How often each node has come in the open instance of its parent.
-use crate::editions::Edition;
 use crate::rows::first_child;
 use crate::rows::next_sibling;
+use guide::Edition;
 ghost use Prim.Native.Nat.{_<_, _^_, suc};
 ghost use mathlib.Core.Path.{_≡_};
 ghost use lib.ListN.{length, getD};
 ghost use Rattle.guide.specs.Placing.{recounted};
-ghost use Rattle.judge.specs.Editions.{guideOf};
+ghost use Rattle.guide.specs.Editions.{guideOf};
 ghost use Rattle.judge.specs.Workers.{cleared};
 
 // The children of n have not come yet in an instance of n that begins.

@@ -1,13 +1,8 @@
-// The editions of the guide.
+// The tables of the editions.
+use guide::Edition;
 ghost use mathlib.Core.Path.{_≡_};
 ghost use lib.ListN.{length};
-ghost use Rattle.judge.specs.Editions.{guideOf};
-
-// PRICAT 2.0d and PRICAT 2.0c.
-pub enum Edition {
-    D,
-    C,
-}
+ghost use Rattle.guide.specs.Editions.{guideOf};
 
 // How many rows the table has, the message's row counted.
 pub(crate) fn rows_of(edition: Edition) -> usize

@@ -1,14 +1,14 @@
 // Looks for the node that is missing when another comes: 14's question.
-use crate::editions::Edition;
 use crate::rows::counter_of;
 use crate::rows::first_due;
 use crate::rows::next_due;
 use crate::rows::parent_of;
+use guide::Edition;
 ghost use Prim.Native.Nat.{suc, _<_};
 ghost use mathlib.Core.Path.{_≡_};
 ghost use lib.ListN.{length};
 ghost use Rattle.guide.specs.Placing.{firstNode, levels, lacking, missing};
-ghost use Rattle.judge.specs.Editions.{guideOf};
+ghost use Rattle.guide.specs.Editions.{guideOf};
 ghost use Rattle.judge.specs.Workers.{lacksDue};
 
 // Whether the instance p lacks its required child m when n comes.

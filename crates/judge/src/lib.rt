@@ -12,7 +12,7 @@ mod tags;
 mod term_words;
 mod words;
 
-pub use editions::Edition;
+pub use guide::Edition;
 pub use placing::Placed;
 pub use placing::place;
 pub use tags::has_tag;

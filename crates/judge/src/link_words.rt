@@ -1,11 +1,11 @@
 // What a row links to, and its tag: one number for each row, so that one load reads it. Its hexadecimal digits are seven of the tag, two of the
 // number of a passed limit, three of the counter, two of the next sibling and two of the first child.
-use crate::editions::Edition;
+use guide::Edition;
 ghost use Prim.Native.Nat.{_<_};
 ghost use mathlib.Core.Path.{_≡_};
 ghost use lib.ListN.{length};
 ghost use Rattle.guide.specs.Pricat.{pricat20d, pricat20c};
-ghost use Rattle.judge.specs.Editions.{guideOf};
+ghost use Rattle.guide.specs.Editions.{guideOf};
 ghost use Rattle.judge.specs.Rows.{linkWord};
 
 fn links_20d(n: usize) -> u64

@@ -1,6 +1,5 @@
 // Whether a node takes a segment, by tag and code.
 use crate::code_words::code;
-use crate::editions::Edition;
 use crate::rows::codes_count;
 use crate::rows::codes_from;
 use crate::rows::component_of;
@@ -8,6 +7,7 @@ use crate::rows::element_of;
 use crate::rows::tag_of;
 use crate::words::key_number;
 use cut::Syntax;
+use guide::Edition;
 ghost use Prim.Native.Nat.{_<_};
 ghost use mathlib.Core.Path.{_≡_};
 ghost use mathlib.Core.List.{map};
@@ -15,7 +15,7 @@ ghost use lib.ListN.{length, take};
 ghost use Rattle.cut.specs.Bytes.{part};
 ghost use Rattle.guide.specs.Nodes.{node, chosen, matches};
 ghost use Rattle.guide.specs.Views.{viewOf};
-ghost use Rattle.judge.specs.Editions.{guideOf};
+ghost use Rattle.guide.specs.Editions.{guideOf};
 ghost use Rattle.judge.specs.Words.{packed, holds};
 
 // Whether the number is that of one of the node's codes.

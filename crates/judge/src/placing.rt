@@ -1,16 +1,16 @@
 // Places one segment after the other: its node, or the first fault in the order 13, 15 or 16, 14.
 use crate::counting::enter;
-use crate::editions::Edition;
 use crate::lacking::missing_for;
 use crate::rows::limit_of;
 use crate::rows::refusal_of;
 use crate::seeking::node_for;
 use cut::Syntax;
+use guide::Edition;
 ghost use mathlib.Core.Path.{_≡_};
 ghost use Rattle.cut.specs.Bytes.{part};
 ghost use Rattle.guide.specs.Placing.{place as placeIn, countsAfter};
 ghost use Rattle.guide.specs.Views.{viewOf};
-ghost use Rattle.judge.specs.Editions.{guideOf};
+ghost use Rattle.guide.specs.Editions.{guideOf};
 ghost use Rattle.judge.specs.Answers.{answerOf};
 
 // The segment's node, or a refusal with its number and node.

@@ -1,12 +1,12 @@
 // What stands in a row of a table: a digit of one of its words.
-use crate::editions::Edition;
 use crate::link_words::links;
 use crate::term_words::terms;
+use guide::Edition;
 ghost use Prim.Native.Nat.{_<_};
 ghost use mathlib.Core.Path.{_≡_};
 ghost use lib.ListN.{length, take};
 ghost use Rattle.guide.specs.Nodes.{node};
-ghost use Rattle.judge.specs.Editions.{guideOf};
+ghost use Rattle.guide.specs.Editions.{guideOf};
 ghost use Rattle.judge.specs.Rows.{codesOf, firstChild, nextSibling, firstDue, nextDue};
 ghost use Rattle.judge.specs.Words.{packed};
 

@@ -1,5 +1,4 @@
 // Seeks the node that takes a segment: 13's question.
-use crate::editions::Edition;
 use crate::editions::rows_of;
 use crate::matching::is_match;
 use crate::rows::counter_of;
@@ -9,6 +8,7 @@ use crate::rows::parent_of;
 use crate::rows::tag_of;
 use crate::words::tag_number;
 use cut::Syntax;
+use guide::Edition;
 ghost use Prim.Native.Nat.{suc, _<_};
 ghost use mathlib.Core.Path.{_≡_};
 ghost use mathlib.Core.Bool.{_&&_};
@@ -18,7 +18,7 @@ ghost use Rattle.cut.specs.Bytes.{part};
 ghost use Rattle.guide.specs.Nodes.{node, matches};
 ghost use Rattle.guide.specs.Placing.{fitsIn, levels, seek};
 ghost use Rattle.guide.specs.Views.{viewOf};
-ghost use Rattle.judge.specs.Editions.{guideOf};
+ghost use Rattle.guide.specs.Editions.{guideOf};
 ghost use Rattle.judge.specs.Words.{packed};
 ghost use Rattle.judge.specs.Workers.{likely, onward};
 

@@ -1,12 +1,12 @@
 // Which tag a node has.
-use crate::editions::Edition;
 use crate::editions::rows_of;
 use crate::rows::tag_of;
 use crate::words::three;
+use guide::Edition;
 ghost use mathlib.Core.List.{[], _∷_};
 ghost use mathlib.Core.Path.{_≡_};
 ghost use Rattle.guide.specs.Sheet.{isTag};
-ghost use Rattle.judge.specs.Editions.{guideOf};
+ghost use Rattle.guide.specs.Editions.{guideOf};
 
 // Whether node n has the tag of these three bytes; past the table's end there is no node.
 pub fn has_tag(edition: Edition, n: usize, a: u8, b: u8, c: u8) -> bool

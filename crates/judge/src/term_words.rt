@@ -1,12 +1,12 @@
 // What else there is of a row: one number for each. Its hexadecimal digits are two of the first required child, two of the next required sibling,
 // how many codes the row has, two of where they begin, one of the selector (four times the component and the element), three of the parent,
 // and five of the limit.
-use crate::editions::Edition;
+use guide::Edition;
 ghost use Prim.Native.Nat.{_<_};
 ghost use mathlib.Core.Path.{_≡_};
 ghost use lib.ListN.{length};
 ghost use Rattle.guide.specs.Pricat.{pricat20d, pricat20c};
-ghost use Rattle.judge.specs.Editions.{guideOf};
+ghost use Rattle.guide.specs.Editions.{guideOf};
 ghost use Rattle.judge.specs.Rows.{termWord};
 
 fn terms_20d(n: usize) -> u64

@@ -4,9 +4,9 @@ use mathlib.Core.Path.{sym, _∙_, ap}
 use lib.ListN.{getD}
 use Rattle.guide.specs.Pricat.{pricat20d, pricat20c}
 use Rattle.judge.specs.Rows.{codesOf}
-use Rattle.judge.specs.declared.editions.Edition.{Edition}
-use Rattle.judge.specs.declared.editions.Edition.the-variants.{D, C}
-use Rattle.judge.specs.Editions.{guideOf}
+use Rattle.guide.specs.declared.edition.Edition.{Edition}
+use Rattle.guide.specs.declared.edition.Edition.the-variants.{D, C}
+use Rattle.guide.specs.Editions.{guideOf}
 use Rattle.judge.proofs.Tables.{code-in}
 use Rattle.judge.proofs.code_words.code.Statement.{statement}
 use Rattle.judge.proofs.code_words.code.Tie as tie

@@ -1,7 +1,7 @@
 -- `judge::counting::clear_children` meets its contract. The loop's invariant is `Clearing`: the children that are still to be cleared. Assumes nothing.
 use borrow.Author.Needs.{needs}
 use native.Mathlib.Omega.{arith}
-use Rattle.judge.specs.Editions.{guideOf}
+use Rattle.guide.specs.Editions.{guideOf}
 use Rattle.judge.proofs.Tables.{table-fits, root-parent}
 use Rattle.judge.proofs.Links.{ahead}
 use Rattle.judge.proofs.Counts.{Clearing, clear-begins, clear-next, clear-less, clear-end}

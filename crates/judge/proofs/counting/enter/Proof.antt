@@ -1,7 +1,7 @@
 -- `judge::counting::enter` meets its contract: one more of n, then its children cleared. Assumes nothing.
 use borrow.Author.Needs.{needs}
 use native.Mathlib.Omega.{arith}
-use Rattle.judge.specs.Editions.{guideOf}
+use Rattle.guide.specs.Editions.{guideOf}
 use Rattle.judge.proofs.Tables.{table-fits}
 use Rattle.judge.proofs.Sound.{sound-at}
 use Rattle.judge.proofs.Counts.{entered}

@@ -2,7 +2,7 @@
 use borrow.Author.Needs.{needs}
 use native.Mathlib.Omega.{arith}
 use Rattle.guide.specs.Placing.{firstNode, lacking}
-use Rattle.judge.specs.Editions.{guideOf}
+use Rattle.guide.specs.Editions.{guideOf}
 use Rattle.judge.specs.Rows.{dueOf, firstDue, nextDue}
 use Rattle.judge.proofs.Tables.{table-fits}
 use Rattle.judge.proofs.Links.{Walking, ahead, walk-begins, walk-out, walk-inside, walk-found, walk-next, walk-less}

@@ -1,7 +1,7 @@
 -- `judge::lacking::lacks` meets its contract: one law for each return. Assumes nothing.
 use borrow.Author.Needs.{needs}
 use native.Mathlib.Omega.{arith}
-use Rattle.judge.specs.Editions.{guideOf}
+use Rattle.guide.specs.Editions.{guideOf}
 use Rattle.judge.proofs.Tables.{table-fits}
 use Rattle.judge.proofs.Gaps.{lacks-there, lacks-closed, lacks-earlier}
 use Rattle.judge.proofs.lacking.lacks.Statement.{statement}

@@ -4,7 +4,7 @@ use mathlib.Core.Path.{_≡_, refl}
 use native.Mathlib.Omega.{arith}
 use lib.ListN.{length}
 use Rattle.guide.specs.Placing.{levels, missing}
-use Rattle.judge.specs.Editions.{guideOf}
+use Rattle.guide.specs.Editions.{guideOf}
 use Rattle.judge.proofs.Levels.{parent-lower}
 use Rattle.judge.proofs.Gaps.{gap-found, gap-root, gap-taking, gap-up}
 use Rattle.judge.proofs.lacking.missing_for.Statement.{statement}

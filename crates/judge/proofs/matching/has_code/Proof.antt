@@ -6,7 +6,7 @@ use native.Mathlib.Omega.{arith}
 use lib.ListN.{length}
 use Rattle.cut.specs.Bytes.{part}
 use Rattle.guide.specs.Nodes.{node}
-use Rattle.judge.specs.Editions.{guideOf}
+use Rattle.guide.specs.Editions.{guideOf}
 use Rattle.judge.specs.Words.{packed, holds}
 use Rattle.judge.specs.Rows.{codesOf}
 use Rattle.judge.proofs.Codes.{codes-fit, codes-inside, search-begins, search-found, search-next, search-out}

@@ -2,7 +2,7 @@
 use borrow.Author.Needs.{needs}
 use native.Mathlib.Omega.{arith}
 use mathlib.Core.Path.{sym, _∙_}
-use Rattle.judge.specs.Editions.{guideOf}
+use Rattle.guide.specs.Editions.{guideOf}
 use Rattle.judge.proofs.Sound.{sound-at}
 use Rattle.judge.proofs.Matches.{chosen-any, chosen-code}
 use Rattle.judge.proofs.matching.is_chosen.Statement.{statement}

@@ -1,7 +1,7 @@
 -- `judge::matching::is_match` meets its contract: another tag, or the same and then the code. Assumes nothing.
 use borrow.Author.Needs.{needs}
 use native.Mathlib.Omega.{arith}
-use Rattle.judge.specs.Editions.{guideOf}
+use Rattle.guide.specs.Editions.{guideOf}
 use Rattle.judge.proofs.Sound.{sound-at}
 use Rattle.judge.proofs.Matches.{match-other, match-code}
 use Rattle.judge.proofs.matching.is_match.Statement.{statement}

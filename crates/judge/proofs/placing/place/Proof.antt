@@ -6,7 +6,7 @@ use lib.ListN.{length, getD}
 use borrow.Author.Tests.{leb-false}
 use Rattle.cut.specs.Bytes.{part}
 use Rattle.guide.specs.Views.{viewOf}
-use Rattle.judge.specs.Editions.{guideOf}
+use Rattle.guide.specs.Editions.{guideOf}
 use Rattle.judge.proofs.Tables.{table-fits}
 use Rattle.judge.proofs.Outcomes.{found-inside, last-inside, place-nowhere, place-over, place-lacking, place-found}
 use Rattle.judge.proofs.placing.place.Statement.{statement}

@@ -2,7 +2,7 @@
 use borrow.Author.Needs.{needs}
 use Rattle.cut.specs.Bytes.{part}
 use Rattle.guide.specs.Views.{viewOf}
-use Rattle.judge.specs.Editions.{guideOf}
+use Rattle.guide.specs.Editions.{guideOf}
 use Rattle.judge.proofs.Fits.{early, late}
 use Rattle.judge.proofs.seeking.can_follow.Statement.{statement}
 use Rattle.judge.proofs.seeking.can_follow.Tie as tie

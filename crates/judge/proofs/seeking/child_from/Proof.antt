@@ -4,7 +4,7 @@ use Rattle.cut.specs.Bytes.{part}
 use Rattle.guide.specs.Nodes.{node}
 use Rattle.guide.specs.Placing.{fitsIn}
 use Rattle.guide.specs.Views.{viewOf}
-use Rattle.judge.specs.Editions.{guideOf}
+use Rattle.guide.specs.Editions.{guideOf}
 use Rattle.judge.specs.Rows.{childOf, nextSibling}
 use Rattle.judge.specs.Workers.{onward}
 use Rattle.judge.proofs.Links.{Walking, ahead, walk-out, walk-inside, walk-child, walk-found, walk-next, walk-less}

@@ -1,6 +1,6 @@
 -- `judge::seeking::is_likely` meets its contract: a counter that is too low, or the tag decides. Assumes nothing.
 use borrow.Author.Needs.{needs}
-use Rattle.judge.specs.Editions.{guideOf}
+use Rattle.guide.specs.Editions.{guideOf}
 use Rattle.judge.proofs.Likely.{likely-early, likely-late}
 use Rattle.judge.proofs.seeking.is_likely.Statement.{statement}
 use Rattle.judge.proofs.seeking.is_likely.Tie as tie

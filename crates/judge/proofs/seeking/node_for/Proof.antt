@@ -7,7 +7,7 @@ use lib.ListN.{length}
 use Rattle.cut.specs.Bytes.{part}
 use Rattle.guide.specs.Placing.{firstNode, levels, fitsIn, seek}
 use Rattle.guide.specs.Views.{viewOf}
-use Rattle.judge.specs.Editions.{guideOf}
+use Rattle.guide.specs.Editions.{guideOf}
 use Rattle.judge.proofs.Levels.{seekFrom, seek-begins, seek-found, seek-root, seek-up, seek-outside, parent-lower}
 use Rattle.judge.proofs.Likely.{first-inside, tagged-inside, child-tried}
 use Rattle.judge.proofs.seeking.node_for.Statement.{statement}

@@ -1,6 +1,6 @@
 -- `judge::seeking::tagged_from` meets its contract. The loop's invariant is `Walking`: a walk over the siblings. Assumes nothing.
 use Rattle.guide.specs.Nodes.{node}
-use Rattle.judge.specs.Editions.{guideOf}
+use Rattle.guide.specs.Editions.{guideOf}
 use Rattle.judge.specs.Rows.{childOf, nextSibling}
 use Rattle.judge.specs.Workers.{likely, onward}
 use Rattle.judge.proofs.Links.{Walking, ahead, walk-out, walk-inside, walk-child, walk-found, walk-next, walk-less}
