@@ -11,9 +11,13 @@ use Rattle.cut.specs.declared.service.Syntax.{Syntax}
 use Rattle.cut.specs.Segments.{Segment}
 use Rattle.cut.specs.Messages.{Message, closeOf}
 use Rattle.guide.specs.Nodes.{Guide}
-use Rattle.guide.specs.Pricat.{pricat20d}
+use Rattle.guide.specs.Pricat.{pricat20d, pricat20c}
 use Rattle.guide.specs.Page.{Page}
+use Rattle.guide.specs.Editions.{guideOf, pagesOf}
+use Rattle.guide.specs.Pages20c.{pageOf20c}
 use Rattle.guide.specs.Pages20d.{pageOf}
+use Rattle.guide.specs.declared.edition.Edition.{Edition}
+use Rattle.guide.specs.declared.edition.Edition.the-variants.{D, C}
 use Rattle.guide.specs.Tree.{assigned}
 use Rattle.guide.specs.Checks.{Passes}
 use Rattle.guide.specs.Frames.{Framed}
@@ -21,9 +25,9 @@ use Rattle.guide.specs.Heads.{Foremost}
 use Rattle.guide.specs.Accepted.{segmentsOf, Proper, Accepted}
 use Rattle.guide.specs.Refusal.{Repeats, Refused, Refusal, for-fault, for-agreement}
 use Rattle.guide.specs.Judging.{Verdict, accepts, refuses, pickVerdict, judged}
-use Rattle.guide.proofs.Editions.{pricat20d-passes}
-use Rattle.guide.proofs.Framing.{pricat20d-framed}
-use Rattle.guide.proofs.Heading.{pricat20d-foremost}
+use Rattle.guide.proofs.Editions.{pricat20d-passes, pricat20c-passes}
+use Rattle.guide.proofs.Framing.{pricat20d-framed, pricat20c-framed}
+use Rattle.guide.proofs.Heading.{pricat20d-foremost, pricat20c-foremost}
 use Rattle.guide.proofs.FaultlessParts.{nodesIn}
 use Rattle.guide.proofs.Verdicts.{accepts-refuses}
 use Rattle.guide.proofs.JudgedProper.{accepts-iff}
@@ -31,6 +35,7 @@ use Rattle.guide.proofs.JudgedRefused.{refuses-iff}
 use Rattle.agree.specs.declared.agree_first.Agreeing.{Agreeing}
 use Rattle.agree.specs.declared.agree_first.Agreeing.the-variants.{At, Nothing}
 use Rattle.agree.proofs.AgreeRefusal.{searched, accepted-iff, repeats-iff, repeats-found, repeated-node}
+use Rattle.verdict.specs.Named.{editionOf, guideNamed, pagesNamed, namedOf}
 use Rattle.verdict.specs.Verdicts.{nodesOf, nodeOf, forIntervals, unlessAgreeing, settled, verdictFrom, verdictOf}
 use Rattle.verdict.proofs.Intervals.{nodes-tree, compared-iff}
 
@@ -105,8 +110,16 @@ module _
       λ x. is-settled ∙ accepted-settled n e x,
     )
 
--- ... for PRICAT 2.0d with its pages
-pub accepted-20d
+-- ... for each edition with its pages
+accepted-by
+    : (ed : Edition) (y : Syntax) (m : Message) (n e : ℕ)
+    → (verdictOf y (guideOf ed) (pagesOf ed) m ≡ accepts n e) ↔ (Accepted y (guideOf ed) (pagesOf ed) m × (n ≡ length (segmentsOf m)) × (e ≡ closeOf m))
+accepted-by D y m n e = verdict-accepts y pricat20d pageOf 26 pricat20d-passes 1 pricat20d-framed pricat20d-foremost m n e
+accepted-by C y m n e = verdict-accepts y pricat20c pageOf20c 24 pricat20c-passes 1 pricat20c-framed pricat20c-foremost m n e
+
+-- ... for the guide named in UNH
+pub accepted-named
     : (y : Syntax) (m : Message) (n e : ℕ)
-    → (verdictOf y pricat20d pageOf m ≡ accepts n e) ↔ (Accepted y pricat20d pageOf m × (n ≡ length (segmentsOf m)) × (e ≡ closeOf m))
-accepted-20d y m n e = verdict-accepts y pricat20d pageOf 26 pricat20d-passes 1 pricat20d-framed pricat20d-foremost m n e
+    → (namedOf y m ≡ accepts n e) ↔ (Accepted y (guideNamed y m) (pagesNamed y m) m × (n ≡ length (segmentsOf m)) × (e ≡ closeOf m))
+unfolding namedOf
+accepted-named y m n e = accepted-by (editionOf y (segmentsOf m)) y m n e

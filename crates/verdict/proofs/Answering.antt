@@ -7,9 +7,9 @@ use Rattle.cut.specs.declared.service.Syntax.{Syntax}
 use Rattle.cut.specs.Bytes.{part}
 use Rattle.guide.specs.Answers.{Answer, placed, refused}
 use Rattle.guide.specs.Judging.{bytesFault, endFault, lineFault, ruleFault, contentFault, unlessFault, thenContent, thenPlace, segmentAnswer}
-use Rattle.guide.specs.Pages20d.{pageOf}
 use Rattle.guide.specs.Placing.{place, countsAfter}
-use Rattle.guide.specs.Pricat.{pricat20d}
+use Rattle.guide.specs.Editions.{guideOf, pagesOf}
+use Rattle.guide.specs.declared.edition.Edition.{Edition}
 use Rattle.guide.specs.Views.{viewOf}
 use Rattle.judge.specs.Answers.{answerOf}
 use Rattle.judge.specs.declared.placing.Placed.{Placed}
@@ -18,19 +18,19 @@ use Rattle.judge.proofs.Face.{answer-at, answer-refused}
 use Rattle.verdict.specs.declared.kept.Kept.{Kept}
 use Rattle.verdict.specs.Workers.{segmentIn, noted, countsLeft}
 
-module _ (y : Syntax) (d : List ℕ) (start end : ℕ) (piece : Bool) (i : ℕ) (kept : Kept) (cs : List ℕ) where
+module _ (ed : Edition) (y : Syntax) (d : List ℕ) (start end : ℕ) (piece : Bool) (i : ℕ) (kept : Kept) (cs : List ℕ) where
   abbrev sought : Answer
-  sought = place pricat20d (viewOf y (part start end d)) (kept .last) cs
+  sought = place (guideOf ed) (viewOf y (part start end d)) (kept .last) cs
 
   abbrev bytes : ℕ
-  bytes = bytesFault y pricat20d pageOf (segmentIn start end piece d)
+  bytes = bytesFault y (guideOf ed) (pagesOf ed) (segmentIn start end piece d)
 
   -- what is wanted of the answer r and the counts cs′
   pub record Answers (r : Placed) (cs′ : List ℕ) : Type 0 where
-    pub answer : r ≡ answerOf (segmentAnswer y pricat20d pageOf i (noted y kept cs d) (segmentIn start end piece d))
-    pub counts : cs′ ≡ countsLeft bytes sought cs
+    pub answer : r ≡ answerOf (segmentAnswer y (guideOf ed) (pagesOf ed) i (noted y kept cs d) (segmentIn start end piece d))
+    pub counts : cs′ ≡ countsLeft ed bytes sought cs
 
-  refused-before : (f b : ℕ) (a : Answer) → f ≡ b → (f ≡ 0 → ⊥) → (Refused f 0 ≡ answerOf (thenPlace y pricat20d pageOf b a)) × (cs ≡ countsLeft b a cs)
+  refused-before : (f b : ℕ) (a : Answer) → f ≡ b → (f ≡ 0 → ⊥) → (Refused f 0 ≡ answerOf (thenPlace y (guideOf ed) (pagesOf ed) b a)) × (cs ≡ countsLeft ed b a cs)
   unfolding countsLeft
   refused-before f zero a h k = absurd (k h)
   refused-before f (suc b) a h k = (rw h, refl)
@@ -39,14 +39,14 @@ module _ (y : Syntax) (d : List ℕ) (start end : ℕ) (piece : Bool) (i : ℕ) 
   unfolding segmentAnswer
   bytes-refused f h k =
       let z = refused-before f bytes sought h k in
-      record { answer = refused-before f bytes (thenContent y pricat20d pageOf i (noted y kept cs d) (segmentIn start end piece d) sought) h k .0; counts = z .1 }
+      record { answer = refused-before f bytes (thenContent y (guideOf ed) (pagesOf ed) i (noted y kept cs d) (segmentIn start end piece d) sought) h k .0; counts = z .1 }
 
   module _ (f : ℕ) (is-bytes : f ≡ bytes) (none : f ≡ 0) (p : Placed) (taken : p ≡ answerOf sought) (cs′ : List ℕ)
-      (left : cs′ ≡ countsAfter pricat20d sought cs) where
+      (left : cs′ ≡ countsAfter (guideOf ed) sought cs) where
     clean : bytes ≡ 0
     clean = sym is-bytes ∙ none
 
-    counts-left : cs′ ≡ countsLeft bytes sought cs
+    counts-left : cs′ ≡ countsLeft ed bytes sought cs
     unfolding countsLeft
     counts-left = rw clean left
 
@@ -57,12 +57,12 @@ module _ (y : Syntax) (d : List ℕ) (start end : ℕ) (piece : Bool) (i : ℕ) 
         let a = answer-refused sought k n (sym taken ∙ h) in
         record { answer = rw (clean, a) h; counts = counts-left }
 
-    module _ (n : ℕ) (at : p ≡ At n) (w : ℕ) (content : w ≡ contentFault y pricat20d pageOf i (noted y kept [] d) n (segmentIn start end false d)) where
-      same-content : w ≡ contentFault y pricat20d pageOf i (noted y kept cs d) n (segmentIn start end piece d)
+    module _ (n : ℕ) (at : p ≡ At n) (w : ℕ) (content : w ≡ contentFault y (guideOf ed) (pagesOf ed) i (noted y kept [] d) n (segmentIn start end false d)) where
+      same-content : w ≡ contentFault y (guideOf ed) (pagesOf ed) i (noted y kept cs d) n (segmentIn start end piece d)
       unfolding contentFault ruleFault endFault lineFault
       same-content = content
 
-      wrong : (v : ℕ) → w ≡ v → (w ≡ 0 → ⊥) → Refused w n ≡ answerOf (unlessFault y pricat20d pageOf v n)
+      wrong : (v : ℕ) → w ≡ v → (w ≡ 0 → ⊥) → Refused w n ≡ answerOf (unlessFault y (guideOf ed) (pagesOf ed) v n)
       wrong zero h k = absurd (k h)
       wrong (suc v) h k = rw h
 

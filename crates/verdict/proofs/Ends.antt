@@ -11,7 +11,8 @@ use Rattle.cut.specs.Segments.{Segment, segmentsFrom}
 use Rattle.cut.specs.Held.{unless}
 use Rattle.cut.specs.Messages.{lastEnd}
 use Rattle.element.proofs.Limits.{part-out, part-front}
-use Rattle.guide.specs.Pricat.{pricat20d}
+use Rattle.guide.specs.Editions.{guideOf, pagesOf}
+use Rattle.guide.specs.declared.edition.Edition.{Edition}
 use Rattle.guide.specs.Sheet.{isTag}
 use Rattle.agree.specs.AgreePositions.{positionsOf, firstAgreeing}
 use Rattle.agree.specs.declared.agree_first.Agreeing.{Agreeing}
@@ -23,22 +24,22 @@ use Rattle.verdict.specs.Answers.{declared}
 use Rattle.verdict.specs.Verdicts.{nodeOf, unlessAgreeing}
 use Rattle.verdict.specs.Workers.{segmentsAt, agreementAt, endedWith}
 
-module _ (y : Syntax) (d : List ℕ) (start n at : ℕ) where
+module _ (ed : Edition) (y : Syntax) (d : List ℕ) (start n at : ℕ) where
   abbrev ss : List Segment
   ss = segmentsFrom y start false (part start at d)
 
   module _ (a : Agreeing) (is : a ≡ firstAgreeing y (positionsOf ss)) where
-    pub agrees : (i p : ℕ) → a ≡ At i p → (m : ℕ) → m ≡ nodeOf y pricat20d ss i → Refused 23 i p m ≡ declared (agreementAt y d start n at)
+    pub agrees : (i p : ℕ) → a ≡ At i p → (m : ℕ) → m ≡ nodeOf y (guideOf ed) ss i → Refused 23 i p m ≡ declared (agreementAt ed y d start n at)
     unfolding agreementAt unlessAgreeing
     agrees i p h m k = rw (sym is ∙ h, k)
 
-    pub none-agrees : a ≡ Nothing → Accepted n at ≡ declared (agreementAt y d start n at)
+    pub none-agrees : a ≡ Nothing → Accepted n at ≡ declared (agreementAt ed y d start n at)
     unfolding agreementAt unlessAgreeing
     none-agrees h = rw (sym is ∙ h)
 
-  module _ (kept : Kept) (u : Bool) (unt : u ≡ isTag pricat20d (bytesOf "UNT") (kept .last)) where
+  module _ (kept : Kept) (u : Bool) (unt : u ≡ isTag (guideOf ed) (bytesOf "UNT") (kept .last)) where
     abbrev Ended : Verdict → Type 0
-    Ended r = r ≡ declared (endedWith y d start kept n at)
+    Ended r = r ≡ declared (endedWith ed y d start kept n at)
 
     pub no-end : u ≡ false → Ended (Refused 24 (n + 1) at 0)
     unfolding endedWith
@@ -51,19 +52,19 @@ module _ (y : Syntax) (d : List ℕ) (start n at : ℕ) where
       unfolding endedWith
       not-compared h = rw (← unt, ends, h)
 
-      pub compared : kept .intervals ≡ false → (r : Verdict) → r ≡ declared (agreementAt y d start n at) → Ended r
+      pub compared : kept .intervals ≡ false → (r : Verdict) → r ≡ declared (agreementAt ed y d start n at) → Ended r
       unfolding endedWith
       compared h r e = rw (← unt, ends, h) e
 
 -- the node of a segment of a part, from all segments from its start on
-module _ (y : Syntax) (d : List ℕ) (start end i r : ℕ) where
+module _ (ed : Edition) (y : Syntax) (d : List ℕ) (start end i r : ℕ) where
   abbrev InPart : Type 0
-  InPart = r ≡ nodeOf y pricat20d (segmentsFrom y start false (part start end d)) i
+  InPart = r ≡ nodeOf y (guideOf ed) (segmentsFrom y start false (part start end d)) i
 
-  pub node-all : length d ≤ end → r ≡ nodeOf y pricat20d (segmentsAt y d start) i → InPart
+  pub node-all : length d ≤ end → r ≡ nodeOf y (guideOf ed) (segmentsAt y d start) i → InPart
   node-all h a = rw (part-out d start end h) a
 
-  pub node-front : end ≤ length d → r ≡ nodeOf y pricat20d (segmentsAt y (take (end - 0) (drop 0 d)) start) i → InPart
+  pub node-front : end ≤ length d → r ≡ nodeOf y (guideOf ed) (segmentsAt y (take (end - 0) (drop 0 d)) start) i → InPart
   node-front h a = rw (← part-front d start end h) a
 
 -- where the message ends of which a segment ends at e

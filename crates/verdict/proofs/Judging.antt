@@ -20,9 +20,9 @@ use Rattle.guide.specs.Accepted.{seen}
 use Rattle.guide.specs.Answers.{Answer, placed, refused}
 use Rattle.guide.specs.Content.{text}
 use Rattle.guide.specs.Judging.{Memory, Verdict, accepts, refuses, pickVerdict, fresh, bytesFault, contentFault, unlessFault, thenContent, thenPlace, segmentAnswer, remember, decide, judgeFrom}
-use Rattle.guide.specs.Pages20d.{pageOf}
 use Rattle.guide.specs.Placing.{after, countsAfter, lastAfter, place, give, given}
-use Rattle.guide.specs.Pricat.{pricat20d}
+use Rattle.guide.specs.Editions.{guideOf, pagesOf}
+use Rattle.guide.specs.declared.edition.Edition.{Edition}
 use Rattle.guide.specs.Sheet.{isTag}
 use Rattle.guide.specs.Tree.{one}
 use Rattle.guide.specs.Views.{viewOf}
@@ -51,45 +51,45 @@ one-few true = omega arith
 one-few false = omega arith
 
 -- a segment that is given its node has no fault of its bytes, and placing gave it the node
-module _ (y : Syntax) (i : ℕ) (m : Memory) (s : Segment) where
+module _ (ed : Edition) (y : Syntax) (i : ℕ) (m : Memory) (s : Segment) where
   abbrev sought : Answer
-  sought = place pricat20d (viewOf y (s .bytes)) (m .state .last) (m .state .counts)
+  sought = place (guideOf ed) (viewOf y (s .bytes)) (m .state .last) (m .state .counts)
 
-  no-content : (f k n : ℕ) → unlessFault y pricat20d pageOf f k ≡ placed n → k ≡ n
+  no-content : (f k n : ℕ) → unlessFault y (guideOf ed) (pagesOf ed) f k ≡ placed n → k ≡ n
   no-content zero k n h = cc
   no-content (suc f) k n h =
       let z : _≡_ {A = ℕ} 0 1 = cc in
       absurd (omega arith)
 
-  then-placed : (a : Answer) (n : ℕ) → thenContent y pricat20d pageOf i m s a ≡ placed n → a ≡ placed n
-  then-placed (placed k) n h = ap placed (no-content (contentFault y pricat20d pageOf i m k s) k n h)
+  then-placed : (a : Answer) (n : ℕ) → thenContent y (guideOf ed) (pagesOf ed) i m s a ≡ placed n → a ≡ placed n
+  then-placed (placed k) n h = ap placed (no-content (contentFault y (guideOf ed) (pagesOf ed) i m k s) k n h)
   then-placed (refused k j) n h = h
 
-  place-placed : (f : ℕ) (a : Answer) (n : ℕ) → thenPlace y pricat20d pageOf f a ≡ placed n → (f ≡ 0) × (a ≡ placed n)
+  place-placed : (f : ℕ) (a : Answer) (n : ℕ) → thenPlace y (guideOf ed) (pagesOf ed) f a ≡ placed n → (f ≡ 0) × (a ≡ placed n)
   place-placed zero a n h = (refl, h)
   place-placed (suc f) a n h =
       let z : _≡_ {A = ℕ} 0 1 = cc in
       absurd (omega arith)
 
-  answer-placed : (n : ℕ) → segmentAnswer y pricat20d pageOf i m s ≡ placed n → (bytesFault y pricat20d pageOf s ≡ 0) × (sought ≡ placed n)
+  answer-placed : (n : ℕ) → segmentAnswer y (guideOf ed) (pagesOf ed) i m s ≡ placed n → (bytesFault y (guideOf ed) (pagesOf ed) s ≡ 0) × (sought ≡ placed n)
   unfolding segmentAnswer
   answer-placed n h =
-      let a = place-placed (bytesFault y pricat20d pageOf s) (thenContent y pricat20d pageOf i m s sought) n h in
+      let a = place-placed (bytesFault y (guideOf ed) (pagesOf ed) s) (thenContent y (guideOf ed) (pagesOf ed) i m s sought) n h in
       (a .0, then-placed sought n (a .1))
 
-module _ (y : Syntax) (d : List ℕ) (start : ℕ) where
+module _ (ed : Edition) (y : Syntax) (d : List ℕ) (start : ℕ) where
   -- the message's segments
   abbrev all : List Segment
   all = held (segmentsAt y d start)
 
   -- whether one of the segments ss is a BGM with Z04, in a state
   abbrev aheadFor : List Segment → Kept → List ℕ → Bool
-  aheadFor ss k cs = forIntervals y pricat20d (given pricat20d (map (seen y) ss) (record { last = k .last; counts = cs })) ss
+  aheadFor ss k cs = forIntervals y (guideOf ed) (given (guideOf ed) (map (seen y) ss) (record { last = k .last; counts = cs })) ss
 
   -- n segments have been judged without a fault, up to the place `at`, and ss are the message's others
   pub record Passed (ss : List Segment) (cs : List ℕ) (k : Kept) (at n : ℕ) : Type 0 where
-    pub judged : judgeFrom y pricat20d pageOf n at (noted y k cs d) ss ≡ judgeFrom y pricat20d pageOf 0 start fresh all
-    pub document : k .intervals || aheadFor ss k cs ≡ forIntervals y pricat20d (nodesOf y pricat20d all) all
+    pub judged : judgeFrom y (guideOf ed) (pagesOf ed) n at (noted y k cs d) ss ≡ judgeFrom y (guideOf ed) (pagesOf ed) 0 start fresh all
+    pub document : k .intervals || aheadFor ss k cs ≡ forIntervals y (guideOf ed) (nodesOf y (guideOf ed) all) all
     pub closes : lastEnd at ss ≡ lastEnd start all
     pub few : n ≤ at
     pub short : n ≤ length d
@@ -113,11 +113,11 @@ module _ (y : Syntax) (d : List ℕ) (start : ℕ) where
   module _ (ss : List Segment) (cs : List ℕ) (k : Kept) (at n : ℕ) (p : Passed ss cs k at n) where
     -- no segment is left
     module _ (none : ss ≡ []) where
-      is-judged : judgeFrom y pricat20d pageOf 0 start fresh all ≡ pickVerdict (isTag pricat20d (bytesOf "UNT") (k .last)) (accepts n at) (refuses 24 (suc n) at 0)
+      is-judged : judgeFrom y (guideOf ed) (pagesOf ed) 0 start fresh all ≡ pickVerdict (isTag (guideOf ed) (bytesOf "UNT") (k .last)) (accepts n at) (refuses 24 (suc n) at 0)
       unfolding judgeFrom
       is-judged = sym (p .judged) ∙ rw none
 
-      is-document : forIntervals y pricat20d (nodesOf y pricat20d all) all ≡ k .intervals
+      is-document : forIntervals y (guideOf ed) (nodesOf y (guideOf ed) all) all ≡ k .intervals
       unfolding given forIntervals
       is-document = sym (rw none at (p .document)) ∙ or-none (k .intervals)
 
@@ -128,20 +128,20 @@ module _ (y : Syntax) (d : List ℕ) (start : ℕ) where
       alone : segmentsFrom y start false (part start at d) ≡ all
       alone = ap (λ (e : ℕ). segmentsFrom y start false (part start e d)) is-end ∙ held-alone y d start
 
-      is-ended : endedWith y d start k n at ≡ verdictFrom y pricat20d pageOf start all
+      is-ended : endedWith ed y d start k n at ≡ verdictFrom y (guideOf ed) (pagesOf ed) start all
       unfolding endedWith agreementAt verdictFrom settled
-      is-ended = rw (is-judged) (go (isTag pricat20d (bytesOf "UNT") (k .last)))
+      is-ended = rw (is-judged) (go (isTag (guideOf ed) (bytesOf "UNT") (k .last)))
         where
           go
               : (u : Bool)
-              → pickVerdict u (pickVerdict (k .intervals) (accepts n at) (agreementAt y d start n at)) (refuses 24 (suc n) at 0)
-              ≡ settled y pricat20d all (pickVerdict u (accepts n at) (refuses 24 (suc n) at 0))
+              → pickVerdict u (pickVerdict (k .intervals) (accepts n at) (agreementAt ed y d start n at)) (refuses 24 (suc n) at 0)
+              ≡ settled y (guideOf ed) all (pickVerdict u (accepts n at) (refuses 24 (suc n) at 0))
           go true = rw (is-document, alone)
           go false = refl
 
       pub all-ended
-          : (v : Told) → v ≡ declared (endedWith y d start k n at) → (r : Judged) → r ≡ judgedAs v at
-          → r ≡ judgedAs (declared (verdictFrom y pricat20d pageOf start all)) (lastEnd start all)
+          : (v : Told) → v ≡ declared (endedWith ed y d start k n at) → (r : Judged) → r ≡ judgedAs v at
+          → r ≡ judgedAs (declared (verdictFrom y (guideOf ed) (pagesOf ed) start all)) (lastEnd start all)
       all-ended v h r j = j ∙ ap₂ judgedAs (h ∙ ap declared is-ended) is-end
 
     -- the next segment, and the message's others after it
@@ -150,17 +150,17 @@ module _ (y : Syntax) (d : List ℕ) (start : ℕ) where
       here = segmentIn at e piece d
 
       abbrev answer : Answer
-      answer = segmentAnswer y pricat20d pageOf (suc n) (noted y k cs d) here
+      answer = segmentAnswer y (guideOf ed) (pagesOf ed) (suc n) (noted y k cs d) here
 
-      same-answer : segmentAnswer y pricat20d pageOf (n + 1) (noted y k cs d) (segmentIn s e piece d) ≡ answer
+      same-answer : segmentAnswer y (guideOf ed) (pagesOf ed) (n + 1) (noted y k cs d) (segmentIn s e piece d) ≡ answer
       same-answer =
           let z : n + 1 ≡ suc n = omega arith in
           rw (z, q .starts)
 
       judged-here
-          : decide y pricat20d pageOf (suc n) at answer
-          (judgeFrom y pricat20d pageOf (suc n) (endOf here) (remember y pricat20d pageOf answer here (noted y k cs d)) rest)
-          ≡ judgeFrom y pricat20d pageOf 0 start fresh all
+          : decide y (guideOf ed) (pagesOf ed) (suc n) at answer
+          (judgeFrom y (guideOf ed) (pagesOf ed) (suc n) (endOf here) (remember y (guideOf ed) (pagesOf ed) answer here (noted y k cs d)) rest)
+          ≡ judgeFrom y (guideOf ed) (pagesOf ed) 0 start fresh all
       unfolding judgeFrom
       judged-here = rw next at (p .judged)
 
@@ -174,11 +174,11 @@ module _ (y : Syntax) (d : List ℕ) (start : ℕ) where
       unfolding lastEnd
       more-closes = ap (λ (a : ℕ). lastEnd a rest) (sym ends) ∙ (rw next at (p .closes))
 
-      module _ (r : Placed) (is : r ≡ answerOf (segmentAnswer y pricat20d pageOf (n + 1) (noted y k cs d) (segmentIn s e piece d))) where
+      module _ (r : Placed) (is : r ≡ answerOf (segmentAnswer y (guideOf ed) (pagesOf ed) (n + 1) (noted y k cs d) (segmentIn s e piece d))) where
         is-answer : r ≡ answerOf answer
         is-answer = is ∙ ap answerOf same-answer
 
-        is-refused : (j m : ℕ) → r ≡ told.Refused j m → Refused j (n + 1) s m ≡ declared (verdictFrom y pricat20d pageOf start all)
+        is-refused : (j m : ℕ) → r ≡ told.Refused j m → Refused j (n + 1) s m ≡ declared (verdictFrom y (guideOf ed) (pagesOf ed) start all)
         unfolding verdictFrom settled
         is-refused j m h =
             let a : answer ≡ refused j m = answer-refused answer j m (sym is-answer ∙ h) in
@@ -187,30 +187,30 @@ module _ (y : Syntax) (d : List ℕ) (start : ℕ) where
 
         pub passed-refused
             : (j m : ℕ) → r ≡ told.Refused j m → (c : ℕ) → c ≡ lastEnd e rest → (o : Judged) → o ≡ judgedAs (Refused j (n + 1) s m) c
-            → o ≡ judgedAs (declared (verdictFrom y pricat20d pageOf start all)) (lastEnd start all)
+            → o ≡ judgedAs (declared (verdictFrom y (guideOf ed) (pagesOf ed) start all)) (lastEnd start all)
         passed-refused j m h c l o g = g ∙ ap₂ judgedAs (is-refused j m h) (l ∙ more-closes)
 
-        module _ (m : ℕ) (taken : r ≡ told.At m) (cs′ : List ℕ) (k′ : Kept) (after-it : KeptAfter y d s e m k k′)
-            (left : cs′ ≡ countsLeft (bytesFault y pricat20d pageOf (segmentIn s e piece d)) (place pricat20d (viewOf y (part s e d)) (k .last) cs) cs) where
+        module _ (m : ℕ) (taken : r ≡ told.At m) (cs′ : List ℕ) (k′ : Kept) (after-it : KeptAfter ed y d s e m k k′)
+            (left : cs′ ≡ countsLeft ed (bytesFault y (guideOf ed) (pagesOf ed) (segmentIn s e piece d)) (place (guideOf ed) (viewOf y (part s e d)) (k .last) cs) cs) where
           is-placed : answer ≡ placed m
           is-placed = answer-at answer m (sym is-answer ∙ taken)
 
-          sound : (bytesFault y pricat20d pageOf here ≡ 0) × (sought y (suc n) (noted y k cs d) here ≡ placed m)
+          sound : (bytesFault y (guideOf ed) (pagesOf ed) here ≡ 0) × (sought y (suc n) (noted y k cs d) here ≡ placed m)
           sound = answer-placed y (suc n) (noted y k cs d) here m is-placed
 
-          is-left : cs′ ≡ countsAfter pricat20d (placed m) cs
+          is-left : cs′ ≡ countsAfter (guideOf ed) (placed m) cs
           unfolding countsLeft
           is-left = rw (q .starts, sound .0, sound .1) at left
 
-          is-kept : remember y pricat20d pageOf (placed m) here (noted y k cs d) ≡ noted y k′ cs′ d
+          is-kept : remember y (guideOf ed) (pagesOf ed) (placed m) here (noted y k cs d) ≡ noted y k′ cs′ d
           unfolding lastAfter
           is-kept = rw (← q .starts, is-left, after-it .last, after-it .positions, after-it .reference)
 
-          more-judged : judgeFrom y pricat20d pageOf (suc n) e (noted y k′ cs′ d) rest ≡ judgeFrom y pricat20d pageOf 0 start fresh all
+          more-judged : judgeFrom y (guideOf ed) (pagesOf ed) (suc n) e (noted y k′ cs′ d) rest ≡ judgeFrom y (guideOf ed) (pagesOf ed) 0 start fresh all
           more-judged =
-              ap₂ (λ (a : ℕ) (v : Memory). judgeFrom y pricat20d pageOf (suc n) a v rest) (sym ends) (sym is-kept) ∙ (rw is-placed at judged-here)
+              ap₂ (λ (a : ℕ) (v : Memory). judgeFrom y (guideOf ed) (pagesOf ed) (suc n) a v rest) (sym ends) (sym is-kept) ∙ (rw is-placed at judged-here)
 
-          more-document : k′ .intervals || aheadFor rest k′ cs′ ≡ forIntervals y pricat20d (nodesOf y pricat20d all) all
+          more-document : k′ .intervals || aheadFor rest k′ cs′ ≡ forIntervals y (guideOf ed) (nodesOf y (guideOf ed) all) all
           unfolding lastAfter given forIntervals
           more-document =
               rw (after-it .intervals, after-it .last, is-left, q .starts)
@@ -223,7 +223,7 @@ module _ (y : Syntax) (d : List ℕ) (start : ℕ) where
               let f = q .fits in
               let w = p .few in
               let l = p .lines in
-              let o = one-few (isTag pricat20d (bytesOf "LIN") m) in
+              let o = one-few (isTag (guideOf ed) (bytesOf "LIN") m) in
               record {
                 judged = rw z more-judged;
                 document = more-document;
@@ -234,7 +234,7 @@ module _ (y : Syntax) (d : List ℕ) (start : ℕ) where
               }
 
 -- a message whose UNT has been judged has no other segment; any other goes on with what its body takes
-module _ (y : Syntax) (d : List ℕ) (start : ℕ) (l : Bool) (ss : List Segment) (cs : List ℕ) (k : Kept) (at n : ℕ)
+module _ (ed : Edition) (y : Syntax) (d : List ℕ) (start : ℕ) (l : Bool) (ss : List Segment) (cs : List ℕ) (k : Kept) (at n : ℕ)
     (p : Passed y d start (unless l ss) cs k at n) where
   pub none-left : l ≡ true → unless l ss ≡ []
   none-left h = rw h

@@ -40,6 +40,7 @@ use Rattle.agree.specs.Agreement.{Heading}
 use Rattle.agree.specs.AgreePositions.{Listed, nextIf, behindIf, headingFrom, positionsFrom, positionsOf, agreesAny, firstAfter, firstAgreeing}
 use Rattle.agree.specs.declared.agree_first.Agreeing.{Agreeing}
 use Rattle.agree.specs.declared.agree_first.Agreeing.the-variants.{At, Nothing}
+use Rattle.verdict.specs.Named.{editionOf, guideNamed, pagesNamed, namedOf}
 use Rattle.verdict.specs.Verdicts.{nodesOf, nodeOf, forIntervals, unlessAgreeing, settled, verdictFrom, verdictOf}
 use Rattle.verdict.specs.Moves.{movedVerdict}
 
@@ -192,3 +193,8 @@ module _ (y : Syntax) (g : Guide) (pages : ℕ → Page) where
       : (a : ℕ) (bytes : List ℕ)
       → verdictFrom y g pages a (segmentsFrom y a false bytes) ≡ movedVerdict a (verdictFrom y g pages 0 (segmentsFrom y 0 false bytes))
   verdict-alone a bytes = rw (← segments-moved y a 0 false bytes, add-zero a) at (verdict-from-moved a 0 (segmentsFrom y 0 false bytes))
+
+-- a message that is moved names the same guide, so the verdict by that guide moves with it
+pub named-moved : (y : Syntax) (k : ℕ) (m : Message) → namedOf y (movedMessage k m) ≡ movedVerdict k (namedOf y m)
+unfolding namedOf editionOf
+named-moved y k m = verdict-moved y (guideNamed y m) (pagesNamed y m) k m

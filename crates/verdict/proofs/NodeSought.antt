@@ -12,7 +12,8 @@ use Rattle.cut.proofs.First.{Cutting}
 use Rattle.guide.specs.Accepted.{seen}
 use Rattle.guide.specs.Answers.{Answer, placed, refused}
 use Rattle.guide.specs.Placing.{State, after, countsAfter, lastAfter, place, give, given}
-use Rattle.guide.specs.Pricat.{pricat20d}
+use Rattle.guide.specs.Editions.{guideOf, pagesOf}
+use Rattle.guide.specs.declared.edition.Edition.{Edition}
 use Rattle.guide.specs.Views.{viewOf}
 use Rattle.judge.specs.Answers.{answerOf}
 use Rattle.judge.specs.declared.placing.Placed.{Placed}
@@ -32,13 +33,13 @@ none : (k : ℕ) → getD {A = ℕ} [] k 0 ≡ 0
 none zero = refl
 none (suc k) = refl
 
-module _ (y : Syntax) (d : List ℕ) (start i : ℕ) where
+module _ (ed : Edition) (y : Syntax) (d : List ℕ) (start i : ℕ) where
   abbrev wanted : ℕ
-  wanted = nodeOf y pricat20d (segmentsAt y d start) i
+  wanted = nodeOf y (guideOf ed) (segmentsAt y d start) i
 
   -- the nodes that the segments from the place `at` on are given in a state
   abbrev ahead : ℕ → ℕ → List ℕ → List ℕ
-  ahead at last cs = given pricat20d (map (seen y) (segmentsAt y d at)) (record { last = last; counts = cs })
+  ahead at last cs = given (guideOf ed) (map (seen y) (segmentsAt y d at)) (record { last = last; counts = cs })
 
   -- `left` segments are still to come, from the place `at` on
   abbrev pub Sought : ℕ → ℕ → List ℕ → ℕ → Type 0
@@ -63,19 +64,19 @@ module _ (y : Syntax) (d : List ℕ) (start i : ℕ) where
       sought-none h = sym (none (left - 1)) ∙ (rw h at next)
 
       module _ (s e : ℕ) (p : Bool) (q : Cutting y d at false s e p) (r : Placed)
-          (is : r ≡ answerOf (place pricat20d (viewOf y (part s e d)) last cs)) where
+          (is : r ≡ answerOf (place (guideOf ed) (viewOf y (part s e d)) last cs)) where
         abbrev here : Answer
-        here = place pricat20d (viewOf y (part s e d)) last cs
+        here = place (guideOf ed) (viewOf y (part s e d)) last cs
 
-        first : getD (give here (given pricat20d (map (seen y) (segmentsAt y d e)) (after pricat20d here (record { last = last; counts = cs })))) (left - 1) 0 ≡ wanted
+        first : getD (give here (given (guideOf ed) (map (seen y) (segmentsAt y d e)) (after (guideOf ed) here (record { last = last; counts = cs })))) (left - 1) 0 ≡ wanted
         unfolding given
         first = rw (q .starts) (rw (q .list) at next)
 
         pub sought-refused : (k n : ℕ) → r ≡ Refused k n → 0 ≡ wanted
         sought-refused k n h = sym (none (left - 1)) ∙ (rw (answer-refused here k n (sym is ∙ h)) at first)
 
-        pub sought-on : (n : ℕ) → r ≡ At n → (cs′ : List ℕ) → cs′ ≡ countsAfter pricat20d here cs → Sought e n cs′ (left - 1)
+        pub sought-on : (n : ℕ) → r ≡ At n → (cs′ : List ℕ) → cs′ ≡ countsAfter (guideOf ed) here cs → Sought e n cs′ (left - 1)
         unfolding lastAfter
         sought-on n h cs′ c =
             let a = answer-at here n (sym is ∙ h) in
-            rw (c, ap (λ (z : Answer). countsAfter pricat20d z cs) a) (rw a at first)
+            rw (c, ap (λ (z : Answer). countsAfter (guideOf ed) z cs) a) (rw a at first)

@@ -19,17 +19,17 @@ use Rattle.element.specs.declared.counts.Count.the-variants.{Is, Nothing}
 use Rattle.guide.specs.Choices.{pickℕ, orElse}
 use Rattle.guide.specs.Content.{text}
 use Rattle.guide.specs.Judging.{Memory, is, bytesFault, endFault, lineFault, ruleFault, contentFault}
-use Rattle.guide.specs.Pages20d.{pageOf}
 use Rattle.guide.specs.PageFault.{pageFault}
-use Rattle.guide.specs.Pricat.{pricat20d}
+use Rattle.guide.specs.Editions.{guideOf, pagesOf}
+use Rattle.guide.specs.declared.edition.Edition.{Edition}
 use Rattle.guide.specs.Sheet.{isTag}
 use Rattle.verdict.proofs.Texts.{decoded-text}
 use Rattle.verdict.specs.Workers.{spanned}
 
 -- 12, 10, 11
-module _ (y : Syntax) (s : Segment) where
+module _ (ed : Edition) (y : Syntax) (s : Segment) where
   abbrev bytes : ℕ
-  bytes = bytesFault y pricat20d pageOf s
+  bytes = bytesFault y (guideOf ed) (pagesOf ed) s
 
   pub piece-fault : s .piece ≡ true → 12 ≡ bytes
   unfolding bytesFault
@@ -62,9 +62,9 @@ module _ (y : Syntax) (d : List ℕ) (start end n : ℕ) (span : Span) (found : 
   count-none h = ap (is n) (sym h ∙ same-count)
 
 -- 21
-module _ (y : Syntax) (i : ℕ) (r : List ℕ) (s : Segment) (c : Bool) (counts : c ≡ is i (countOf (text y (s .bytes) 1 0))) where
+module _ (ed : Edition) (y : Syntax) (i : ℕ) (r : List ℕ) (s : Segment) (c : Bool) (counts : c ≡ is i (countOf (text y (s .bytes) 1 0))) where
   abbrev end : ℕ
-  end = endFault y pricat20d pageOf i r s
+  end = endFault y (guideOf ed) (pagesOf ed) i r s
 
   pub count-fault : c ≡ false → 21 ≡ end
   unfolding endFault
@@ -80,26 +80,26 @@ module _ (y : Syntax) (i : ℕ) (r : List ℕ) (s : Segment) (c : Bool) (counts 
     no-end-fault h = rw (← counts, right, ← own, ← refers, h)
 
 -- 22
-module _ (y : Syntax) (n : ℕ) (s : Segment) (c : Bool) (counts : c ≡ is n (countOf (text y (s .bytes) 1 0))) where
-  pub number-fault : c ≡ false → 22 ≡ lineFault y pricat20d pageOf n s
+module _ (ed : Edition) (y : Syntax) (n : ℕ) (s : Segment) (c : Bool) (counts : c ≡ is n (countOf (text y (s .bytes) 1 0))) where
+  pub number-fault : c ≡ false → 22 ≡ lineFault y (guideOf ed) (pagesOf ed) n s
   unfolding lineFault
   number-fault h = rw (← counts, h)
 
-  pub no-line-fault : c ≡ true → 0 ≡ lineFault y pricat20d pageOf n s
+  pub no-line-fault : c ≡ true → 0 ≡ lineFault y (guideOf ed) (pagesOf ed) n s
   unfolding lineFault
   no-line-fault h = rw (← counts, h)
 
 -- 21 or 22, by the tag of the node
-module _ (y : Syntax) (i : ℕ) (m : Memory) (n : ℕ) (s : Segment) (u : Bool) (unt : u ≡ isTag pricat20d (bytesOf "UNT") n) where
+module _ (ed : Edition) (y : Syntax) (i : ℕ) (m : Memory) (n : ℕ) (s : Segment) (u : Bool) (unt : u ≡ isTag (guideOf ed) (bytesOf "UNT") n) where
   abbrev rule : ℕ
-  rule = ruleFault y pricat20d pageOf i m n s
+  rule = ruleFault y (guideOf ed) (pagesOf ed) i m n s
 
-  pub rule-end : u ≡ true → (r : ℕ) → r ≡ endFault y pricat20d pageOf i (m .reference) s → r ≡ rule
+  pub rule-end : u ≡ true → (r : ℕ) → r ≡ endFault y (guideOf ed) (pagesOf ed) i (m .reference) s → r ≡ rule
   unfolding ruleFault
   rule-end h r e = rw (← unt, h) e
 
-  module _ (no : u ≡ false) (l : Bool) (lin : l ≡ isTag pricat20d (bytesOf "LIN") n) where
-    pub rule-line : l ≡ true → (r : ℕ) → r ≡ lineFault y pricat20d pageOf (m .positions + 1) s → r ≡ rule
+  module _ (no : u ≡ false) (l : Bool) (lin : l ≡ isTag (guideOf ed) (bytesOf "LIN") n) where
+    pub rule-line : l ≡ true → (r : ℕ) → r ≡ lineFault y (guideOf ed) (pagesOf ed) (m .positions + 1) s → r ≡ rule
     unfolding ruleFault
     rule-line h r e =
         let z : m .positions + 1 ≡ suc (m .positions) = omega arith in
@@ -110,17 +110,17 @@ module _ (y : Syntax) (i : ℕ) (m : Memory) (n : ℕ) (s : Segment) (u : Bool) 
     no-rule h = rw (← unt, no, ← lin, h)
 
 -- the components, and then 21 or 22
-module _ (y : Syntax) (i : ℕ) (m : Memory) (n : ℕ) (s : Segment) where
+module _ (ed : Edition) (y : Syntax) (i : ℕ) (m : Memory) (n : ℕ) (s : Segment) where
   page-first : (f p r : ℕ) → f ≡ p → (f ≡ 0 → ⊥) → f ≡ orElse p r
   page-first f zero r h k = absurd (k h)
   page-first f (suc p) r h k = h
 
-  pub content-page : (f : ℕ) → f ≡ pageFault y (pageOf n) (s .bytes) → (f ≡ 0 → ⊥) → f ≡ contentFault y pricat20d pageOf i m n s
+  pub content-page : (f : ℕ) → f ≡ pageFault y ((pagesOf ed) n) (s .bytes) → (f ≡ 0 → ⊥) → f ≡ contentFault y (guideOf ed) (pagesOf ed) i m n s
   unfolding contentFault
   content-page f h k = page-first f _ _ h k
 
   pub content-rule
-      : (f : ℕ) → f ≡ pageFault y (pageOf n) (s .bytes) → f ≡ 0 → (r : ℕ) → r ≡ ruleFault y pricat20d pageOf i m n s
-      → r ≡ contentFault y pricat20d pageOf i m n s
+      : (f : ℕ) → f ≡ pageFault y ((pagesOf ed) n) (s .bytes) → f ≡ 0 → (r : ℕ) → r ≡ ruleFault y (guideOf ed) (pagesOf ed) i m n s
+      → r ≡ contentFault y (guideOf ed) (pagesOf ed) i m n s
   unfolding contentFault
   content-rule f h k r e = rw (← h, k) e

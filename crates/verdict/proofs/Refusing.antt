@@ -10,24 +10,29 @@ use Rattle.cut.specs.declared.service.Syntax.{Syntax}
 use Rattle.cut.specs.Segments.{Segment}
 use Rattle.cut.specs.Messages.{Message, closeOf}
 use Rattle.guide.specs.Nodes.{Guide}
-use Rattle.guide.specs.Pricat.{pricat20d}
+use Rattle.guide.specs.Pricat.{pricat20d, pricat20c}
 use Rattle.guide.specs.Page.{Page}
+use Rattle.guide.specs.Editions.{guideOf, pagesOf}
+use Rattle.guide.specs.Pages20c.{pageOf20c}
 use Rattle.guide.specs.Pages20d.{pageOf}
+use Rattle.guide.specs.declared.edition.Edition.{Edition}
+use Rattle.guide.specs.declared.edition.Edition.the-variants.{D, C}
 use Rattle.guide.specs.Checks.{Passes}
 use Rattle.guide.specs.Frames.{Framed}
 use Rattle.guide.specs.Heads.{Foremost}
 use Rattle.guide.specs.Accepted.{segmentsOf, Proper}
 use Rattle.guide.specs.Refusal.{Repeats, Refusal, for-fault, for-agreement}
 use Rattle.guide.specs.Judging.{Verdict, accepts, refuses, pickVerdict, judged}
-use Rattle.guide.proofs.Editions.{pricat20d-passes}
-use Rattle.guide.proofs.Framing.{pricat20d-framed}
-use Rattle.guide.proofs.Heading.{pricat20d-foremost}
+use Rattle.guide.proofs.Editions.{pricat20d-passes, pricat20c-passes}
+use Rattle.guide.proofs.Framing.{pricat20d-framed, pricat20c-framed}
+use Rattle.guide.proofs.Heading.{pricat20d-foremost, pricat20c-foremost}
 use Rattle.guide.proofs.Verdicts.{accepts-refuses}
 use Rattle.guide.proofs.JudgedProper.{accepts-iff}
 use Rattle.guide.proofs.JudgedRefused.{refuses-iff}
 use Rattle.agree.specs.declared.agree_first.Agreeing.{Agreeing}
 use Rattle.agree.specs.declared.agree_first.Agreeing.the-variants.{At, Nothing}
 use Rattle.agree.proofs.AgreeRefusal.{searched, repeats-iff, repeats-found, repeated-node}
+use Rattle.verdict.specs.Named.{editionOf, guideNamed, pagesNamed, namedOf}
 use Rattle.verdict.specs.Verdicts.{nodesOf, nodeOf, forIntervals, unlessAgreeing, settled, verdictOf}
 use Rattle.verdict.proofs.Intervals.{nodes-tree, compared-iff}
 use Rattle.verdict.proofs.Accepting.{is-settled}
@@ -101,7 +106,15 @@ module _
       λ r. is-settled y g pages u p h q f m ∙ refusal-settled k i a n r,
     )
 
--- ... for PRICAT 2.0d with its pages
-pub refused-20d
-    : (y : Syntax) (m : Message) (k i a n : ℕ) → (verdictOf y pricat20d pageOf m ≡ refuses k i a n) ↔ Refusal y pricat20d pageOf m k i a n
-refused-20d y m k i a n = verdict-refuses y pricat20d pageOf 26 pricat20d-passes 1 pricat20d-framed pricat20d-foremost m k i a n
+-- ... for each edition with its pages
+refused-by
+    : (ed : Edition) (y : Syntax) (m : Message) (k i a n : ℕ)
+    → (verdictOf y (guideOf ed) (pagesOf ed) m ≡ refuses k i a n) ↔ Refusal y (guideOf ed) (pagesOf ed) m k i a n
+refused-by D y m k i a n = verdict-refuses y pricat20d pageOf 26 pricat20d-passes 1 pricat20d-framed pricat20d-foremost m k i a n
+refused-by C y m k i a n = verdict-refuses y pricat20c pageOf20c 24 pricat20c-passes 1 pricat20c-framed pricat20c-foremost m k i a n
+
+-- ... for the guide named in UNH
+pub refused-named
+    : (y : Syntax) (m : Message) (k i a n : ℕ) → (namedOf y m ≡ refuses k i a n) ↔ Refusal y (guideNamed y m) (pagesNamed y m) m k i a n
+unfolding namedOf
+refused-named y m k i a n = refused-by (editionOf y (segmentsOf m)) y m k i a n

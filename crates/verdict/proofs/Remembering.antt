@@ -7,32 +7,33 @@ use native.Mathlib.Omega.{arith}
 use Rattle.cut.specs.Bytes.{bytesOf}
 use Rattle.element.specs.Plain.{same}
 use Rattle.guide.specs.Judging.{pickBytes}
-use Rattle.guide.specs.Pricat.{pricat20d}
+use Rattle.guide.specs.Editions.{guideOf, pagesOf}
+use Rattle.guide.specs.declared.edition.Edition.{Edition}
 use Rattle.guide.specs.Sheet.{isTag}
 use Rattle.guide.specs.Tree.{one}
 
-module _ (n k : ℕ) (l : Bool) (lin : l ≡ isTag pricat20d (bytesOf "LIN") n) where
-  pub one-more : l ≡ true → k + 1 ≡ k + one (isTag pricat20d (bytesOf "LIN") n)
+module _ (ed : Edition) (n k : ℕ) (l : Bool) (lin : l ≡ isTag (guideOf ed) (bytesOf "LIN") n) where
+  pub one-more : l ≡ true → k + 1 ≡ k + one (isTag (guideOf ed) (bytesOf "LIN") n)
   one-more h = rw (← lin, h)
 
-  pub no-more : l ≡ false → k ≡ k + one (isTag pricat20d (bytesOf "LIN") n)
+  pub no-more : l ≡ false → k ≡ k + one (isTag (guideOf ed) (bytesOf "LIN") n)
   no-more h =
       let z : k ≡ k + 0 = omega arith in
       rw (← lin, h) z
 
-module _ (n : ℕ) (own before : List ℕ) (u : Bool) (unh : u ≡ isTag pricat20d (bytesOf "UNH") n) where
-  pub own-reference : u ≡ true → (s : List ℕ) → s ≡ own → s ≡ pickBytes (isTag pricat20d (bytesOf "UNH") n) own before
+module _ (ed : Edition) (n : ℕ) (own before : List ℕ) (u : Bool) (unh : u ≡ isTag (guideOf ed) (bytesOf "UNH") n) where
+  pub own-reference : u ≡ true → (s : List ℕ) → s ≡ own → s ≡ pickBytes (isTag (guideOf ed) (bytesOf "UNH") n) own before
   own-reference h s e = rw (← unh, h) e
 
-  pub reference-stays : u ≡ false → before ≡ pickBytes (isTag pricat20d (bytesOf "UNH") n) own before
+  pub reference-stays : u ≡ false → before ≡ pickBytes (isTag (guideOf ed) (bytesOf "UNH") n) own before
   reference-stays h = rw (← unh, h)
 
 pub already : (z x : Bool) → z ≡ true → true ≡ z || x
 already z x h = rw h
 
-module _ (n : ℕ) (own : List ℕ) (z : Bool) (so-far : z ≡ false) (b : Bool) (bgm : b ≡ isTag pricat20d (bytesOf "BGM") n) where
+module _ (ed : Edition) (n : ℕ) (own : List ℕ) (z : Bool) (so-far : z ≡ false) (b : Bool) (bgm : b ≡ isTag (guideOf ed) (bytesOf "BGM") n) where
   abbrev Intervals : Bool → Type 0
-  Intervals r = r ≡ z || (isTag pricat20d (bytesOf "BGM") n && same own (bytesOf "Z04"))
+  Intervals r = r ≡ z || (isTag (guideOf ed) (bytesOf "BGM") n && same own (bytesOf "Z04"))
 
   pub no-document : b ≡ false → Intervals false
   no-document h = rw (so-far, ← bgm, h)

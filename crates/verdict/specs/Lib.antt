@@ -2,3 +2,4 @@ pub mod Verdicts
 pub mod Answers
 pub mod Workers
 pub mod Moves
+pub mod Named

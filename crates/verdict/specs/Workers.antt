@@ -13,7 +13,8 @@ use Rattle.guide.specs.Answers.{Answer}
 use Rattle.guide.specs.Content.{text}
 use Rattle.guide.specs.Judging.{Memory, Verdict, accepts, refuses, pickBytes, pickVerdict}
 use Rattle.guide.specs.Placing.{countsAfter}
-use Rattle.guide.specs.Pricat.{pricat20d}
+use Rattle.guide.specs.Editions.{guideOf}
+use Rattle.guide.specs.declared.edition.Edition.{Edition}
 use Rattle.guide.specs.Sheet.{isTag}
 use Rattle.guide.specs.Tree.{one}
 use Rattle.agree.specs.AgreePositions.{positionsOf, firstAgreeing}
@@ -42,28 +43,28 @@ noted y k cs d =
     }
 
 -- r is kept after k and a segment that is given the node n
-pub record KeptAfter (y : Syntax) (d : List ℕ) (start end n : ℕ) (k r : Kept) : Type 0 where
+pub record KeptAfter (ed : Edition) (y : Syntax) (d : List ℕ) (start end n : ℕ) (k r : Kept) : Type 0 where
   pub last : r .last ≡ n
-  pub positions : r .positions ≡ k .positions + one (isTag pricat20d (bytesOf "LIN") n)
+  pub positions : r .positions ≡ k .positions + one (isTag (guideOf ed) (bytesOf "LIN") n)
   pub reference :
-      spanned y (r .reference) d ≡ pickBytes (isTag pricat20d (bytesOf "UNH") n) (text y (part start end d) 1 0) (spanned y (k .reference) d)
+      spanned y (r .reference) d ≡ pickBytes (isTag (guideOf ed) (bytesOf "UNH") n) (text y (part start end d) 1 0) (spanned y (k .reference) d)
   pub intervals :
-      r .intervals ≡ k .intervals || (isTag pricat20d (bytesOf "BGM") n && same (text y (part start end d) 1 0) (bytesOf "Z04"))
+      r .intervals ≡ k .intervals || (isTag (guideOf ed) (bytesOf "BGM") n && same (text y (part start end d) 1 0) (bytesOf "Z04"))
 
 -- the counts that a segment leaves: a fault of its bytes leaves them as they are
-unfoldable pub countsLeft : ℕ → Answer → List ℕ → List ℕ
-countsLeft zero a cs = countsAfter pricat20d a cs
-countsLeft (suc k) a cs = cs
+unfoldable pub countsLeft : Edition → ℕ → Answer → List ℕ → List ℕ
+countsLeft ed zero a cs = countsAfter (guideOf ed) a cs
+countsLeft ed (suc k) a cs = cs
 
 -- 23 or accepted, for n segments from `start` up to `at`
-unfoldable pub agreementAt : Syntax → List ℕ → ℕ → ℕ → ℕ → Verdict
-agreementAt y d start n at =
-    unlessAgreeing y pricat20d (segmentsFrom y start false (part start at d))
+unfoldable pub agreementAt : Edition → Syntax → List ℕ → ℕ → ℕ → ℕ → Verdict
+agreementAt ed y d start n at =
+    unlessAgreeing y (guideOf ed) (segmentsFrom y start false (part start at d))
     (firstAgreeing y (positionsOf (segmentsFrom y start false (part start at d)))) (accepts n at)
 
 -- 24, 23 or accepted
-unfoldable pub endedWith : Syntax → List ℕ → ℕ → Kept → ℕ → ℕ → Verdict
-endedWith y d start k n at =
-    pickVerdict (isTag pricat20d (bytesOf "UNT") (k .last))
-    (pickVerdict (k .intervals) (accepts n at) (agreementAt y d start n at))
+unfoldable pub endedWith : Edition → Syntax → List ℕ → ℕ → Kept → ℕ → ℕ → Verdict
+endedWith ed y d start k n at =
+    pickVerdict (isTag (guideOf ed) (bytesOf "UNT") (k .last))
+    (pickVerdict (k .intervals) (accepts n at) (agreementAt ed y d start n at))
     (refuses 24 (suc n) at 0)

@@ -6,7 +6,7 @@ use agree::first_agreeing;
 use cut::Cut;
 use cut::Syntax;
 use cut::segment_at;
-use judge::Edition;
+use guide::Edition;
 use judge::Placed;
 use judge::has_tag;
 use judge::place;
@@ -15,17 +15,17 @@ ghost use mathlib.Core.Bool.{false};
 ghost use mathlib.Core.Path.{_≡_};
 ghost use Rattle.cut.specs.Bytes.{part};
 ghost use Rattle.cut.specs.Segments.{segmentsFrom};
-ghost use Rattle.guide.specs.Pricat.{pricat20d};
+ghost use Rattle.guide.specs.Editions.{guideOf};
 ghost use Rattle.verdict.specs.Answers.{declared};
 ghost use Rattle.verdict.specs.Verdicts.{nodeOf};
 ghost use Rattle.verdict.specs.Workers.{segmentsAt, agreementAt, endedWith};
 
 // The verdict of n segments without a fault, which end at `at`: 24, 23 or accepted.
-pub(crate) fn ended(y: Syntax, d: &[u8], start: usize, kept: Kept, n: usize, at: usize) -> Verdict
+pub(crate) fn ended(y: Syntax, edition: Edition, d: &[u8], start: usize, kept: Kept, n: usize, at: usize) -> Verdict
     requires { ⌜ suc n < 2 ^ 64 ⌝ }
-    ensures { λ r. ⌜ r ≡ declared (endedWith y (now (d .entry)) start kept n at) ⌝ }
+    ensures { λ r. ⌜ r ≡ declared (endedWith edition y (now (d .entry)) start kept n at) ⌝ }
 {
-    if !has_tag(Edition::D, kept.last, b'U', b'N', b'T') {
+    if !has_tag(edition, kept.last, b'U', b'N', b'T') {
         return Verdict::Refused {
             number: 24,
             segment: n + 1,
@@ -39,19 +39,19 @@ pub(crate) fn ended(y: Syntax, d: &[u8], start: usize, kept: Kept, n: usize, at:
             end: at,
         };
     }
-    agreement(y, d, start, n, at)
+    agreement(y, edition, d, start, n, at)
 }
 
 // 23, or accepted with n segments up to `at`.
-fn agreement(y: Syntax, d: &[u8], start: usize, n: usize, at: usize) -> Verdict
-    ensures { λ r. ⌜ r ≡ declared (agreementAt y (now (d .entry)) start n at) ⌝ }
+fn agreement(y: Syntax, edition: Edition, d: &[u8], start: usize, n: usize, at: usize) -> Verdict
+    ensures { λ r. ⌜ r ≡ declared (agreementAt edition y (now (d .entry)) start n at) ⌝ }
 {
     match first_agreeing(y, d, start, at) {
         Agreeing::At { segment, place } => Verdict::Refused {
             number: 23,
             segment,
             place,
-            node: node_of(y, d, start, at, segment),
+            node: node_of(y, edition, d, start, at, segment),
         },
         Agreeing::Nothing => Verdict::Accepted {
             segments: n,
@@ -61,18 +61,18 @@ fn agreement(y: Syntax, d: &[u8], start: usize, n: usize, at: usize) -> Verdict
 }
 
 // The node of segment i of those from `start` to `end`; 0 if it is given none.
-fn node_of(y: Syntax, d: &[u8], start: usize, end: usize, i: usize) -> usize
-    ensures { λ r. ⌜ r ≡ nodeOf y pricat20d (segmentsFrom y start false (part start end (now (d .entry)))) i ⌝ }
+fn node_of(y: Syntax, edition: Edition, d: &[u8], start: usize, end: usize, i: usize) -> usize
+    ensures { λ r. ⌜ r ≡ nodeOf y (guideOf edition) (segmentsFrom y start false (part start end (now (d .entry)))) i ⌝ }
 {
     if d.len() <= end {
-        return node_at(y, d, start, i);
+        return node_at(y, edition, d, start, i);
     }
-    node_at(y, &d[0..end], start, i)
+    node_at(y, edition, &d[0..end], start, i)
 }
 
 // The node of segment i of all those from `start` on; 0 if it is given none.
-fn node_at(y: Syntax, d: &[u8], start: usize, i: usize) -> usize
-    ensures { λ r. ⌜ r ≡ nodeOf y pricat20d (segmentsAt y (now (d .entry)) start) i ⌝ }
+fn node_at(y: Syntax, edition: Edition, d: &[u8], start: usize, i: usize) -> usize
+    ensures { λ r. ⌜ r ≡ nodeOf y (guideOf edition) (segmentsAt y (now (d .entry)) start) i ⌝ }
 {
     let mut counts = [0u32; 96];
     let mut last = 0;
@@ -88,7 +88,7 @@ fn node_at(y: Syntax, d: &[u8], start: usize, i: usize) -> usize
         else {
             return 0;
         };
-        let placed = place(y, Edition::D, d, place_of, end, last, &mut counts);
+        let placed = place(y, edition, d, place_of, end, last, &mut counts);
         let Placed::At(node) = placed else {
             return 0;
         };

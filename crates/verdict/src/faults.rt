@@ -8,7 +8,7 @@ use element::component_at;
 use element::count_of;
 use element::same_plain;
 use element::tagged;
-use judge::Edition;
+use guide::Edition;
 use judge::has_tag;
 use page::page_fault;
 ghost use Prim.Native.Nat.{suc, _<_, _^_};
@@ -18,14 +18,13 @@ ghost use mathlib.Core.List.{[]};
 ghost use Rattle.cut.specs.Bytes.{part};
 ghost use Rattle.element.specs.Digits.{countOf};
 ghost use Rattle.guide.specs.Content.{text};
-ghost use Rattle.guide.specs.Pricat.{pricat20d};
-ghost use Rattle.guide.specs.Pages20d.{pageOf};
 ghost use Rattle.guide.specs.Judging.{is, bytesFault, endFault, lineFault, ruleFault, contentFault};
+ghost use Rattle.guide.specs.Editions.{guideOf, pagesOf};
 ghost use Rattle.verdict.specs.Workers.{segmentIn, spanned, noted};
 
 // 12, 10, 11, in this order; 0 if none.
-pub(crate) fn bytes_fault(y: Syntax, d: &[u8], start: usize, end: usize, piece: bool) -> u32
-    ensures { λ r. ⌜ r ≡ bytesFault y pricat20d pageOf (segmentIn start end piece (now (d .entry))) ⌝ }
+pub(crate) fn bytes_fault(y: Syntax, edition: Edition, d: &[u8], start: usize, end: usize, piece: bool) -> u32
+    ensures { λ r. ⌜ r ≡ bytesFault y (guideOf edition) (pagesOf edition) (segmentIn start end piece (now (d .entry))) ⌝ }
 {
     if piece {
         return 12;
@@ -53,8 +52,8 @@ fn is_numbered(y: Syntax, d: &[u8], start: usize, end: usize, n: usize) -> bool
 }
 
 // 21 of UNT, which is segment i; 0 if its count and reference are right.
-fn end_fault(y: Syntax, d: &[u8], start: usize, end: usize, i: usize, reference: Span) -> u32
-    ensures { λ r. ⌜ r ≡ endFault y pricat20d pageOf i (spanned y reference (now (d .entry))) (segmentIn start end false (now (d .entry))) ⌝ }
+fn end_fault(y: Syntax, edition: Edition, d: &[u8], start: usize, end: usize, i: usize, reference: Span) -> u32
+    ensures { λ r. ⌜ r ≡ endFault y (guideOf edition) (pagesOf edition) i (spanned y reference (now (d .entry))) (segmentIn start end false (now (d .entry))) ⌝ }
 {
     if !is_numbered(y, d, start, end, i) {
         return 21;
@@ -71,8 +70,8 @@ fn end_fault(y: Syntax, d: &[u8], start: usize, end: usize, i: usize, reference:
 }
 
 // 22 of the LIN whose number should be n; 0 if it is.
-fn line_fault(y: Syntax, d: &[u8], start: usize, end: usize, n: usize) -> u32
-    ensures { λ r. ⌜ r ≡ lineFault y pricat20d pageOf n (segmentIn start end false (now (d .entry))) ⌝ }
+fn line_fault(y: Syntax, edition: Edition, d: &[u8], start: usize, end: usize, n: usize) -> u32
+    ensures { λ r. ⌜ r ≡ lineFault y (guideOf edition) (pagesOf edition) n (segmentIn start end false (now (d .entry))) ⌝ }
 {
     if !is_numbered(y, d, start, end, n) {
         return 22;
@@ -81,16 +80,16 @@ fn line_fault(y: Syntax, d: &[u8], start: usize, end: usize, n: usize) -> u32
 }
 
 // 21 or 22 of segment i, which is given the node n; 0 if it is neither UNT nor LIN, or right.
-fn rule_fault(y: Syntax, d: &[u8], start: usize, end: usize, i: usize, n: usize, kept: Kept) -> u32
+fn rule_fault(y: Syntax, edition: Edition, d: &[u8], start: usize, end: usize, i: usize, n: usize, kept: Kept) -> u32
     requires { ⌜ suc (kept .positions) < 2 ^ 64 ⌝ }
-    ensures { λ r. ⌜ r ≡ ruleFault y pricat20d pageOf i (noted y kept [] (now (d .entry))) n (segmentIn start end false (now (d .entry))) ⌝ }
+    ensures { λ r. ⌜ r ≡ ruleFault y (guideOf edition) (pagesOf edition) i (noted y kept [] (now (d .entry))) n (segmentIn start end false (now (d .entry))) ⌝ }
 {
-    if has_tag(Edition::D, n, b'U', b'N', b'T') {
+    if has_tag(edition, n, b'U', b'N', b'T') {
         let reference = kept.reference;
-        return end_fault(y, d, start, end, i, reference);
+        return end_fault(y, edition, d, start, end, i, reference);
     }
-    if has_tag(Edition::D, n, b'L', b'I', b'N') {
-        return line_fault(y, d, start, end, kept.positions + 1);
+    if has_tag(edition, n, b'L', b'I', b'N') {
+        return line_fault(y, edition, d, start, end, kept.positions + 1);
     }
     0
 }
@@ -98,6 +97,7 @@ fn rule_fault(y: Syntax, d: &[u8], start: usize, end: usize, i: usize, n: usize,
 // The fault of segment i once it has the node n: its components, and then 21 or 22.
 pub(crate) fn content_fault(
     y: Syntax,
+    edition: Edition,
     d: &[u8],
     start: usize,
     end: usize,
@@ -106,11 +106,11 @@ pub(crate) fn content_fault(
     kept: Kept,
 ) -> u32
     requires { ⌜ suc (kept .positions) < 2 ^ 64 ⌝ }
-    ensures { λ r. ⌜ r ≡ contentFault y pricat20d pageOf i (noted y kept [] (now (d .entry))) n (segmentIn start end false (now (d .entry))) ⌝ }
+    ensures { λ r. ⌜ r ≡ contentFault y (guideOf edition) (pagesOf edition) i (noted y kept [] (now (d .entry))) n (segmentIn start end false (now (d .entry))) ⌝ }
 {
-    let fault = page_fault(y, n, d, start, end);
+    let fault = page_fault(y, edition, n, d, start, end);
     if fault != 0 {
         return fault;
     }
-    rule_fault(y, d, start, end, i, n, kept)
+    rule_fault(y, edition, d, start, end, i, n, kept)
 }

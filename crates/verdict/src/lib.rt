@@ -1,5 +1,6 @@
 // The verdict of one message: its segments one after the other, then its end, then agreeing positions.
 mod answers;
+mod edition;
 mod ended;
 mod faults;
 mod kept;

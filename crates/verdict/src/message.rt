@@ -1,6 +1,7 @@
 // The verdict of a message: one pass over its segments, which finds its end too.
 use crate::answers::Judged;
 use crate::answers::Verdict;
+use crate::edition::edition_at;
 use crate::ended::ended;
 use crate::kept::Kept;
 use crate::kept::keep;
@@ -10,13 +11,14 @@ use cut::Syntax;
 use cut::member_at;
 use cut::message_end;
 use element::Span;
+use guide::Edition;
 use judge::Placed;
 ghost use mathlib.Core.Path.{_≡_};
 ghost use Rattle.cut.specs.Held.{unless, held};
 ghost use Rattle.cut.specs.Messages.{lastEnd, body};
-ghost use Rattle.guide.specs.Pages20d.{pageOf};
-ghost use Rattle.guide.specs.Pricat.{pricat20d};
+ghost use Rattle.guide.specs.Editions.{guideOf, pagesOf};
 ghost use Rattle.verdict.specs.Answers.{declared, judgedAs};
+ghost use Rattle.verdict.specs.Named.{verdictNamed};
 ghost use Rattle.verdict.specs.Verdicts.{verdictFrom};
 ghost use Rattle.verdict.specs.Workers.{segmentsAt};
 
@@ -36,9 +38,9 @@ fn close_of(y: Syntax, d: &[u8], end: usize, last: bool) -> usize
     message_end(y, d, end)
 }
 
-// The verdict and the end of the message that the segment at `start` begins.
-pub fn judged(y: Syntax, d: &[u8], start: usize) -> Judged
-    ensures { λ r. ⌜ r ≡ judgedAs (declared (verdictFrom y pricat20d pageOf start (held (segmentsAt y (now (d .entry)) start)))) (lastEnd start (held (segmentsAt y (now (d .entry)) start))) ⌝ }
+// The verdict and the end of the message that the segment at `start` begins, by the guide of an edition.
+fn judged_by(y: Syntax, edition: Edition, d: &[u8], start: usize) -> Judged
+    ensures { λ r. ⌜ r ≡ judgedAs (declared (verdictFrom y (guideOf edition) (pagesOf edition) start (held (segmentsAt y (now (d .entry)) start)))) (lastEnd start (held (segmentsAt y (now (d .entry)) start))) ⌝ }
 {
     let mut counts = [0u32; 96];
     let mut kept = Kept {
@@ -59,9 +61,9 @@ pub fn judged(y: Syntax, d: &[u8], start: usize) -> Judged
             last,
         } = s
         else {
-            return with_end(ended(y, d, start, kept, n, at), at);
+            return with_end(ended(y, edition, d, start, kept, n, at), at);
         };
-        let answer = segment_answer(y, d, place, end, piece, n + 1, kept, &mut counts);
+        let answer = segment_answer(y, edition, d, place, end, piece, n + 1, kept, &mut counts);
         let node = match answer {
             Placed::At(node) => node,
             Placed::Refused { number, node } => {
@@ -74,12 +76,19 @@ pub fn judged(y: Syntax, d: &[u8], start: usize) -> Judged
                 return with_end(verdict, close_of(y, d, end, last));
             }
         };
-        kept = keep(y, d, place, end, node, kept);
+        kept = keep(y, edition, d, place, end, node, kept);
         n += 1;
         at = end;
         if last {
-            return with_end(ended(y, d, start, kept, n, at), at);
+            return with_end(ended(y, edition, d, start, kept, n, at), at);
         }
         first = false;
     }
+}
+
+// The verdict and the end of the message that the segment at `start` begins, by the guide named in UNH.
+pub fn judged(y: Syntax, d: &[u8], start: usize) -> Judged
+    ensures { λ r. ⌜ r ≡ judgedAs (declared (verdictNamed y start (held (segmentsAt y (now (d .entry)) start)))) (lastEnd start (held (segmentsAt y (now (d .entry)) start))) ⌝ }
+{
+    judged_by(y, edition_at(y, d, start), d, start)
 }

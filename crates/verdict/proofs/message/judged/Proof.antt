@@ -14,7 +14,7 @@ use Rattle.verdict.proofs.message.judged.Statement.{statement}
 use Rattle.verdict.proofs.message.judged.Tie as tie
 
 abbrev Inv-loop : tie.InvT-loop
-Inv-loop y d start counts₀ kept₀ at₀ n₀ first₀ counts kept at n first = Passed y d start (members first (segmentsAt y d at)) counts kept at n
+Inv-loop y d start counts₀ kept₀ at₀ n₀ first₀ counts kept at n first = Passed _ y d start (members first (segmentsAt y d at)) counts kept at n
 
 abbrev μ-loop : tie.MeasureT-loop
 μ-loop y d start counts₀ kept₀ at₀ n₀ first₀ counts kept at n first = length d - at
@@ -26,7 +26,7 @@ took
 took c = taken _ _ _ _ _ _ _ _ (sym (c .before .before .before .member-at .ensures) ∙ c .before .s .given .1)
 
 loop-holds : tie.Need-loop-holds Inv-loop μ-loop
-loop-holds c = passed-first _ _ _
+loop-holds c = passed-first _ _ _ _
 
 member-at-requires : tie.Need-member-at-requires Inv-loop μ-loop
 member-at-requires c κs = search needs
@@ -49,7 +49,7 @@ with-end-requires c κs = search needs
 returns : tie.Need-returns Inv-loop μ-loop
 returns c =
     let none = c .before .before in
-    all-ended _ _ _ _ _ _ _ _ (none .before .before .before .loop .inv) (no-member _ _ _ _ (sym (none .before .before .member-at .ensures) ∙ none .enum-told .given .1)) _ (c .before .ended .ensures) _ (c .with-end .ensures)
+    all-ended _ _ _ _ _ _ _ _ _ (none .before .before .before .loop .inv) (no-member _ _ _ _ (sym (none .before .before .member-at .ensures) ∙ none .enum-told .given .1)) _ (c .before .ended .ensures) _ (c .with-end .ensures)
 
 add-segment-answer : tie.Need-add-segment-answer Inv-loop μ-loop
 add-segment-answer c =
@@ -87,7 +87,7 @@ returns-2 c =
     let told = c .before .before in
     let cut = told .before .before .before .before .before in
     let q = took cut in
-    passed-refused _ _ _ _ _ _ _ _ (cut .before .before .before .before .loop .inv) _ _ _ (q .cuts) _ (q .list) _ (told .before .before .before .segment-answer .ensures .0) _ _ (told .before .answer2 .given .1) _
+    passed-refused _ _ _ _ _ _ _ _ _ (cut .before .before .before .before .loop .inv) _ _ _ (q .cuts) _ (q .list) _ (told .before .before .before .segment-answer .ensures .0) _ _ (told .before .answer2 .given .1) _
     (c .before .close-of .ensures) _ (c .with-end2 .ensures)
 
 keep-requires : tie.Need-keep-requires Inv-loop μ-loop
@@ -125,9 +125,9 @@ returns-3 c =
     let cut = placed .before .before .before .before .before in
     let q = took cut in
     let p =
-    passed-on _ _ _ _ _ _ _ _ (cut .before .before .before .before .loop .inv) _ _ _ (q .cuts) _ (q .list) _ (placed .before .before .before .segment-answer .ensures .0) _ (placed .before .answer .given .1) _ _
+    passed-on _ _ _ _ _ _ _ _ _ (cut .before .before .before .before .loop .inv) _ _ _ (q .cuts) _ (q .list) _ (placed .before .before .before .segment-answer .ensures .0) _ (placed .before .answer .given .1) _ _
     (kept .keep .ensures) (placed .before .before .before .segment-answer .ensures .1) in
-    all-ended _ _ _ _ _ _ _ _ p (none-left _ _ _ _ _ _ _ _ _ p (closed .if1 .taken)) _ (c .before .ended2 .ensures) _ (c .with-end3 .ensures)
+    all-ended _ _ _ _ _ _ _ _ _ p (none-left _ _ _ _ _ _ _ _ _ _ p (closed .if1 .taken)) _ (c .before .ended2 .ensures) _ (c .with-end3 .ensures)
 
 loop-less : tie.Need-loop-less Inv-loop μ-loop
 loop-less c =
@@ -141,9 +141,9 @@ loop-again c =
     let cut = placed .before .before .before .before .before in
     let q = took cut in
     let p =
-    passed-on _ _ _ _ _ _ _ _ (cut .before .before .before .before .loop .inv) _ _ _ (q .cuts) _ (q .list) _ (placed .before .before .before .segment-answer .ensures .0) _ (placed .before .answer .given .1) _ _
+    passed-on _ _ _ _ _ _ _ _ _ (cut .before .before .before .before .loop .inv) _ _ _ (q .cuts) _ (q .list) _ (placed .before .before .before .segment-answer .ensures .0) _ (placed .before .answer .given .1) _ _
     (kept .keep .ensures) (placed .before .before .before .segment-answer .ensures .1) in
-    passed-more _ _ _ _ _ _ _ _ _ p (c .if1 .left)
+    passed-more _ _ _ _ _ _ _ _ _ _ p (c .if1 .left)
 
 pub judged-spec : {M : Type 1} → statement M
 judged-spec =

@@ -1,0 +1,42 @@
+// Which guide judges a message: the edition that its UNH names.
+use cut::Cut;
+use cut::Syntax;
+use cut::segment_at;
+use element::component_at;
+use element::is_code;
+use guide::Edition;
+ghost use mathlib.Core.Bool.{false};
+ghost use mathlib.Core.Path.{_≡_};
+ghost use Rattle.cut.specs.Bytes.{part};
+ghost use Rattle.cut.specs.Held.{held};
+ghost use Rattle.verdict.specs.Named.{editionIn, editionOf};
+ghost use Rattle.verdict.specs.Workers.{segmentsAt};
+
+// The edition that a segment from `start` to `end` names in DE0057.
+fn edition_in(y: Syntax, d: &[u8], start: usize, end: usize) -> Edition
+    ensures { λ r. ⌜ r ≡ editionIn y (part start end (now (d .entry))) ⌝ }
+{
+    let span = component_at(y, d, start, end, 2, 4);
+    let a = span.start;
+    let e = span.end;
+    if is_code(y, d, a, e, b"2.0c") {
+        return Edition::C;
+    }
+    Edition::D
+}
+
+// The edition of the message that the segment at `start` begins.
+pub(crate) fn edition_at(y: Syntax, d: &[u8], start: usize) -> Edition
+    ensures { λ r. ⌜ r ≡ editionOf y (held (segmentsAt y (now (d .entry)) start)) ⌝ }
+{
+    let s = segment_at(y, d, start);
+    let Cut::Segment {
+        start: place,
+        end,
+        piece: _,
+    } = s
+    else {
+        return Edition::D;
+    };
+    edition_in(y, d, place, end)
+}
