@@ -108,7 +108,7 @@ pub(crate) fn content_fault(
     requires { ⌜ suc (kept .positions) < 2 ^ 64 ⌝ }
     ensures { λ r. ⌜ r ≡ contentFault y pricat20d pageOf i (noted y kept [] (now (d .entry))) n (segmentIn start end false (now (d .entry))) ⌝ }
 {
-    let fault = page_fault(y, n, d, start, end);
+    let fault = page_fault(y, Edition::D, n, d, start, end);
     if fault != 0 {
         return fault;
     }
