@@ -17,7 +17,7 @@ use Rattle.guide.specs.Nodes.{among, chosen}
 use Rattle.guide.specs.Pages20d.{pages20d}
 use Rattle.guide.proofs.Basics.{and-left, and-right}
 use Rattle.guide.proofs.Columns.{same-packed}
-use Rattle.page.specs.PageColumns.{joined, column, codesOf, allElements, allRows, allCodes}
+use Rattle.page.specs.PageColumns.{joined, column, codesOf, rows20d, allCodes}
 use Rattle.page.specs.PageKeys.{keyOf, keyAmong}
 use Rattle.page.specs.PageWords.{span, codesIn}
 use Rattle.page.proofs.PageSpans.{span-next, span-none}
@@ -50,7 +50,7 @@ allShort [] = true
 allShort (c ∷ cs) = short c && allShort cs
 
 short-codes : T (allShort allCodes)
-unfolding pages20d joined column codesOf allElements allRows allCodes
+unfolding pages20d joined column codesOf rows20d allCodes
 short-codes = tt
 
 short-at : (cs : List (List ℕ)) (n : ℕ) → T (allShort cs) → T (short (getD cs n []))

@@ -6,8 +6,9 @@ use lib.ListN.{getD}
 use Rattle.guide.specs.Columns.{packed}
 use Rattle.guide.specs.Page.{Row, unused, Composite, Page, beyond}
 use Rattle.guide.specs.Pages20d.{pages20d, pageOf}
+use Rattle.guide.specs.Pages20c.{pages20c, pageOf20c}
 use Rattle.guide.proofs.PageFace.{isMust, anyMust}
-use Rattle.page.specs.PageColumns.{joined, column, codesOf, allElements, allRows, allCodes}
+use Rattle.page.specs.PageColumns.{joined, column, codesOf, allElements, rows20d, allRows, allCodes}
 use Rattle.page.specs.PageWords.{span, reach, codesIn, formatIn, rowIn, elementIn, ElementWord, pageIn, lacking, NodeWord}
 
 -- a cell of a column
@@ -22,35 +23,60 @@ module _ {A B : Type 0} (f : ℕ → B) (g : A → B) (words : List ℕ) (l : Li
   told : (k n : ℕ) → n ≡ k → f (getD words k 0) ≡ g (getD l n z)
   told k n e = sym (cell f words k 0) ∙ rw (e, order, none) (cell g l k z)
 
-abbrev nodeTable : List ℕ
-nodeTable =
+-- the nodes of an edition, by its pages
+module _ (words : List ℕ) (pages : List Page) (order : column pageIn words ≡ column (λ (p : Page). p) pages)
+    (reached : column (λ (w : ℕ). w / 32768) words ≡ column (reach lacking) pages) where
+  node-arm : (k n : ℕ) → n ≡ k → NodeWord (getD words k 0) (getD pages n [])
+  unfolding pageIn span reach
+  node-arm k n e =
+      record {
+        page = told pageIn (λ (p : Page). p) words pages [] order refl k n e;
+        reach = told (λ (w : ℕ). w / 32768) (reach lacking) words pages [] reached refl k n e;
+      }
+
+abbrev nodeTable20d : List ℕ
+nodeTable20d =
     0 ∷ 67584 ∷ 70658 ∷ 33799 ∷ 33800 ∷ 33801 ∷ 33802 ∷ 33803 ∷ 33804 ∷ 67597 ∷ 67599 ∷ 67601 ∷ 67603 ∷ 33813 ∷ 33814 ∷ 33815 ∷ 101400 ∷ 67611 ∷
     68637 ∷ 33824 ∷ 67617 ∷ 33827 ∷ 33828 ∷ 101413 ∷ 33832 ∷ 67625 ∷ 67627 ∷ []
 
-node-pages : column pageIn nodeTable ≡ column (λ (p : Page). p) pages20d
+pages-20d : column pageIn nodeTable20d ≡ column (λ (p : Page). p) pages20d
 unfolding pages20d joined column allElements span pageIn
-node-pages = refl
+pages-20d = refl
 
-node-reach : column (λ (w : ℕ). w / 32768) nodeTable ≡ column (reach lacking) pages20d
+reach-20d : column (λ (w : ℕ). w / 32768) nodeTable20d ≡ column (reach lacking) pages20d
 unfolding pages20d column isMust anyMust reach lacking
-node-reach = refl
+reach-20d = refl
 
-pub node-arm : (k n : ℕ) → n ≡ k → NodeWord (getD nodeTable k 0) (pageOf n)
-unfolding pageOf pageIn span reach
-node-arm k n e =
-    record {
-      page = told pageIn (λ (p : Page). p) nodeTable pages20d [] node-pages refl k n e;
-      reach = told (λ (w : ℕ). w / 32768) (reach lacking) nodeTable pages20d [] node-reach refl k n e;
-    }
+pub node-arm-20d : (k n : ℕ) → n ≡ k → NodeWord (getD nodeTable20d k 0) (pageOf n)
+unfolding pageOf
+node-arm-20d = node-arm nodeTable20d pages20d pages-20d reach-20d
+
+abbrev nodeTable20c : List ℕ
+nodeTable20c =
+    0 ∷ 67629 ∷ 70658 ∷ 33799 ∷ 33800 ∷ 33801 ∷ 33802 ∷ 33804 ∷ 67597 ∷ 67599 ∷ 67601 ∷ 67603 ∷ 33813 ∷ 33814 ∷ 33815 ∷ 101400 ∷ 67611 ∷ 68655 ∷
+    33824 ∷ 33827 ∷ 33828 ∷ 101413 ∷ 33832 ∷ 67625 ∷ 67627 ∷ []
+
+pages-20c : column pageIn nodeTable20c ≡ column (λ (p : Page). p) pages20c
+unfolding pages20d pages20c joined column allElements span pageIn
+pages-20c = refl
+
+reach-20c : column (λ (w : ℕ). w / 32768) nodeTable20c ≡ column (reach lacking) pages20c
+unfolding pages20d pages20c column isMust anyMust reach lacking
+reach-20c = refl
+
+pub node-arm-20c : (k n : ℕ) → n ≡ k → NodeWord (getD nodeTable20c k 0) (pageOf20c n)
+unfolding pageOf20c
+node-arm-20c = node-arm nodeTable20c pages20c pages-20c reach-20c
 
 abbrev elementTable : List ℕ
 elementTable =
     1082368 ∷ 1217537 ∷ 1082374 ∷ 1082375 ∷ 1032 ∷ 1033 ∷ 1034 ∷ 1149963 ∷ 1149966 ∷ 1149969 ∷ 1116180 ∷ 1116182 ∷ 1116184 ∷ 1082394 ∷ 1149979 ∷
     1082398 ∷ 1149983 ∷ 1082402 ∷ 1082403 ∷ 1082404 ∷ 1116197 ∷ 1116199 ∷ 1149993 ∷ 1082412 ∷ 1082413 ∷ 1070 ∷ 1116207 ∷ 1082417 ∷ 1116210 ∷ 1082420 ∷
-    1082421 ∷ 4150 ∷ 1120314 ∷ 1082432 ∷ 1117249 ∷ 1150020 ∷ 1082439 ∷ 1082440 ∷ 1097 ∷ 1116234 ∷ 1116236 ∷ 1082446 ∷ 1117263 ∷ 1082450 ∷ 1082451 ∷ []
+    1082421 ∷ 4150 ∷ 1120314 ∷ 1082432 ∷ 1117249 ∷ 1150020 ∷ 1082439 ∷ 1082440 ∷ 1097 ∷ 1116234 ∷ 1116236 ∷ 1082446 ∷ 1117263 ∷ 1082450 ∷ 1082451 ∷
+    1082368 ∷ 1217620 ∷ 1082420 ∷ 1082421 ∷ 135257 ∷ []
 
 element-rows : column elementIn elementTable ≡ column (λ (k : Composite). k) allElements
-unfolding pages20d joined column allElements allRows span elementIn
+unfolding pages20d joined column allElements rows20d allRows span elementIn
 element-rows = refl
 
 element-reach : column (λ (w : ℕ). w / 32768 % 32) elementTable ≡ column (λ (k : Composite). reach isMust (k .rows)) allElements
@@ -72,10 +98,11 @@ rowTable =
     3279898 ∷ 3277853 ∷ 36831232 ∷ 0 ∷ 3279902 ∷ 3277857 ∷ 36831232 ∷ 3277858 ∷ 0 ∷ 268566528 ∷ 537001984 ∷ 3281955 ∷ 3277864 ∷ 3277865 ∷ 3277866 ∷
     3277867 ∷ 6946816 ∷ 0 ∷ 36831232 ∷ 3278892 ∷ 3277870 ∷ 36831232 ∷ 3277871 ∷ 3278896 ∷ 3294258 ∷ 17895491 ∷ 0 ∷ 0 ∷ 268500992 ∷ 3277895 ∷
     16384000 ∷ 0 ∷ 0 ∷ 10027008 ∷ 8455240 ∷ 3277897 ∷ 8521802 ∷ 19529728 ∷ 19464192 ∷ 3278924 ∷ 36831232 ∷ 3277902 ∷ 3277903 ∷ 6946816 ∷ 0 ∷
-    36831232 ∷ 3277904 ∷ 3277905 ∷ 16384000 ∷ 3277906 ∷ 8520787 ∷ 19529728 ∷ 19464192 ∷ 6946816 ∷ 14811136 ∷ []
+    36831232 ∷ 3277904 ∷ 3277905 ∷ 16384000 ∷ 3277906 ∷ 8520787 ∷ 19529728 ∷ 19464192 ∷ 6946816 ∷ 14811136 ∷ 6423552 ∷ 3277825 ∷ 3277826 ∷ 2229251 ∷
+    6423636 ∷ 17895491 ∷ 0 ∷ 0 ∷ 268566528 ∷ []
 
 row-table : column rowIn rowTable ≡ column (λ (r : Row). r) allRows
-unfolding pages20d joined column codesOf allElements allRows allCodes span codesIn formatIn rowIn
+unfolding pages20d joined column codesOf rows20d allRows allCodes span codesIn formatIn rowIn
 row-table = refl
 
 pub row-arm : (k n : ℕ) → n ≡ k → rowIn (getD rowTable k 0) ≡ getD allRows n unused
@@ -90,10 +117,10 @@ codeTable =
     22172997 ∷ 312 ∷ 313 ∷ 20000858 ∷ 20525146 ∷ 305 ∷ 20328538 ∷ 323 ∷ 344 ∷ 20263258 ∷ 20328794 ∷ 20394330 ∷ 20459866 ∷ 20525402 ∷ 19935834 ∷
     20001370 ∷ 20066906 ∷ 20132442 ∷ 20197978 ∷ 20263514 ∷ 20460122 ∷ 20525658 ∷ 19936090 ∷ 20001626 ∷ 20067162 ∷ 20001882 ∷ 20459610 ∷ 20525146 ∷
     19935578 ∷ 20001114 ∷ 21774659 ∷ 21909057 ∷ 77873 ∷ 20396104 ∷ 22626628 ∷ 20133425 ∷ 20198961 ∷ 20131891 ∷ 20000858 ∷ 20525146 ∷ 21774659 ∷
-    77873 ∷ 21518155 ∷ []
+    77873 ∷ 21518155 ∷ 5959069234 ∷ []
 
 code-table : codeTable ≡ column packed allCodes
-unfolding pages20d packed joined column codesOf allElements allRows allCodes
+unfolding pages20d packed joined column codesOf rows20d allCodes
 code-table = refl
 
 pub code-arm : (k n : ℕ) → n ≡ k → getD codeTable k 1 ≡ packed (getD allCodes n [])

@@ -1,7 +1,9 @@
 -- The pages laid out: their elements, rows and codes each joined to one list.
 use Prim.Native.Nat.{ℕ}
 use mathlib.Core.List.{List, [], _∷_, _++_}
-use Rattle.guide.specs.Page.{Row, used, unused, Composite}
+use Rattle.guide.specs.Page.{must, Row, used, unused, Composite, codes}
+use Rattle.guide.specs.Composites.{S009, C273}
+use Rattle.guide.specs.PageMakers.{UNH, IMD}
 use Rattle.guide.specs.Pages20d.{pages20d}
 
 -- lists joined to one
@@ -20,12 +22,17 @@ unfoldable pub codesOf : Row → List (List ℕ)
 codesOf (used s f cs) = cs
 codesOf unused = []
 
--- the elements of all pages, their rows, the rows' codes
+-- the rows of the pages of 2.0d
+unfoldable pub rows20d : List Row
+rows20d = joined (column (λ (k : Composite). k .rows) (joined pages20d))
+
+-- the elements of all pages, the rows of all elements, the codes of all rows. Behind those of 2.0d stands what only 2.0c has: two pages, of each of
+-- them one composite, of these one code
 unfoldable pub allElements : List Composite
-allElements = joined pages20d
+allElements = joined pages20d ++ (UNH "2.0c" ++ IMD must)
 
 unfoldable pub allRows : List Row
-allRows = joined (column (λ (k : Composite). k .rows) allElements)
+allRows = rows20d ++ (S009 "2.0c" ++ C273 must)
 
 unfoldable pub allCodes : List (List ℕ)
-allCodes = joined (column codesOf allRows)
+allCodes = joined (column codesOf rows20d) ++ codes ("2.0c" ∷ [])

@@ -8,13 +8,14 @@ use cut::Syntax;
 use element::Cursor;
 use element::Visit;
 use element::plain_length;
+use guide::Edition;
 ghost use Prim.Native.Nat.{_+_};
 ghost use mathlib.Core.Path.{_≡_};
 ghost use lib.ListN.{length, drop};
 ghost use Rattle.cut.specs.Bytes.{part};
 ghost use Rattle.element.specs.Plain.{decoded};
 ghost use Rattle.guide.specs.Page.{elementOf};
-ghost use Rattle.guide.specs.Pages20d.{pageOf};
+ghost use Rattle.guide.specs.Editions.{pagesOf};
 ghost use Rattle.guide.specs.PageFault.{pageFault};
 ghost use Rattle.guide.specs.Choices.{orElse};
 ghost use Rattle.guide.proofs.PageFace.{opened, moodFault, endFault, absentFault};
@@ -31,24 +32,24 @@ struct Pass {
 }
 
 // The fault of the elements of a node's page behind element e, where none of them stands.
-fn absent(node: usize, e: usize) -> u32
-    ensures { λ r. ⌜ r ≡ absentFault (drop e (pageOf node)) ⌝ }
+fn absent(edition: Edition, node: usize, e: usize) -> u32
+    ensures { λ r. ⌜ r ≡ absentFault (drop e (pagesOf edition node)) ⌝ }
 {
-    if e < node_word(node) / 32768 {
+    if e < node_word(edition, node) / 32768 {
         return 17;
     }
     0
 }
 
 // The word of element e, which is known where the pass stands in it.
-fn word_of(node: usize, at: Pass, e: usize) -> usize
-    requires { ⌜ ElementWord (at .word) (elementOf (pageOf node) (at .element)) ⌝ }
-    ensures { λ r. ⌜ ElementWord r (elementOf (pageOf node) e) ⌝ }
+fn word_of(edition: Edition, node: usize, at: Pass, e: usize) -> usize
+    requires { ⌜ ElementWord (at .word) (elementOf (pagesOf edition node) (at .element)) ⌝ }
+    ensures { λ r. ⌜ ElementWord r (elementOf (pagesOf edition node) e) ⌝ }
 {
     if e == at.element {
         return at.word;
     }
-    element_at(node, e)
+    element_at(edition, node, e)
 }
 
 // The mood of the element that has a word before its first component.
@@ -160,19 +161,20 @@ fn pass_component(
     d: &[u8],
     a: usize,
     b: usize,
+    edition: Edition,
     node: usize,
     at: Pass,
     e: usize,
     c: usize,
 ) -> Pass
-    requires { ⌜ (at .fault ≡ 0) × ElementWord (at .word) (elementOf (pageOf node) (at .element)) ⌝ }
-    ensures { λ r. ⌜ Passed y (pageOf node) (at .element) (at .component) (at .mood) (record { element = e; component = c; start = a; bytes = part a b (now (d .entry)) }) (r .fault) (r .element) (r .component) (r .mood) ⌝ }
-    ensures { λ r. ⌜ ElementWord (r .word) (elementOf (pageOf node) (r .element)) ⌝ }
+    requires { ⌜ (at .fault ≡ 0) × ElementWord (at .word) (elementOf (pagesOf edition node) (at .element)) ⌝ }
+    ensures { λ r. ⌜ Passed y (pagesOf edition node) (at .element) (at .component) (at .mood) (record { element = e; component = c; start = a; bytes = part a b (now (d .entry)) }) (r .fault) (r .element) (r .component) (r .mood) ⌝ }
+    ensures { λ r. ⌜ ElementWord (r .word) (elementOf (pagesOf edition node) (r .element)) ⌝ }
 {
     if e == 0 {
         return at;
     }
-    let word = word_of(node, at, e);
+    let word = word_of(edition, node, at, e);
     let fault = left_fault(at, c);
     if 0 < fault {
         return Pass {
@@ -187,20 +189,27 @@ fn pass_component(
 }
 
 // The fault that is known where no component is left.
-fn last_fault(node: usize, at: Pass) -> u32
-    requires { ⌜ ElementWord (at .word) (elementOf (pageOf node) (at .element)) ⌝ }
-    ensures { λ r. ⌜ r ≡ orElse (endFault (moodOf (at .mood)) (drop (at .component + 1) (elementOf (pageOf node) (at .element) .rows))) (absentFault (drop (at .element) (pageOf node))) ⌝ }
+fn last_fault(edition: Edition, node: usize, at: Pass) -> u32
+    requires { ⌜ ElementWord (at .word) (elementOf (pagesOf edition node) (at .element)) ⌝ }
+    ensures { λ r. ⌜ r ≡ orElse (endFault (moodOf (at .mood)) (drop (at .component + 1) (elementOf (pagesOf edition node) (at .element) .rows))) (absentFault (drop (at .element) (pagesOf edition node))) ⌝ }
 {
     let fault = ending(at.word, at.component, at.mood);
     if 0 < fault {
         return fault;
     }
-    absent(node, at.element)
+    absent(edition, node, at.element)
 }
 
-// 0, or the number of the segment's first fault: 18, 17, 19 or 20.
-pub fn page_fault(y: Syntax, node: usize, d: &[u8], start: usize, end: usize) -> u32
-    ensures { λ r. ⌜ r ≡ pageFault y (pageOf node) (part start end (now (d .entry))) ⌝ }
+// 0, or the number of the segment's first fault against the page of a node of an edition: 18, 17, 19 or 20.
+pub fn page_fault(
+    y: Syntax,
+    edition: Edition,
+    node: usize,
+    d: &[u8],
+    start: usize,
+    end: usize,
+) -> u32
+    ensures { λ r. ⌜ r ≡ pageFault y (pagesOf edition node) (part start end (now (d .entry))) ⌝ }
 {
     let mut cursor = Cursor::new(d, start, end);
     let mut at = Pass {
@@ -220,9 +229,9 @@ pub fn page_fault(y: Syntax, node: usize, d: &[u8], start: usize, end: usize) ->
             next,
         } = visit
         else {
-            return last_fault(node, at);
+            return last_fault(edition, node, at);
         };
-        at = pass_component(y, d, a, b, node, at, e, c);
+        at = pass_component(y, d, a, b, edition, node, at, e, c);
         if 0 < at.fault {
             return at.fault;
         }

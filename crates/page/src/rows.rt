@@ -2,20 +2,21 @@
 use crate::words::element_word;
 use crate::words::node_word;
 use crate::words::row_word;
+use guide::Edition;
 ghost use mathlib.Core.Path.{_≡_};
 ghost use lib.ListN.{getD};
 ghost use Rattle.guide.specs.Page.{unused, elementOf};
-ghost use Rattle.guide.specs.Pages20d.{pageOf};
+ghost use Rattle.guide.specs.Editions.{pagesOf};
 ghost use Rattle.page.specs.PageWords.{rowIn, elementIn, ElementWord};
 
 // The word of element e of a node's page; 0 where the page has none.
-pub(crate) fn element_at(node: usize, e: usize) -> usize
-    ensures { λ r. ⌜ ElementWord r (elementOf (pageOf node) e) ⌝ }
+pub(crate) fn element_at(edition: Edition, node: usize, e: usize) -> usize
+    ensures { λ r. ⌜ ElementWord r (elementOf (pagesOf edition node) e) ⌝ }
 {
     if e == 0 {
         return 0;
     }
-    let word = node_word(node);
+    let word = node_word(edition, node);
     if word / 1024 % 32 < e {
         return 0;
     }

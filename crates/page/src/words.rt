@@ -1,16 +1,19 @@
 // The words of the pages: one number for each node, element, row and code, packed as specs/PageWords.antt reads it. A match over numbers is a
-// table in read-only memory, where a constant array would be built anew at each access.
+// table in read-only memory, where a constant array would be built anew at each access. The editions have their own nodes; what stands on equal pages
+// they share.
+use guide::Edition;
 ghost use mathlib.Core.Path.{_≡_};
 ghost use mathlib.Core.List.{[]};
 ghost use lib.ListN.{getD};
 ghost use Rattle.guide.specs.Columns.{packed};
 ghost use Rattle.guide.specs.Page.{unused, beyond};
 ghost use Rattle.guide.specs.Pages20d.{pageOf};
+ghost use Rattle.guide.specs.Pages20c.{pageOf20c};
+ghost use Rattle.guide.specs.Editions.{pagesOf};
 ghost use Rattle.page.specs.PageColumns.{allElements, allRows, allCodes};
 ghost use Rattle.page.specs.PageWords.{rowIn, ElementWord, NodeWord};
 
-// What is no node has no elements.
-pub(crate) fn node_word(n: usize) -> usize
+fn node_20d(n: usize) -> usize
     ensures { λ r. ⌜ NodeWord r (pageOf n) ⌝ }
 {
     match n {
@@ -42,6 +45,49 @@ pub(crate) fn node_word(n: usize) -> usize
         25 => 67625,
         26 => 67627,
         _ => 0,
+    }
+}
+
+fn node_20c(n: usize) -> usize
+    ensures { λ r. ⌜ NodeWord r (pageOf20c n) ⌝ }
+{
+    match n {
+        0 => 0,
+        1 => 67629,
+        2 => 70658,
+        3 => 33799,
+        4 => 33800,
+        5 => 33801,
+        6 => 33802,
+        7 => 33804,
+        8 => 67597,
+        9 => 67599,
+        10 => 67601,
+        11 => 67603,
+        12 => 33813,
+        13 => 33814,
+        14 => 33815,
+        15 => 101400,
+        16 => 67611,
+        17 => 68655,
+        18 => 33824,
+        19 => 33827,
+        20 => 33828,
+        21 => 101413,
+        22 => 33832,
+        23 => 67625,
+        24 => 67627,
+        _ => 0,
+    }
+}
+
+// What is no node of the edition has no elements.
+pub(crate) fn node_word(edition: Edition, n: usize) -> usize
+    ensures { λ r. ⌜ NodeWord r (pagesOf edition n) ⌝ }
+{
+    match edition {
+        Edition::D => node_20d(n),
+        Edition::C => node_20c(n),
     }
 }
 
@@ -95,6 +141,11 @@ pub(crate) fn element_word(n: usize) -> usize
         42 => 1117263,
         43 => 1082450,
         44 => 1082451,
+        45 => 1082368,
+        46 => 1217620,
+        47 => 1082420,
+        48 => 1082421,
+        49 => 135257,
         _ => 0,
     }
 }
@@ -188,6 +239,15 @@ pub(crate) fn row_word(n: usize) -> usize
         81 => 19464192,
         82 => 6946816,
         83 => 14811136,
+        84 => 6423552,
+        85 => 3277825,
+        86 => 3277826,
+        87 => 2229251,
+        88 => 6423636,
+        89 => 17895491,
+        90 => 0,
+        91 => 0,
+        92 => 268566528,
         _ => 0,
     }
 }
@@ -281,6 +341,7 @@ pub(crate) fn code_word(n: usize) -> usize
         81 => 21774659,
         82 => 77873,
         83 => 21518155,
+        84 => 5959069234,
         _ => 1,
     }
 }

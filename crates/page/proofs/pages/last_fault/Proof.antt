@@ -1,6 +1,6 @@
 -- `page::pages::last_fault` meets its contract: the first of two faults.
 use lib.ListN.{drop}
-use Rattle.guide.specs.Pages20d.{pageOf}
+use Rattle.guide.specs.Editions.{pagesOf}
 use Rattle.guide.proofs.PageFace.{absentFault}
 use Rattle.page.proofs.PageSteps.{first-told, second-told}
 use borrow.Author.Needs.{needs}
@@ -13,7 +13,7 @@ ending-requires c κs = search needs
 returns : tie.Need-returns
 returns c =
     let a = c .before .before .args in
-    first-told _ _ (absentFault (drop (a .at .element) (pageOf (a .node)))) (c .before .ending .ensures _ (c .before .before .pre)) (c .if1 .taken)
+    first-told _ _ (absentFault (drop (a .at .element) (pagesOf (a .edition) (a .node)))) (c .before .ending .ensures _ (c .before .before .pre)) (c .if1 .taken)
 
 absent-requires : tie.Need-absent-requires
 absent-requires c κs = search needs

@@ -8,7 +8,7 @@ use Rattle.cut.specs.Bytes.{part}
 use Rattle.element.specs.Cursors.{rest}
 use Rattle.element.proofs.ComponentFace.{Visited, visited, nothing-left, rest-new, step-less}
 use Rattle.guide.specs.Page.{elementOf}
-use Rattle.guide.specs.Pages20d.{pageOf}
+use Rattle.guide.specs.Editions.{pagesOf}
 use Rattle.guide.specs.PageFault.{pageFault}
 use Rattle.guide.proofs.PageFace.{walkFault}
 use Rattle.page.specs.PageWalk.{moodOf}
@@ -19,13 +19,13 @@ use Rattle.page.proofs.pages.page_fault.Statement.{statement}
 use Rattle.page.proofs.pages.page_fault.Tie as tie
 
 abbrev Inv-loop : tie.InvT-loop
-Inv-loop y node d start end cursor₀ at₀ cursor at =
+Inv-loop y edition node d start end cursor₀ at₀ cursor at =
     (at .fault ≡ 0)
-    × (walkFault y (pageOf node) (at .element) (at .component + 1) (moodOf (at .mood)) (rest y d cursor) ≡ pageFault y (pageOf node) (part start end d))
-    × ElementWord (at .word) (elementOf (pageOf node) (at .element))
+    × (walkFault y (pagesOf edition node) (at .element) (at .component + 1) (moodOf (at .mood)) (rest y d cursor) ≡ pageFault y (pagesOf edition node) (part start end d))
+    × ElementWord (at .word) (elementOf (pagesOf edition node) (at .element))
 
 abbrev μ-loop : tie.MeasureT-loop
-μ-loop y node d start end cursor₀ at₀ cursor at = length (rest y d cursor)
+μ-loop y edition node d start end cursor₀ at₀ cursor at = length (rest y d cursor)
 
 took
     : (c : tie.After-known-told Inv-loop μ-loop)

@@ -2,7 +2,7 @@
 use mathlib.Core.List.{[]}
 use Rattle.guide.specs.Pages20d.{pages20d}
 use Rattle.guide.specs.Columns.{packed}
-use Rattle.page.specs.PageColumns.{joined, column, codesOf, allElements, allRows, allCodes}
+use Rattle.page.specs.PageColumns.{joined, column, codesOf, rows20d, allCodes}
 use Rattle.page.proofs.PageTables.{past-all}
 use Rattle.page.proofs.PageCells.{code-arm}
 use Rattle.page.proofs.words.code_word.Statement.{statement}
@@ -261,8 +261,11 @@ returns-84 : tie.Need-returns-84
 returns-84 c = code-arm 83 _ (c .match .keys84)
 
 returns-85 : tie.Need-returns-85
-unfolding pages20d packed joined column codesOf allElements allRows allCodes
-returns-85 c = rw (past-all allCodes [] (c .before .args .n) (c .match .rest))
+returns-85 c = code-arm 84 _ (c .match .keys85)
+
+returns-86 : tie.Need-returns-86
+unfolding pages20d packed joined column codesOf rows20d allCodes
+returns-86 c = rw (past-all allCodes [] (c .before .args .n) (c .match .rest))
 
 pub code-word-spec : {M : Type 1} → statement M
 code-word-spec =
@@ -352,4 +355,5 @@ code-word-spec =
     returns-82
     returns-83
     returns-84
-    returns-85)
+    returns-85
+    returns-86)

@@ -145,8 +145,23 @@ returns-45 : tie.Need-returns-45
 returns-45 c = element-arm 44 _ (c .match .keys45)
 
 returns-46 : tie.Need-returns-46
+returns-46 c = element-arm 45 _ (c .match .keys46)
+
+returns-47 : tie.Need-returns-47
+returns-47 c = element-arm 46 _ (c .match .keys47)
+
+returns-48 : tie.Need-returns-48
+returns-48 c = element-arm 47 _ (c .match .keys48)
+
+returns-49 : tie.Need-returns-49
+returns-49 c = element-arm 48 _ (c .match .keys49)
+
+returns-50 : tie.Need-returns-50
+returns-50 c = element-arm 49 _ (c .match .keys50)
+
+returns-51 : tie.Need-returns-51
 unfolding pages20d joined allElements span reach elementIn
-returns-46 c = rw (past-all allElements beyond (c .before .args .n) (c .match .rest)) (record { element = refl; reach = refl })
+returns-51 c = rw (past-all allElements beyond (c .before .args .n) (c .match .rest)) (record { element = refl; reach = refl })
 
 pub element-word-spec : {M : Type 1} → statement M
 element-word-spec =
@@ -197,4 +212,9 @@ element-word-spec =
     returns-43
     returns-44
     returns-45
-    returns-46)
+    returns-46
+    returns-47
+    returns-48
+    returns-49
+    returns-50
+    returns-51)

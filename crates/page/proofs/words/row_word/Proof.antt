@@ -1,7 +1,7 @@
 -- `page::words::row_word` meets its contract: each arm is a cell of the table.
 use Rattle.guide.specs.Pages20d.{pages20d}
 use Rattle.guide.specs.Page.{unused}
-use Rattle.page.specs.PageColumns.{joined, column, allElements, allRows}
+use Rattle.page.specs.PageColumns.{joined, column, rows20d, allRows}
 use Rattle.page.specs.PageWords.{formatIn, codesIn, rowIn}
 use Rattle.page.proofs.PageTables.{past-all}
 use Rattle.page.proofs.PageCells.{row-arm}
@@ -261,8 +261,35 @@ returns-84 : tie.Need-returns-84
 returns-84 c = row-arm 83 _ (c .match .keys84)
 
 returns-85 : tie.Need-returns-85
-unfolding pages20d joined column allElements allRows formatIn codesIn rowIn
-returns-85 c = rw (past-all allRows unused (c .before .args .n) (c .match .rest))
+returns-85 c = row-arm 84 _ (c .match .keys85)
+
+returns-86 : tie.Need-returns-86
+returns-86 c = row-arm 85 _ (c .match .keys86)
+
+returns-87 : tie.Need-returns-87
+returns-87 c = row-arm 86 _ (c .match .keys87)
+
+returns-88 : tie.Need-returns-88
+returns-88 c = row-arm 87 _ (c .match .keys88)
+
+returns-89 : tie.Need-returns-89
+returns-89 c = row-arm 88 _ (c .match .keys89)
+
+returns-90 : tie.Need-returns-90
+returns-90 c = row-arm 89 _ (c .match .keys90)
+
+returns-91 : tie.Need-returns-91
+returns-91 c = row-arm 90 _ (c .match .keys91)
+
+returns-92 : tie.Need-returns-92
+returns-92 c = row-arm 91 _ (c .match .keys92)
+
+returns-93 : tie.Need-returns-93
+returns-93 c = row-arm 92 _ (c .match .keys93)
+
+returns-94 : tie.Need-returns-94
+unfolding pages20d joined column rows20d allRows formatIn codesIn rowIn
+returns-94 c = rw (past-all allRows unused (c .before .args .n) (c .match .rest))
 
 pub row-word-spec : {M : Type 1} → statement M
 row-word-spec =
@@ -352,4 +379,13 @@ row-word-spec =
     returns-82
     returns-83
     returns-84
-    returns-85)
+    returns-85
+    returns-86
+    returns-87
+    returns-88
+    returns-89
+    returns-90
+    returns-91
+    returns-92
+    returns-93
+    returns-94)
