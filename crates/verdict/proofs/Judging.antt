@@ -195,8 +195,8 @@ module _ (ed : Edition) (y : Syntax) (d : List ℕ) (start : ℕ) where
           is-placed : answer ≡ placed m
           is-placed = answer-at answer m (sym is-answer ∙ taken)
 
-          sound : (bytesFault y (guideOf ed) (pagesOf ed) here ≡ 0) × (sought y (suc n) (noted y k cs d) here ≡ placed m)
-          sound = answer-placed y (suc n) (noted y k cs d) here m is-placed
+          sound : (bytesFault y (guideOf ed) (pagesOf ed) here ≡ 0) × (sought ed y (suc n) (noted y k cs d) here ≡ placed m)
+          sound = answer-placed ed y (suc n) (noted y k cs d) here m is-placed
 
           is-left : cs′ ≡ countsAfter (guideOf ed) (placed m) cs
           unfolding countsLeft
@@ -235,9 +235,9 @@ module _ (ed : Edition) (y : Syntax) (d : List ℕ) (start : ℕ) where
 
 -- a message whose UNT has been judged has no other segment; any other goes on with what its body takes
 module _ (ed : Edition) (y : Syntax) (d : List ℕ) (start : ℕ) (l : Bool) (ss : List Segment) (cs : List ℕ) (k : Kept) (at n : ℕ)
-    (p : Passed y d start (unless l ss) cs k at n) where
+    (p : Passed ed y d start (unless l ss) cs k at n) where
   pub none-left : l ≡ true → unless l ss ≡ []
   none-left h = rw h
 
-  pub passed-more : l ≡ false → Passed y d start ss cs k at n
+  pub passed-more : l ≡ false → Passed ed y d start ss cs k at n
   passed-more h = rw h at p

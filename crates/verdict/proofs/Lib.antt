@@ -10,3 +10,4 @@ pub mod Accepting
 pub mod Refusing
 pub mod Moved
 pub mod Face
+pub mod Naming

@@ -21,7 +21,15 @@ ghost use Rattle.verdict.specs.Verdicts.{nodeOf};
 ghost use Rattle.verdict.specs.Workers.{segmentsAt, agreementAt, endedWith};
 
 // The verdict of n segments without a fault, which end at `at`: 24, 23 or accepted.
-pub(crate) fn ended(y: Syntax, edition: Edition, d: &[u8], start: usize, kept: Kept, n: usize, at: usize) -> Verdict
+pub(crate) fn ended(
+    y: Syntax,
+    edition: Edition,
+    d: &[u8],
+    start: usize,
+    kept: Kept,
+    n: usize,
+    at: usize,
+) -> Verdict
     requires { ⌜ suc n < 2 ^ 64 ⌝ }
     ensures { λ r. ⌜ r ≡ declared (endedWith edition y (now (d .entry)) start kept n at) ⌝ }
 {

@@ -23,7 +23,14 @@ ghost use Rattle.guide.specs.Editions.{guideOf, pagesOf};
 ghost use Rattle.verdict.specs.Workers.{segmentIn, spanned, noted};
 
 // 12, 10, 11, in this order; 0 if none.
-pub(crate) fn bytes_fault(y: Syntax, edition: Edition, d: &[u8], start: usize, end: usize, piece: bool) -> u32
+pub(crate) fn bytes_fault(
+    y: Syntax,
+    edition: Edition,
+    d: &[u8],
+    start: usize,
+    end: usize,
+    piece: bool,
+) -> u32
     ensures { λ r. ⌜ r ≡ bytesFault y (guideOf edition) (pagesOf edition) (segmentIn start end piece (now (d .entry))) ⌝ }
 {
     if piece {
@@ -52,7 +59,15 @@ fn is_numbered(y: Syntax, d: &[u8], start: usize, end: usize, n: usize) -> bool
 }
 
 // 21 of UNT, which is segment i; 0 if its count and reference are right.
-fn end_fault(y: Syntax, edition: Edition, d: &[u8], start: usize, end: usize, i: usize, reference: Span) -> u32
+fn end_fault(
+    y: Syntax,
+    edition: Edition,
+    d: &[u8],
+    start: usize,
+    end: usize,
+    i: usize,
+    reference: Span,
+) -> u32
     ensures { λ r. ⌜ r ≡ endFault y (guideOf edition) (pagesOf edition) i (spanned y reference (now (d .entry))) (segmentIn start end false (now (d .entry))) ⌝ }
 {
     if !is_numbered(y, d, start, end, i) {
@@ -80,7 +95,16 @@ fn line_fault(y: Syntax, edition: Edition, d: &[u8], start: usize, end: usize, n
 }
 
 // 21 or 22 of segment i, which is given the node n; 0 if it is neither UNT nor LIN, or right.
-fn rule_fault(y: Syntax, edition: Edition, d: &[u8], start: usize, end: usize, i: usize, n: usize, kept: Kept) -> u32
+fn rule_fault(
+    y: Syntax,
+    edition: Edition,
+    d: &[u8],
+    start: usize,
+    end: usize,
+    i: usize,
+    n: usize,
+    kept: Kept,
+) -> u32
     requires { ⌜ suc (kept .positions) < 2 ^ 64 ⌝ }
     ensures { λ r. ⌜ r ≡ ruleFault y (guideOf edition) (pagesOf edition) i (noted y kept [] (now (d .entry))) n (segmentIn start end false (now (d .entry))) ⌝ }
 {

@@ -35,7 +35,15 @@ fn positions_after(edition: Edition, n: usize, positions: usize) -> usize
     positions
 }
 
-fn reference_after(y: Syntax, edition: Edition, d: &[u8], start: usize, end: usize, n: usize, reference: Span) -> Span
+fn reference_after(
+    y: Syntax,
+    edition: Edition,
+    d: &[u8],
+    start: usize,
+    end: usize,
+    n: usize,
+    reference: Span,
+) -> Span
     ensures { λ r. ⌜ spanned y r (now (d .entry)) ≡ pickBytes (isTag (guideOf edition) (bytesOf "UNH") n) (text y (part start end (now (d .entry))) 1 0) (spanned y reference (now (d .entry))) ⌝ }
 {
     if has_tag(edition, n, b'U', b'N', b'H') {
@@ -44,7 +52,15 @@ fn reference_after(y: Syntax, edition: Edition, d: &[u8], start: usize, end: usi
     reference
 }
 
-fn intervals_after(y: Syntax, edition: Edition, d: &[u8], start: usize, end: usize, n: usize, intervals: bool) -> bool
+fn intervals_after(
+    y: Syntax,
+    edition: Edition,
+    d: &[u8],
+    start: usize,
+    end: usize,
+    n: usize,
+    intervals: bool,
+) -> bool
     ensures { λ r. ⌜ r ≡ intervals || (isTag (guideOf edition) (bytesOf "BGM") n && same (text y (part start end (now (d .entry))) 1 0) (bytesOf "Z04")) ⌝ }
 {
     if intervals {
@@ -60,7 +76,15 @@ fn intervals_after(y: Syntax, edition: Edition, d: &[u8], start: usize, end: usi
 }
 
 // What is kept after a segment that is given the node n.
-pub(crate) fn keep(y: Syntax, edition: Edition, d: &[u8], start: usize, end: usize, n: usize, kept: Kept) -> Kept
+pub(crate) fn keep(
+    y: Syntax,
+    edition: Edition,
+    d: &[u8],
+    start: usize,
+    end: usize,
+    n: usize,
+    kept: Kept,
+) -> Kept
     requires { ⌜ suc (kept .positions) < 2 ^ 64 ⌝ }
     ensures { λ r. ⌜ KeptAfter edition y (now (d .entry)) start end n kept r ⌝ }
 {

@@ -17,10 +17,10 @@ enum-told : tie.Need-enum-told
 enum-told c = search needs
 
 returns : tie.Need-returns
-returns c = agrees _ _ _ _ _ _ _ (c .before .before .before .before .first-agreeing .ensures) _ _ (c .before .before .segment .given .1) _ (c .node-of .ensures)
+returns c = agrees (c .before .before .before .before .before .before .args .edition) _ _ _ _ _ _ (c .before .before .before .before .first-agreeing .ensures) _ _ (c .before .before .segment .given .1) _ (c .node-of .ensures)
 
 returns-2 : tie.Need-returns-2
-returns-2 c = none-agrees _ _ _ _ _ _ _ (c .before .before .first-agreeing .ensures) (c .enum-told .given .1)
+returns-2 c = none-agrees (c .before .before .before .before .args .edition) _ _ _ _ _ _ (c .before .before .first-agreeing .ensures) (c .enum-told .given .1)
 
 pub agreement-spec : {M : Type 1} → statement M
 agreement-spec =

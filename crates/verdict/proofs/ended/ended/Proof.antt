@@ -12,12 +12,12 @@ add-t10 : tie.Need-add-t10
 add-t10 c = search needs
 
 returns : tie.Need-returns
-returns c = no-end _ (c .before .before .before .args .y) (c .before .before .before .args .d .now) (c .before .before .before .args .start) _ _ (c .before .before .before .args .kept) _ (c .before .has-tag .ensures) (not-true _ (c .if1 .taken))
+returns c = no-end (c .before .before .before .args .edition) (c .before .before .before .args .y) (c .before .before .before .args .d .now) (c .before .before .before .args .start) _ _ (c .before .before .before .args .kept) _ (c .before .has-tag .ensures) (not-true _ (c .if1 .taken))
 
 returns-2 : tie.Need-returns-2
 returns-2 c =
     let a = c .before .before .before .before .args in
-    not-compared _ (a .y) (a .d .now) (a .start) _ _ (a .kept) _ (c .before .before .has-tag .ensures) (not-false _ (c .before .if1 .left)) (c .if2 .taken)
+    not-compared (a .edition) (a .y) (a .d .now) (a .start) _ _ (a .kept) _ (c .before .before .has-tag .ensures) (not-false _ (c .before .if1 .left)) (c .if2 .taken)
 
 agreement-requires : tie.Need-agreement-requires
 agreement-requires c κs = search needs
@@ -25,7 +25,7 @@ agreement-requires c κs = search needs
 returns-3 : tie.Need-returns-3
 returns-3 c =
     let a = c .before .before .before .before .before .args in
-    compared _ (a .y) (a .d .now) (a .start) _ _ (a .kept) _ (c .before .before .before .has-tag .ensures) (not-false _ (c .before .before .if1 .left)) (c .before .if2 .left) _ (c .agreement .ensures)
+    compared (a .edition) (a .y) (a .d .now) (a .start) _ _ (a .kept) _ (c .before .before .before .has-tag .ensures) (not-false _ (c .before .before .if1 .left)) (c .before .if2 .left) _ (c .agreement .ensures)
 
 pub ended-spec : {M : Type 1} → statement M
 ended-spec =

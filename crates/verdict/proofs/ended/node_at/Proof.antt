@@ -9,10 +9,10 @@ use Rattle.verdict.proofs.ended.node_at.Statement.{statement}
 use Rattle.verdict.proofs.ended.node_at.Tie as tie
 
 abbrev Inv-loop : tie.InvT-loop
-Inv-loop y d start i counts₀ last₀ at₀ left₀ counts last at left = Sought _ y d start i at last counts left
+Inv-loop y edition d start i counts₀ last₀ at₀ left₀ counts last at left = Sought edition y d start i at last counts left
 
 abbrev μ-loop : tie.MeasureT-loop
-μ-loop y d start i counts₀ last₀ at₀ left₀ counts last at left = left
+μ-loop y edition d start i counts₀ last₀ at₀ left₀ counts last at left = left
 
 took
     : (c : tie.After-known-told Inv-loop μ-loop)
@@ -21,7 +21,7 @@ took
 took c = cutting _ _ _ _ _ _ _ (sym (c .before .before .before .segment-at .ensures) ∙ c .before .s .given .1)
 
 loop-holds : tie.Need-loop-holds Inv-loop μ-loop
-loop-holds c = sought-first _ _ _ _ _
+loop-holds c = sought-first (c .before .args .edition) _ _ _ _
 
 segment-at-requires : tie.Need-segment-at-requires Inv-loop μ-loop
 segment-at-requires c κs = search needs
@@ -34,7 +34,7 @@ enum-told c = search needs
 
 returns : tie.Need-returns Inv-loop μ-loop
 returns c =
-    sought-none _ _ _ _ _ _ _ _ _ (c .before .before .before .before .loop .inv) (c .before .before .before .loop-test .taken)
+    sought-none (c .before .before .before .before .before .before .args .edition) _ _ _ _ _ _ _ _ (c .before .before .before .before .loop .inv) (c .before .before .before .loop-test .taken)
     (nothing _ _ _ _ (sym (c .before .before .segment-at .ensures) ∙ c .enum-told .given .1))
 
 place-requires : tie.Need-place-requires Inv-loop μ-loop
@@ -50,7 +50,7 @@ returns-2 : tie.Need-returns-2 Inv-loop μ-loop
 returns-2 c =
     let cut = c .before .before .before .before in
     let head = cut .before .before .before .before .before in
-    sought-refused _ _ _ _ _ _ _ _ _ (head .loop .inv) (cut .before .before .before .before .loop-test .taken) _ _ _ (took cut) _ (c .before .before .place .ensures .0) _ _ (c .enum-told2 .given .1)
+    sought-refused (c .before .before .before .before .before .before .before .before .before .before .before .args .edition) _ _ _ _ _ _ _ _ (head .loop .inv) (cut .before .before .before .before .loop-test .taken) _ _ _ (took cut) _ (c .before .before .place .ensures .0) _ _ (c .enum-told2 .given .1)
 
 sub-left : tie.Need-sub-left Inv-loop μ-loop
 sub-left c = search needs
@@ -62,11 +62,11 @@ loop-again : tie.Need-loop-again Inv-loop μ-loop
 loop-again c =
     let cut = c .before .before .before .before .before in
     let head = cut .before .before .before .before .before in
-    sought-on _ _ _ _ _ _ _ _ _ (head .loop .inv) (cut .before .before .before .before .loop-test .taken) _ _ _ (took cut) _ (c .before .before .before .place .ensures .0)
+    sought-on (c .before .before .before .before .before .before .before .before .before .before .before .before .args .edition) _ _ _ _ _ _ _ _ (head .loop .inv) (cut .before .before .before .before .loop-test .taken) _ _ _ (took cut) _ (c .before .before .before .place .ensures .0)
     _ (c .before .placed .given .1) _ (c .before .before .before .place .ensures .1)
 
 returns-3 : tie.Need-returns-3 Inv-loop μ-loop
-returns-3 c = sought-done _ _ _ _ _ _ _ _ _ (c .before .loop .inv) (c .loop-test .left)
+returns-3 c = sought-done (c .before .before .before .args .edition) _ _ _ _ _ _ _ _ (c .before .loop .inv) (c .loop-test .left)
 
 pub node-at-spec : {M : Type 1} → statement M
 node-at-spec =

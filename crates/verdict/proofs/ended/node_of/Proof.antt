@@ -8,7 +8,7 @@ node-at-requires : tie.Need-node-at-requires
 node-at-requires c κs = search needs
 
 returns : tie.Need-returns
-returns c = node-all _ _ _ _ _ _ _ (c .before .if1 .taken) (c .node-at .ensures)
+returns c = node-all (c .before .before .before .args .edition) _ _ _ _ _ _ (c .before .if1 .taken) (c .node-at .ensures)
 
 sub-node-at : tie.Need-sub-node-at
 sub-node-at c = search needs
@@ -23,7 +23,7 @@ node-at-requires-2 : tie.Need-node-at-requires-2
 node-at-requires-2 c κs = search needs
 
 returns-2 : tie.Need-returns-2
-returns-2 c = node-front _ _ _ _ _ _ _ (search needs) (c .node-at2 .ensures)
+returns-2 c = node-front (c .before .before .before .before .args .edition) _ _ _ _ _ _ (search needs) (c .node-at2 .ensures)
 
 pub node-of-spec : {M : Type 1} → statement M
 node-of-spec =

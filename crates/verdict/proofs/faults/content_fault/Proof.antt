@@ -8,13 +8,13 @@ page-fault-requires : tie.Need-page-fault-requires
 page-fault-requires c κs = search needs
 
 returns : tie.Need-returns
-returns c = content-page _ _ _ _ _ _ _ (c .before .page-fault .ensures) (c .if1 .taken)
+returns c = content-page (c .before .before .before .args .edition) _ _ _ _ _ _ (c .before .page-fault .ensures) (c .if1 .taken)
 
 rule-fault-requires : tie.Need-rule-fault-requires
 rule-fault-requires c κs = search needs
 
 returns-2 : tie.Need-returns-2
-returns-2 c = content-rule _ _ _ _ _ _ _ (c .before .before .page-fault .ensures) (c .before .if1 .left) _ (c .rule-fault .ensures)
+returns-2 c = content-rule (c .before .before .before .before .args .edition) _ _ _ _ _ _ (c .before .before .page-fault .ensures) (c .before .if1 .left) _ (c .rule-fault .ensures)
 
 pub content-fault-spec : {M : Type 1} → statement M
 content-fault-spec = tie.close (tie.spec page-fault-requires returns rule-fault-requires returns-2)

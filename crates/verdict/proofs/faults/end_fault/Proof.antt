@@ -11,7 +11,7 @@ is-numbered-requires : tie.Need-is-numbered-requires
 is-numbered-requires c κs = search needs
 
 returns : tie.Need-returns
-returns c = count-fault _ _ _ _ _ _ (c .before .is-numbered .ensures) (not-true _ (c .if1 .taken))
+returns c = count-fault (c .before .before .before .args .edition) _ _ _ _ _ (c .before .is-numbered .ensures) (not-true _ (c .if1 .taken))
 
 component-at-requires : tie.Need-component-at-requires
 component-at-requires c κs = search needs
@@ -23,14 +23,14 @@ returns-2 : tie.Need-returns-2
 unfolding spanned
 returns-2 c =
     let counted = c .before .before .before in
-    reference-fault _ _ _ _ _ _ (counted .before .is-numbered .ensures) (not-false _ (counted .if1 .left)) _
+    reference-fault (c .before .before .before .before .before .before .args .edition) _ _ _ _ _ (counted .before .is-numbered .ensures) (not-false _ (counted .if1 .left)) _
     (decoded-text _ _ _ _ _ _ _ (c .before .before .component-at .ensures)) _ (c .before .same-plain .ensures) (not-true _ (c .if2 .taken))
 
 returns-3 : tie.Need-returns-3
 unfolding spanned
 returns-3 c =
     let counted = c .before .before .before in
-    no-end-fault _ _ _ _ _ _ (counted .before .is-numbered .ensures) (not-false _ (counted .if1 .left)) _
+    no-end-fault (c .before .before .before .before .before .before .args .edition) _ _ _ _ _ (counted .before .is-numbered .ensures) (not-false _ (counted .if1 .left)) _
     (decoded-text _ _ _ _ _ _ _ (c .before .before .component-at .ensures)) _ (c .before .same-plain .ensures) (not-false _ (c .if2 .left))
 
 pub end-fault-spec : {M : Type 1} → statement M

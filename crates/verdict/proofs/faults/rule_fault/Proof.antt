@@ -11,7 +11,7 @@ end-fault-requires : tie.Need-end-fault-requires
 end-fault-requires c κs = search needs
 
 returns : tie.Need-returns
-returns c = rule-end _ _ _ _ _ _ _ (c .before .before .before .has-tag .ensures) (c .before .before .if1 .taken) _ (c .end-fault .ensures)
+returns c = rule-end (c .before .before .before .before .before .args .edition) _ _ _ _ _ _ (c .before .before .before .has-tag .ensures) (c .before .before .if1 .taken) _ (c .end-fault .ensures)
 
 has-tag-requires-2 : tie.Need-has-tag-requires-2
 has-tag-requires-2 c κs = search needs
@@ -25,12 +25,12 @@ line-fault-requires c κs = search needs
 returns-2 : tie.Need-returns-2
 returns-2 c =
     let other = c .before .before .before .before in
-    rule-line _ _ _ _ _ _ _ (other .before .has-tag .ensures) (other .if1 .left) _ (c .before .before .before .has-tag2 .ensures) (c .before .before .if2 .taken) _ (c .line-fault .ensures)
+    rule-line (c .before .before .before .before .before .before .before .args .edition) _ _ _ _ _ _ (other .before .has-tag .ensures) (other .if1 .left) _ (c .before .before .before .has-tag2 .ensures) (c .before .before .if2 .taken) _ (c .line-fault .ensures)
 
 returns-3 : tie.Need-returns-3
 returns-3 c =
     let other = c .before .before in
-    no-rule _ _ _ _ _ _ _ (other .before .has-tag .ensures) (other .if1 .left) _ (c .before .has-tag2 .ensures) (c .if2 .left)
+    no-rule (c .before .before .before .before .before .args .edition) _ _ _ _ _ _ (other .before .has-tag .ensures) (other .if1 .left) _ (c .before .has-tag2 .ensures) (c .if2 .left)
 
 pub rule-fault-spec : {M : Type 1} → statement M
 rule-fault-spec =

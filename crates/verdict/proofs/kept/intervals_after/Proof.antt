@@ -13,7 +13,7 @@ has-tag-requires : tie.Need-has-tag-requires
 has-tag-requires c κs = search needs
 
 returns-2 : tie.Need-returns-2
-returns-2 c = no-document _ _ _ _ (c .before .before .if1 .left) _ (c .before .has-tag .ensures) (not-true _ (c .if2 .taken))
+returns-2 c = no-document (c .before .before .before .before .args .edition) _ _ _ (c .before .before .if1 .left) _ (c .before .has-tag .ensures) (not-true _ (c .if2 .taken))
 
 component-at-requires : tie.Need-component-at-requires
 component-at-requires c κs = search needs
@@ -27,7 +27,7 @@ is-code-requires c κs = search needs
 returns-3 : tie.Need-returns-3
 returns-3 c =
     let tag = c .before .before .before in
-    document _ _ _ _ (tag .before .before .if1 .left) _ (tag .before .has-tag .ensures) (not-false _ (tag .if2 .left)) _ (decoded-text _ _ _ _ _ _ _ (c .before .before .component-at .ensures)) _ (c .is-code .ensures)
+    document (c .before .before .before .before .before .before .before .args .edition) _ _ _ (tag .before .before .if1 .left) _ (tag .before .has-tag .ensures) (not-false _ (tag .if2 .left)) _ (decoded-text _ _ _ _ _ _ _ (c .before .before .component-at .ensures)) _ (c .is-code .ensures)
 
 pub intervals-after-spec : {M : Type 1} → statement M
 intervals-after-spec =

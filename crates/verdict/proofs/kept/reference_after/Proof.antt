@@ -12,10 +12,10 @@ component-at-requires : tie.Need-component-at-requires
 component-at-requires c κs = search needs
 
 returns : tie.Need-returns
-returns c = own-reference _ _ _ _ _ (c .before .before .has-tag .ensures) (c .before .if1 .taken) _ (spanned-text _ _ _ _ _ _ _ (c .component-at .ensures))
+returns c = own-reference (c .before .before .before .before .args .edition) _ _ _ _ (c .before .before .has-tag .ensures) (c .before .if1 .taken) _ (spanned-text _ _ _ _ _ _ _ (c .component-at .ensures))
 
 returns-2 : tie.Need-returns-2
-returns-2 c = reference-stays _ _ _ _ _ (c .before .has-tag .ensures) (c .if1 .left)
+returns-2 c = reference-stays (c .before .before .before .args .edition) _ _ _ _ (c .before .has-tag .ensures) (c .if1 .left)
 
 pub reference-after-spec : {M : Type 1} → statement M
 reference-after-spec =

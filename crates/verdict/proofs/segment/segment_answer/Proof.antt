@@ -10,7 +10,7 @@ bytes-fault-requires c κs = search needs
 returns : tie.Need-returns
 returns c =
     let a = c .before .before .before .args in
-    let o = bytes-refused _ (a .y) (a .d .now) (a .start) (a .end) (a .piece) (a .i) (a .kept) (a .counts .now) _ (c .before .bytes-fault .ensures) (c .if1 .taken) in
+    let o = bytes-refused (a .edition) (a .y) (a .d .now) (a .start) (a .end) (a .piece) (a .i) (a .kept) (a .counts .now) _ (c .before .bytes-fault .ensures) (c .if1 .taken) in
     (o .answer, o .counts)
 
 place-requires : tie.Need-place-requires
@@ -27,7 +27,7 @@ returns-2 c =
     let clean = c .before .before .before .before in
     let a = clean .before .before .before .args in
     let o =
-    place-refused _ (a .y) (a .d .now) (a .start) (a .end) (a .piece) (a .i) (a .kept) (a .counts .now) _ (clean .before .bytes-fault .ensures) (clean .if1 .left)
+    place-refused (a .edition) (a .y) (a .d .now) (a .start) (a .end) (a .piece) (a .i) (a .kept) (a .counts .now) _ (clean .before .bytes-fault .ensures) (clean .if1 .left)
     _ (c .before .before .place .ensures .0) _ (c .before .before .place .ensures .1) _ _ (c .enum-told .given .1) in
     (o .answer, o .counts)
 
@@ -40,7 +40,7 @@ returns-3 c =
     let clean = found .before .before .before .before in
     let a = clean .before .before .before .args in
     let o =
-    content-refused _ (a .y) (a .d .now) (a .start) (a .end) (a .piece) (a .i) (a .kept) (a .counts .now) _ (clean .before .bytes-fault .ensures) (clean .if1 .left)
+    content-refused (a .edition) (a .y) (a .d .now) (a .start) (a .end) (a .piece) (a .i) (a .kept) (a .counts .now) _ (clean .before .bytes-fault .ensures) (clean .if1 .left)
     _ (found .before .before .place .ensures .0) _ (found .before .before .place .ensures .1) _ (found .placed .given .1) _ (c .before .content-fault .ensures) (c .if2 .taken) in
     (o .answer, o .counts)
 
@@ -50,7 +50,7 @@ returns-4 c =
     let clean = found .before .before .before .before in
     let a = clean .before .before .before .args in
     let o =
-    segment-placed _ (a .y) (a .d .now) (a .start) (a .end) (a .piece) (a .i) (a .kept) (a .counts .now) _ (clean .before .bytes-fault .ensures) (clean .if1 .left)
+    segment-placed (a .edition) (a .y) (a .d .now) (a .start) (a .end) (a .piece) (a .i) (a .kept) (a .counts .now) _ (clean .before .bytes-fault .ensures) (clean .if1 .left)
     _ (found .before .before .place .ensures .0) _ (found .before .before .place .ensures .1) _ (found .placed .given .1) _ (c .before .content-fault .ensures) (c .if2 .left) in
     (o .answer, o .counts)
 
