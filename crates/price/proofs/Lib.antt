@@ -9,6 +9,7 @@ pub mod PriceArticles
 pub mod PriceLies
 pub mod PriceParted
 pub mod PriceTables
+pub mod PricePaged
 pub mod PriceTags
 pub mod PriceTree
 pub mod PriceCounted

@@ -21,9 +21,11 @@ pub use Rattle.price.proofs.PriceParted.{article-in}
 pub use Rattle.price.proofs.PricePlaces.{ArticleIn, absent, stands, InMessage, prices-in-message}
 -- a message of the same bytes further on in another delivery fills a row alike
 pub use Rattle.price.proofs.PriceMoved.{laterPrice, numbers-moved, prices-moved, prices-later, row-later, filled-later}
--- in a proper message of PRICAT 2.0d no article is absent, each amount is exact, and the unit is the page's or none
-pub use Rattle.price.proofs.PriceProper.{Rank, no-unit, per-year, Exact, proper-exact}
--- in a proper message of any such table the position is the number that the LIN itself gives
+-- the tables with the pages of prices; both editions have them
+pub use Rattle.price.proofs.PricePaged.{pricat20d-pages, pricat20c-pages}
+-- in a proper message of any such table no article is absent, each amount is exact, and the unit is the page's or none; and once for 2.0d
+pub use Rattle.price.proofs.PriceProper.{Rank, no-unit, per-year, Exact, prices-exact, proper-exact}
+-- in a proper message of any table that has prices where the walk looks for them the position is the number that the LIN itself gives
 pub use Rattle.price.proofs.PriceNumbered.{Placed, proper-placed}
 
 -- how many prices are written: those from the k-th on, as many as fit

@@ -1,15 +1,14 @@
--- The prices of a proper message of PRICAT 2.0d: no article is absent, each amount is exact, and the unit is the page's or none stands.
+-- The prices of a proper message of any table with the pages of prices: no article is absent, each amount is exact, and the unit is the page's
+-- or none stands.
 use Prim.Native.Nat.{ℕ, _-_, _≤_, _<_, min}
 use mathlib.Core.Path.{_≡_, refl, sym, ap, subst, _∙_}
-use mathlib.Core.Bool.{Bool, true, false, _||_}
+use mathlib.Core.Bool.{true, false}
 use mathlib.Core.List.{List, [], _∷_, List·Memᴰ·cases-cons, List·Memᴰ·not-nil, nil≢cons}
 use mathlib.Core.Logic.{_⊎_, inl, inr, ⊎-elim}
 use native.Mathlib.Decide.{decLe}
 use native.Mathlib.Omega.{arith}
-use lib.ListN.{length, List·getD-eq-default}
-use lib.Dec.{T, eqb, eqb→eq}
+use lib.ListN.{length}
 use lib.IntN.{ℤ, pos}
-use Prim.Native.String.{String}
 use borrow.Author.Tests.{lt-ltb}
 use Rattle.cut.specs.declared.service.Syntax.{Syntax}
 use Rattle.cut.specs.Bytes.{bytesOf, part}
@@ -25,51 +24,26 @@ use Rattle.element.specs.Numeral.{minus, fraction, digits, isNumber, decimal}
 use Rattle.element.specs.Number.{signed}
 use Rattle.element.proofs.ComponentFace.{component-bytes}
 use Rattle.element.proofs.ValueFace.{n-up-to-fits, fits-amount}
-use Rattle.guide.specs.Nodes.{Guide, node, message}
+use Rattle.guide.specs.Nodes.{Guide}
 use Rattle.guide.specs.Pricat.{pricat20d}
 use Rattle.guide.specs.Page.{Page, Row, may, codes, elementOf, rowOf}
 use Rattle.guide.specs.Composites.{C509, basis}
-use Rattle.guide.specs.Pages20d.{LIN, PRI, pages20d, pageOf}
+use Rattle.guide.specs.PageMakers.{PRI}
+use Rattle.guide.specs.Pages20d.{pageOf}
 use Rattle.guide.specs.Content.{text, Filled, Holds}
-use Rattle.guide.specs.Checks.{every, implies}
-use Rattle.guide.specs.Sheet.{isTag}
 use Rattle.guide.specs.Accepted.{Each, segmentsOf, Proper}
-use Rattle.guide.proofs.Basics.{or-cases, implied, every-at}
 use Rattle.guide.proofs.Contents.{holds-unused, holds-code, price-format, article-stands}
 use Rattle.price.specs.PriceNumbers.{Listed, articleIn, articlePlace, articleLength, priceIn, amountOf, decimalsOf, unitRank, numbersOf}
 use Rattle.price.specs.PriceSheet.{pricesInTree}
 use Rattle.price.specs.PriceList.{pricesOf}
 use Rattle.price.specs.PriceCalls.{pricesIn}
-use Rattle.price.specs.PriceTable.{linNode, priNode}
+use Rattle.price.specs.PriceTable.{Priced}
+use Rattle.price.specs.PricePages.{PricePages}
 use Rattle.price.proofs.PriceTables.{pricat20d-priced}
+use Rattle.price.proofs.PricePaged.{lin-page, pri-page, pricat20d-pages}
 use Rattle.price.proofs.PriceTree.{prices-tree}
 use Rattle.price.proofs.PriceComes.{Comes, tree-come}
 use Rattle.price.proofs.PriceLies.{Lies, PriceLies, prices-in-lie}
-
--- a node with a tag stands in the table
-tagged-in : (g : Guide) (c : ℕ) (cs : List ℕ) (n : ℕ) → T (isTag g (c ∷ cs) n) → n < length g
-unfolding isTag same
-tagged-in g c cs n t = go (decLe (length g) n)
-  where
-    go : Dec (length g ≤ n) → n < length g
-    go (yes h) = absurd (rw (List·getD-eq-default g message h) at t)
-    go (no h) = omega arith
-
--- the nodes 16 and 23 are LIN, 19 and 24 are PRI
-either : (test : ℕ → Bool) (a b n : ℕ) → T (every (λ m. implies (test m) (eqb m a || eqb m b)) 27) → n < 27 → T (test n) → {C : Type 0} → (n ≡ a → C) → (n ≡ b → C) → C
-either test a b n h l t f k =
-    or-cases (eqb n a) (eqb n b) (λ e. f (eqb→eq n a e)) (λ e. k (eqb→eq n b e))
-    (implied (test n) (eqb n a || eqb n b) (every-at (λ m. implies (test m) (eqb m a || eqb m b)) 27 n h l) t)
-
-lin-page : (n : ℕ) → T (linNode pricat20d n) → (kinds : List String) × (pageOf n ≡ LIN kinds)
-unfolding pricat20d every isTag same pageOf pages20d LIN
-lin-page n t =
-    either (linNode pricat20d) 16 23 n tt (tagged-in pricat20d 76 (73 ∷ 78 ∷ []) n t) t (λ e. ("Z01" ∷ "Z09" ∷ [], ap pageOf e)) (λ e. ("Z09" ∷ [], ap pageOf e))
-
-pri-page : (n : ℕ) → T (priNode pricat20d n) → (rows : List Row) × (pageOf n ≡ PRI rows) × ((rows ≡ basis) ⊎ (rows ≡ []))
-unfolding pricat20d every isTag same pageOf pages20d PRI
-pri-page n t =
-    either (priNode pricat20d) 19 24 n tt (tagged-in pricat20d 80 (82 ∷ 73 ∷ []) n t) t (λ e. (basis, ap pageOf e, inl refl)) (λ e. ([], ap pageOf e, inr refl))
 
 -- the unit that a page lets stand
 abbrev Unit-text : Syntax → List ℕ → Type 0
@@ -129,44 +103,54 @@ article-some y d a z lin l f = go (decLe (s .end) (s .start))
     go (yes h) = absurd (f (ap (plain y false) (sym bytes ∙ part-none d (s .start) (s .end) h)))
     go (no h) = omega arith
 
-exact : (y : Syntax) (d : List ℕ) (base z : ℕ) (q : Listed) → PriceLies d base z q → Comes pricat20d (λ n s. Holds y (pageOf n) (s .bytes)) q → Exact y base q
-unfolding numbersOf articlePlace articleLength priceIn text
-exact y d base z q l c =
-    let lin = lin-page (c .lin .node) (c .lin .tagged) in
-    let pri = pri-page (c .pri .node) (c .pri .tagged) in
-    let h = subst (λ (p : Page). Holds y p (q .lin .bytes)) (lin .1) (c .lin .holds) in
-    let k = subst (λ (p : Page). Holds y p (q .price .pri .bytes)) (pri .1) (c .pri .holds) in
-    let a = article-some y d base z (q .lin) (l .lin) (article-stands y (lin .0) (q .lin .bytes) h) in
-    let f = price-format y (pri .0) (q .price .pri .bytes) k in
-    let n = fits-amount y 15 (text y (q .price .pri .bytes) 1 1) f (omega arith) in
-    let m = n-up-to-fits y 15 (text y (q .price .pri .bytes) 1 1) f in
-    record {
-      place = articleIn y (q .lin .start) (q .lin .bytes) .start - base;
-      size = articleIn y (q .lin .start) (q .lin .bytes) .end - articleIn y (q .lin .start) (q .lin .bytes) .start;
-      article = rw (lt-ltb _ _ a);
-      long = refl;
-      some = omega arith;
-      number = m .0;
-      short = m .1;
-      amount = ap amountOf n;
-      decimals = ap decimalsOf n;
-      unit = unit-ranked y (q .price .pri .bytes) (unit-known y (pri .0) (q .price .pri .bytes) (pri .2) k);
-    }
+module _ (y : Syntax) (g : Guide) (pages : ℕ → Page) (t : Priced g) (w : PricePages g pages) where
+  -- its node's page holds of a segment
+  abbrev Page-holds : ℕ → Segment → Type 0
+  Page-holds n s = Holds y (pages n) (s .bytes)
 
-each-exact
-    : (y : Syntax) (d : List ℕ) (base z : ℕ) (qs : List Listed) → Each (PriceLies d base z) qs → Each (Comes pricat20d (λ n s. Holds y (pageOf n) (s .bytes))) qs
-    → Each (Exact y base) qs
-unfolding Each
-each-exact y d base z [] l c = tt
-each-exact y d base z (q ∷ qs) l c = (exact y d base z q (l .0) (c .0), each-exact y d base z qs (l .1) (c .1))
+  exact : (d : List ℕ) (base z : ℕ) (q : Listed) → PriceLies d base z q → Comes g Page-holds q → Exact y base q
+  unfolding numbersOf articlePlace articleLength priceIn text
+  exact d base z q l c =
+      let lin = lin-page g pages w (c .lin .node) (c .lin .tagged) in
+      let pri = pri-page g pages w (c .pri .node) (c .pri .tagged) in
+      let h = subst (λ (p : Page). Holds y p (q .lin .bytes)) (lin .1) (c .lin .holds) in
+      let k = subst (λ (p : Page). Holds y p (q .price .pri .bytes)) (pri .1) (c .pri .holds) in
+      let a = article-some y d base z (q .lin) (l .lin) (article-stands y (lin .0) (q .lin .bytes) h) in
+      let f = price-format y (pri .0) (q .price .pri .bytes) k in
+      let n = fits-amount y 15 (text y (q .price .pri .bytes) 1 1) f (omega arith) in
+      let m = n-up-to-fits y 15 (text y (q .price .pri .bytes) 1 1) f in
+      record {
+        place = articleIn y (q .lin .start) (q .lin .bytes) .start - base;
+        size = articleIn y (q .lin .start) (q .lin .bytes) .end - articleIn y (q .lin .start) (q .lin .bytes) .start;
+        article = rw (lt-ltb _ _ a);
+        long = refl;
+        some = omega arith;
+        number = m .0;
+        short = m .1;
+        amount = ap amountOf n;
+        decimals = ap decimalsOf n;
+        unit = unit-ranked y (q .price .pri .bytes) (unit-known y (pri .0) (q .price .pri .bytes) (pri .2) k);
+      }
 
--- every price of a proper message
+  each-exact
+      : (d : List ℕ) (base z : ℕ) (qs : List Listed) → Each (PriceLies d base z) qs → Each (Comes g Page-holds) qs → Each (Exact y base) qs
+  unfolding Each
+  each-exact d base z [] l c = tt
+  each-exact d base z (q ∷ qs) l c = (exact d base z q (l .0) (c .0), each-exact d base z qs (l .1) (c .1))
+
+  -- every price of a proper message
+  pub prices-exact
+      : (d : List ℕ) (start end : ℕ) (m : Message) → segmentsFrom y start false (part start end d) ≡ segmentsOf m → Proper y g pages m
+      → Each (Exact y start) (pricesIn y d start end)
+  unfolding pricesIn
+  prices-exact d start end m e p =
+      let q : pricesOf start (segmentsFrom y start false (part start end d)) ≡ pricesInTree g (p .sheet .tree) =
+      ap (pricesOf start) e ∙ prices-tree y g t start (segmentsOf m) (p .sheet) in
+      each-exact d start (min end (length d)) (pricesIn y d start end) (prices-in-lie y d start end)
+      (subst (Each (Comes g Page-holds)) (sym q) (tree-come g Page-holds (p .sheet .tree) (p .holds)))
+
+-- of PRICAT 2.0d
 pub proper-exact
     : (y : Syntax) (d : List ℕ) (start end : ℕ) (m : Message) → segmentsFrom y start false (part start end d) ≡ segmentsOf m → Proper y pricat20d pageOf m
     → Each (Exact y start) (pricesIn y d start end)
-unfolding pricesIn
-proper-exact y d start end m e p =
-    let q : pricesOf start (segmentsFrom y start false (part start end d)) ≡ pricesInTree pricat20d (p .sheet .tree) =
-    ap (pricesOf start) e ∙ prices-tree y pricat20d pricat20d-priced start (segmentsOf m) (p .sheet) in
-    each-exact y d start (min end (length d)) (pricesIn y d start end) (prices-in-lie y d start end)
-    (subst (Each (Comes pricat20d (λ n s. Holds y (pageOf n) (s .bytes)))) (sym q) (tree-come pricat20d (λ n s. Holds y (pageOf n) (s .bytes)) (p .sheet .tree) (p .holds)))
+proper-exact y = prices-exact y pricat20d pageOf pricat20d-priced pricat20d-pages

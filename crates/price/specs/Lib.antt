@@ -5,3 +5,4 @@ pub mod PriceRows
 pub mod PriceCalls
 pub mod PriceParts
 pub mod PriceTable
+pub mod PricePages
