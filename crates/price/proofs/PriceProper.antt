@@ -148,9 +148,3 @@ module _ (y : Syntax) (g : Guide) (pages : ℕ → Page) (t : Priced g) (w : Pri
       ap (pricesOf start) e ∙ prices-tree y g t start (segmentsOf m) (p .sheet) in
       each-exact d start (min end (length d)) (pricesIn y d start end) (prices-in-lie y d start end)
       (subst (Each (Comes g Page-holds)) (sym q) (tree-come g Page-holds (p .sheet .tree) (p .holds)))
-
--- of PRICAT 2.0d
-pub proper-exact
-    : (y : Syntax) (d : List ℕ) (start end : ℕ) (m : Message) → segmentsFrom y start false (part start end d) ≡ segmentsOf m → Proper y pricat20d pageOf m
-    → Each (Exact y start) (pricesIn y d start end)
-proper-exact y = prices-exact y pricat20d pageOf pricat20d-priced pricat20d-pages

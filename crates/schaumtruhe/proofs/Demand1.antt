@@ -16,14 +16,14 @@ use Rattle.cut.specs.Messages.{Message, startOf, closeOf}
 use Rattle.guide.specs.Accepted.{segmentsOf, Accepted}
 use Rattle.guide.specs.Choices.{pickℕ}
 use Rattle.guide.specs.Judging.{Verdict, accepts, refuses}
-use Rattle.guide.specs.Pages20d.{pageOf}
-use Rattle.guide.specs.Pricat.{pricat20d}
 use Rattle.guide.specs.Refusal.{Refusal}
 use Rattle.guide.proofs.Verdicts.{accepts-refuses}
-use Rattle.verdict.proofs.Accepting.{accepted-20d}
-use Rattle.verdict.proofs.Refusing.{refused-20d}
+use Rattle.verdict.proofs.Accepting.{accepted-named}
+use Rattle.verdict.proofs.Refusing.{refused-named}
 use Rattle.price.specs.PriceSheet.{pricesInTree}
-use Rattle.price.proofs.PriceFace.{pricat20d-priced, prices-tree}
+use Rattle.price.proofs.PriceFace.{prices-tree}
+use Rattle.verdict.specs.Named.{editionOf, guideNamed, pagesNamed}
+use Rattle.schaumtruhe.proofs.NamedPrices.{named-priced}
 use Rattle.schaumtruhe.specs.Calls.{nowhere, verdictAt, judged, Sheet, stands, missing, sheetBy, sheetAt, listed, surveyUnless, surveyOf, pricedBy, pricedAt, rowAt, articleRefusal}
 use Rattle.schaumtruhe.specs.Demands.{DeliveryRefused, Begins, NoMessage, VerdictRefused, no-message, of-message, Stands, VerdictAccepted, PricesRefused, not-accepted, ArticleRefused, no-prices, no-price}
 use Rattle.schaumtruhe.specs.declared.pricing.Priced.the-variants as priced
@@ -68,7 +68,7 @@ module _ (y : Syntax) (d : List ℕ) where
       where
         to : Lost y d at ⊎ There y d at → verdictAt y d at ≡ refuses k i a n → VerdictRefused y d at k i a n
         to (inl l) w = same-refusal (l .number) 0 0 0 k i a n (sym (l .verdict) ∙ w) (no-message (l .why))
-        to (inr t) w = of-message (t .message) (t .admits) (t .begins) (refused-20d y (t .message) k i a n .0 (sym (t .verdict) ∙ w))
+        to (inr t) w = of-message (t .message) (t .admits) (t .begins) (refused-named y (t .message) k i a n .0 (sym (t .verdict) ∙ w))
 
         from : (k i a n : ℕ) → Lost y d at ⊎ There y d at → VerdictRefused y d at k i a n → verdictAt y d at ≡ refuses k i a n
         from k i a n (inl l) (no-message w) = l .verdict ∙ ap nowhere (one-number y d at (l .number) k (l .why) w)
@@ -76,7 +76,7 @@ module _ (y : Syntax) (d : List ℕ) where
         from k i a n (inr t) (no-message w) = absurd (no-number y d at k (t .message) w (t .admits) (t .begins))
         from k i a n (inr t) (of-message m p b r) =
             let e = one-begins y d at m (t .message) b (t .begins) in
-            t .verdict ∙ refused-20d y (t .message) k i a n .1 (subst (λ (x : Message). Refusal y pricat20d pageOf x k i a n) e r)
+            t .verdict ∙ refused-named y (t .message) k i a n .1 (subst (λ (x : Message). Refusal y (guideNamed y x) (pagesNamed y x) x k i a n) e r)
 
     -- it is accepted exactly if an accepted message begins there, with the count of its segments and the byte after it
     pub judge-accepts : (n e : ℕ) → (verdictAt y d at ≡ accepts n e) ↔ VerdictAccepted y d at n e
@@ -85,7 +85,7 @@ module _ (y : Syntax) (d : List ℕ) where
         to : Lost y d at ⊎ There y d at → verdictAt y d at ≡ accepts n e → VerdictAccepted y d at n e
         to (inl l) w = absurd (accepts-refuses (sym w ∙ l .verdict))
         to (inr t) w =
-            let a = accepted-20d y (t .message) n e .0 (sym (t .verdict) ∙ w) in
+            let a = accepted-named y (t .message) n e .0 (sym (t .verdict) ∙ w) in
             record {
               message = t .message;
               stands = record { admitted = t .admits; begins = t .begins; accepted = a .0 };
@@ -97,16 +97,16 @@ module _ (y : Syntax) (d : List ℕ) where
         from (inl l) v = absurd (no-number y d at (l .number) (v .message) (l .why) (v .stands .admitted) (v .stands .begins))
         from (inr t) v =
             let q = one-begins y d at (v .message) (t .message) (v .stands .begins) (t .begins) in
-            t .verdict ∙ ap (judged y) (sym q) ∙ accepted-20d y (v .message) n e .1 (v .stands .accepted, v .count, v .close)
+            t .verdict ∙ ap (judged y) (sym q) ∙ accepted-named y (v .message) n e .1 (v .stands .accepted, v .count, v .close)
 
-    by-verdict : (m : Message) (v : Verdict) → judged y m ≡ v → (n : ℕ) → sheetBy v m ≡ missing n → (n ≡ 30) × (Accepted y pricat20d pageOf m → ⊥)
+    by-verdict : (m : Message) (v : Verdict) → judged y m ≡ v → (n : ℕ) → sheetBy v m ≡ missing n → (n ≡ 30) × (Accepted y (guideNamed y m) (pagesNamed y m) m → ⊥)
     by-verdict m (accepts s e) j n h = one-or-zero (cc)
     by-verdict m (refuses k i a o) j n h =
         let q : n ≡ 30 = cc in
-        (q, λ c. accepts-refuses (sym (accepted-20d y m (length (segmentsOf m)) (closeOf m) .1 (c, refl, refl)) ∙ j))
+        (q, λ c. accepts-refuses (sym (accepted-named y m (length (segmentsOf m)) (closeOf m) .1 (c, refl, refl)) ∙ j))
 
-    refused-sheet : (m : Message) (v : Verdict) → judged y m ≡ v → (Accepted y pricat20d pageOf m → ⊥) → sheetBy v m ≡ missing 30
-    refused-sheet m (accepts s e) j h = absurd (h (accepted-20d y m s e .0 j .0))
+    refused-sheet : (m : Message) (v : Verdict) → judged y m ≡ v → (Accepted y (guideNamed y m) (pagesNamed y m) m → ⊥) → sheetBy v m ≡ missing 30
+    refused-sheet m (accepts s e) j h = absurd (h (accepted-named y m s e .0 j .0))
     refused-sheet m (refuses k i a o) j h = refl
 
     -- 1, 2, 31, 30
@@ -128,16 +128,16 @@ module _ (y : Syntax) (d : List ℕ) where
         from n (inr t) (no-message w) = absurd (no-number y d at n (t .message) w (t .admits) (t .begins))
         from n (inr t) (not-accepted m p b r) =
             let e = one-begins y d at m (t .message) b (t .begins) in
-            t .sheet ∙ refused-sheet (t .message) (judged y (t .message)) refl (subst (λ (x : Message). Accepted y pricat20d pageOf x → ⊥) e r)
+            t .sheet ∙ refused-sheet (t .message) (judged y (t .message)) refl (subst (λ (x : Message). Accepted y (guideNamed y x) (pagesNamed y x) x → ⊥) e r)
 
     -- the accepted message that begins there
     pub sheet-stands : (m : Message) → (sheetAt y d at ≡ stands m) ↔ Stands y d at m
     sheet-stands m = (to (asked y d at), from (asked y d at))
       where
-        by : (n : Message) (v : Verdict) → judged y n ≡ v → sheetBy v n ≡ stands m → (n ≡ m) × Accepted y pricat20d pageOf n
+        by : (n : Message) (v : Verdict) → judged y n ≡ v → sheetBy v n ≡ stands m → (n ≡ m) × Accepted y (guideNamed y n) (pagesNamed y n) n
         by n (accepts s e) j h =
             let q : n ≡ m = cc in
-            (q, accepted-20d y n s e .0 j .0)
+            (q, accepted-named y n s e .0 j .0)
         by n (refuses k i a o) j h = one-or-zero (cc)
 
         to : Lost y d at ⊎ There y d at → sheetAt y d at ≡ stands m → Stands y d at m
@@ -152,7 +152,7 @@ module _ (y : Syntax) (d : List ℕ) where
         from (inl l) s = absurd (no-number y d at (l .number) m (l .why) (s .admitted) (s .begins))
         from (inr t) s =
             let q = one-begins y d at (t .message) m (t .begins) (s .begins) in
-            let j = accepted-20d y m (length (segmentsOf m)) (closeOf m) .1 (s .accepted, refl, refl) in
+            let j = accepted-named y m (length (segmentsOf m)) (closeOf m) .1 (s .accepted, refl, refl) in
             t .sheet ∙ ap (λ (x : Message). sheetBy (judged y x) x) q ∙ rw j
 
     -- prices: they are refused exactly if document 01 says so, and then nothing is written
@@ -174,8 +174,8 @@ module _ (y : Syntax) (d : List ℕ) where
     refused-unwritten k row n r = rw (sheet-missing n .1 r)
 
     -- the prices of the message are the tree's
-    tree-prices : (m : Message) (s : Stands y d at m) → listed y m ≡ pricesInTree pricat20d (s .accepted .proper .sheet .tree)
-    tree-prices m s = prices-tree y pricat20d pricat20d-priced (startOf m) (segmentsOf m) (s .accepted .proper .sheet)
+    tree-prices : (m : Message) (s : Stands y d at m) → listed y m ≡ pricesInTree (guideNamed y m) (s .accepted .proper .sheet .tree)
+    tree-prices m s = prices-tree y (guideNamed y m) (named-priced (editionOf y (segmentsOf m))) (startOf m) (segmentsOf m) (s .accepted .proper .sheet)
 
     -- article: it is refused exactly if document 01 says so
     pub article-refuses : (k n : ℕ) → (articleRefusal y d at k ≡ suc n) ↔ ArticleRefused y d at k (suc n)

@@ -10,28 +10,28 @@ use Rattle.cut.specs.declared.service.Syntax.{Syntax}
 use Rattle.cut.specs.Bytes.{bytesOf}
 use Rattle.cut.specs.Messages.{Message, startOf, closeOf}
 use Rattle.guide.specs.Accepted.{Each, segmentsOf}
-use Rattle.guide.specs.Pages20d.{pageOf}
-use Rattle.guide.specs.Pricat.{pricat20d}
 use Rattle.guide.specs.Sheet.{withTag}
 use Rattle.guide.specs.Tree.{assigned}
 use Rattle.price.specs.PriceCalls.{filledOf, rowAfter}
 use Rattle.price.specs.PriceNumbers.{Listed, numbersOf}
 use Rattle.price.specs.PriceSheet.{pricesInTree}
-use Rattle.price.proofs.PriceFace.{pricat20d-priced, prices-tree, prices-counted, Exact, proper-exact, Placed, proper-placed, InMessage, prices-in-message, written-count}
+use Rattle.price.proofs.PriceFace.{prices-tree, prices-counted, Exact, prices-exact, Placed, proper-placed, InMessage, prices-in-message, written-count}
+use Rattle.verdict.specs.Named.{editionOf, guideNamed, pagesNamed}
 use Rattle.schaumtruhe.specs.Calls.{listed, pricedAt, rowAt}
 use Rattle.schaumtruhe.specs.Demands.{Stands}
 use Rattle.schaumtruhe.specs.declared.pricing.Priced.the-variants.{Written}
 use Rattle.schaumtruhe.proofs.Verdicts.{stands-alone, Stands as InDelivery}
 use Rattle.schaumtruhe.proofs.PricesAt.{listed-in}
 use Rattle.schaumtruhe.proofs.Demand1.{sheet-stands}
+use Rattle.schaumtruhe.proofs.NamedPrices.{named-priced, named-pages}
 
 module _ (y : Syntax) (d : List ℕ) (at : ℕ) (m : Message) (s : Stands y d at m) where
   -- the prices of the message, and what the call gives of them
   pub record Priced : Type 0 where
     -- in message order: they are those that the tree has, position by position
-    pub ordered : listed y m ≡ pricesInTree pricat20d (s .accepted .proper .sheet .tree)
+    pub ordered : listed y m ≡ pricesInTree (guideNamed y m) (s .accepted .proper .sheet .tree)
     -- complete: as many as there are PRI segments placed
-    pub complete : length (listed y m) ≡ length (withTag pricat20d (bytesOf "PRI") (assigned (s .accepted .proper .sheet .tree)))
+    pub complete : length (listed y m) ≡ length (withTag (guideNamed y m) (bytesOf "PRI") (assigned (s .accepted .proper .sheet .tree)))
     -- exact: article, amount, decimals and unit are what stands in the segments
     pub exact : Each (Exact y (startOf m)) (listed y m)
     -- the position is the number that the LIN itself gives
@@ -62,10 +62,10 @@ module _ (y : Syntax) (d : List ℕ) (at : ℕ) (m : Message) (s : Stands y d at
       let same = listed-in y d m alone in
       let z : min (closeOf m) (length d) - startOf m ≡ closeOf m - startOf m = omega (arith, alone .fits) in
       record {
-        ordered = prices-tree y pricat20d pricat20d-priced (startOf m) (segmentsOf m) w;
-        complete = prices-counted y pricat20d (startOf m) (segmentsOf m) w;
-        exact = subst (Each (Exact y (startOf m))) same (proper-exact y d (startOf m) (closeOf m) m (alone .alone) (s .accepted .proper));
-        numbered = proper-placed y pricat20d pageOf pricat20d-priced (startOf m) m (s .accepted .proper);
+        ordered = prices-tree y (guideNamed y m) (named-priced (editionOf y (segmentsOf m))) (startOf m) (segmentsOf m) w;
+        complete = prices-counted y (guideNamed y m) (startOf m) (segmentsOf m) w;
+        exact = subst (Each (Exact y (startOf m))) same (prices-exact y (guideNamed y m) (pagesNamed y m) (named-priced (editionOf y (segmentsOf m))) (named-pages (editionOf y (segmentsOf m))) d (startOf m) (closeOf m) m (alone .alone) (s .accepted .proper));
+        numbered = proper-placed y (guideNamed y m) (pagesNamed y m) (named-priced (editionOf y (segmentsOf m))) (startOf m) m (s .accepted .proper);
         inside =
             subst (λ (b : ℕ). Each (λ q. InMessage b (numbersOf y (startOf m) q)) (listed y m)) z
             (subst (Each (λ q. InMessage (min (closeOf m) (length d) - startOf m) (numbersOf y (startOf m) q))) same (prices-in-message y d (startOf m) (closeOf m)));

@@ -18,10 +18,8 @@ use Rattle.element.specs.declared.components.Span.{Span}
 use Rattle.guide.specs.Accepted.{segmentsOf}
 use Rattle.guide.specs.Choices.{pickℕ}
 use Rattle.guide.specs.Judging.{Verdict, accepts, refuses}
-use Rattle.guide.specs.Pages20d.{pageOf}
-use Rattle.guide.specs.Pricat.{pricat20d}
 use Rattle.verdict.specs.Moves.{movedVerdict}
-use Rattle.verdict.proofs.Moved.{verdict-moved}
+use Rattle.verdict.proofs.Moved.{named-moved}
 use Rattle.price.specs.PriceCalls.{pricesIn, filledOf, rowAfter, firstArticle}
 use Rattle.price.specs.PriceList.{pricesOf}
 use Rattle.price.specs.PriceNumbers.{Listed}
@@ -105,7 +103,7 @@ module _ (y : Syntax) (d′ d : List ℕ) (k : ℕ) (admits′ : admissionOf y d
   m′ = movedMessage k m
 
   judged-later : judged y m′ ≡ movedVerdict k (judged y m)
-  judged-later = verdict-moved y pricat20d pageOf k m
+  judged-later = named-moved y k m
 
   sheet-later : sheetAt y d′ (k + startOf m) ≡ sheetBy (movedVerdict k (judged y m)) m′
   sheet-later = sheet-here y d′ admits′ m′ here′ ∙ ap (λ (v : Verdict). sheetBy v m′) judged-later

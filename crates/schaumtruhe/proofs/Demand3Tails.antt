@@ -31,6 +31,7 @@ use Rattle.guide.specs.Pricat.{pricat20d}
 use Rattle.guide.specs.Sheet.{isTag}
 use Rattle.guide.specs.Views.{viewOf}
 use Rattle.agree.specs.AgreePositions.{nextIf, behindIf, headingFrom, positionsFrom, positionsOf, agreesAny, firstAfter, firstAgreeing}
+use Rattle.verdict.specs.Named.{editionIn, editionOf, namedOf}
 use Rattle.verdict.specs.Verdicts.{nodesOf, forIntervals, unlessAgreeing, settled, verdictFrom, verdictOf}
 use Rattle.price.specs.PriceCalls.{numbersFrom, filledOf, rowAfter, firstArticle}
 use Rattle.price.specs.PriceList.{kindOf, rngNext, pricesFrom, pricesOf}
@@ -54,7 +55,7 @@ unfolding
     coded UNH BGM DTM RFF NAD PGI LIN PRI UNT pages20d pageOf
     lowest levels fitsIn seek lacking place indexed recounted countsAfter lastAfter given missingIn pricat20d isTag viewOf
     nextIf behindIf headingFrom positionsFrom positionsOf agreesAny firstAfter firstAgreeing
-    nodesOf unlessAgreeing forIntervals settled verdictFrom verdictOf beginningAt verdictAt
+    nodesOf unlessAgreeing forIntervals settled verdictFrom verdictOf editionIn editionOf namedOf beginningAt verdictAt
 judgedAt d at = verdictAt edifact d at
 
 -- prices: the answer and the row

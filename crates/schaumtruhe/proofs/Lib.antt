@@ -5,6 +5,7 @@ pub mod ArticlesAt
 pub mod Surveying
 pub mod Only
 pub mod Asked
+pub mod NamedPrices
 pub mod Demand1
 pub mod Demand2
 pub mod Equal

@@ -18,10 +18,9 @@ use Rattle.cut.proofs.Passing.{Begun, begun, Left, left, none-left}
 use Rattle.cut.proofs.Places.{admitted}
 use Rattle.cut.proofs.Scanning.{segments-none}
 use Rattle.guide.specs.Judging.{accepts, refuses, Verdict as Judged}
-use Rattle.guide.specs.Pages20d.{pageOf}
-use Rattle.guide.specs.Pricat.{pricat20d}
 use Rattle.verdict.specs.Answers.{declared, judgedAs}
-use Rattle.verdict.specs.Verdicts.{verdictFrom, verdictOf}
+use Rattle.verdict.specs.Named.{verdictNamed, namedOf}
+use Rattle.verdict.specs.Verdicts.{verdictOf}
 use Rattle.verdict.specs.declared.answers.Judged.{Judged as JudgedAt}
 use Rattle.verdict.specs.declared.answers.Verdict.{Verdict}
 use Rattle.schaumtruhe.specs.Calls.{judged, onlyAccepted, accepted, surveyUnless, surveyOf}
@@ -47,12 +46,12 @@ module _ (y : Syntax) (d : List ℕ) where
   module _ (at : ℕ) where
     -- the message that begins at the place
     module _ (h : headOuter (from at) ≡ outer.Message) (j : JudgedAt)
-        (judges : j ≡ judgedAs (declared (verdictFrom y pricat20d pageOf at (held (from at)))) (lastEnd at (held (from at)))) (o : ℕ) (one : o ≡ oneIf (j .verdict)) where
+        (judges : j ≡ judgedAs (declared (verdictNamed y at (held (from at)))) (lastEnd at (held (from at)))) (o : ℕ) (one : o ≡ oneIf (j .verdict)) where
       abbrev b : Begun y d at
       b = begun y d at h
 
       same-verdict : j .verdict ≡ declared (judged y (b .message))
-      unfolding verdictOf
+      unfolding verdictNamed namedOf verdictOf
       same-verdict = ap (λ (x : JudgedAt). x .verdict) judges ∙ rw (b .starts, ← b .takes)
 
       same-end : j .end ≡ lastEnd at (held (from at))

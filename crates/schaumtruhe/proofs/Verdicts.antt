@@ -16,11 +16,10 @@ use Rattle.cut.specs.Messages.{Message, startOf, closeOf, lastEnd, messages}
 use Rattle.cut.specs.Calls.{isFound, messageAt}
 use Rattle.guide.specs.Accepted.{segmentsOf}
 use Rattle.guide.specs.Judging.{accepts, refuses, Verdict as Judged}
-use Rattle.guide.specs.Pages20d.{pageOf}
-use Rattle.guide.specs.Pricat.{pricat20d}
 use Rattle.verdict.specs.Answers.{declared, judgedAs}
 use Rattle.verdict.specs.declared.answers.Judged.{Judged as JudgedAt}
-use Rattle.verdict.specs.Verdicts.{verdictFrom, verdictOf}
+use Rattle.verdict.specs.Named.{verdictNamed, namedOf}
+use Rattle.verdict.specs.Verdicts.{verdictOf}
 use Rattle.verdict.specs.declared.answers.Verdict.{Verdict}
 use Rattle.verdict.specs.declared.answers.Verdict.the-variants as verdict
 use Rattle.schaumtruhe.specs.Calls.{beginningAt, nowhere, unlessRefused, verdictIn, verdictAt, judged, Sheet, stands, missing, sheetBy, sheetIn, sheetUnless, sheetAt}
@@ -74,12 +73,12 @@ module _ (y : Syntax) (d : List ℕ) (at : ℕ) (a : ℕ) (admits : a ≡ admiss
 
     -- one does
     module _ (some : b ≡ true) (j : JudgedAt)
-        (judges : j ≡ judgedAs (declared (verdictFrom y pricat20d pageOf at (held (segmentsFrom y at false (drop at d))))) (lastEnd at (held (segmentsFrom y at false (drop at d))))) where
+        (judges : j ≡ judgedAs (declared (verdictNamed y at (held (segmentsFrom y at false (drop at d))))) (lastEnd at (held (segmentsFrom y at false (drop at d))))) where
       abbrev h : Begins y d at
       h = is-begun y d at b begins some
 
       is-judged : j .verdict ≡ declared (judged y (h .message))
-      unfolding verdictOf
+      unfolding verdictNamed namedOf verdictOf
       is-judged = ap (λ (x : JudgedAt). x .verdict) judges ∙ rw (h .starts, ← h .takes)
 
       closes : closeOf (h .message) ≡ j .end

@@ -12,10 +12,8 @@ use Rattle.element.specs.declared.components.Span.{Span}
 use Rattle.guide.specs.Accepted.{segmentsOf}
 use Rattle.guide.specs.Choices.{pickℕ}
 use Rattle.guide.specs.Judging.{Verdict, accepts, refuses}
-use Rattle.guide.specs.Pages20d.{pageOf}
-use Rattle.guide.specs.Pricat.{pricat20d}
 use Rattle.guide.specs.Sheet.{pickList}
-use Rattle.verdict.specs.Verdicts.{verdictOf}
+use Rattle.verdict.specs.Named.{namedOf}
 use Rattle.price.specs.PriceCalls.{filledOf, rowAfter, firstArticle}
 use Rattle.price.specs.PriceList.{pricesOf}
 use Rattle.price.specs.PriceNumbers.{Listed}
@@ -72,9 +70,9 @@ articleUnless zero s = s
 articleUnless (suc n) s = atStart
 
 module _ (y : Syntax) where
-  -- the verdict of a message, by the guide PRICAT 2.0d
+  -- the verdict of a message, by "the guide named in UNH"
   abbrev pub judged : Message → Verdict
-  judged m = verdictOf y pricat20d pageOf m
+  judged m = namedOf y m
 
   -- 31, "no message begins at the place asked"
   abbrev pub verdictIn : List Message → Verdict

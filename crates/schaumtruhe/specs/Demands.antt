@@ -1,5 +1,5 @@
 -- Demands 1 and 2 over a delivery and a place, in the words of document 01's table of refusals. Declarative: it cites what a message is, when
--- it is accepted and when refused, and nothing that searches or judges.
+-- it is accepted and when refused by the guide named in its UNH, and nothing that searches or judges.
 use Prim.Native.Nat.{ℕ, suc, _≤_, _<_}
 use mathlib.Core.Path.{_≡_}
 use mathlib.Core.Bool.{true, false}
@@ -10,9 +10,8 @@ use Rattle.cut.specs.Bytes.{begins}
 use Rattle.cut.specs.Admission.{limit, UNA, nine}
 use Rattle.cut.specs.Messages.{Message, startOf, closeOf, messages}
 use Rattle.guide.specs.Accepted.{segmentsOf, Accepted}
-use Rattle.guide.specs.Pages20d.{pageOf}
-use Rattle.guide.specs.Pricat.{pricat20d}
 use Rattle.guide.specs.Refusal.{Refusal}
+use Rattle.verdict.specs.Named.{guideNamed, pagesNamed}
 use Rattle.price.specs.PriceSheet.{pricesInTree}
 
 -- 1, "delivery longer than the limit"
@@ -49,13 +48,13 @@ module _ (y : Syntax) where
   pub data VerdictRefused (d : List ℕ) (at : ℕ) : ℕ → ℕ → ℕ → ℕ → Type 0 where
     no-message : {k : ℕ} → NoMessage d at k → VerdictRefused d at k 0 0 0
     of-message :
-        {k i a n : ℕ} → (m : Message) → Admitted d → Begins d at m → Refusal y pricat20d pageOf m k i a n → VerdictRefused d at k i a n
+        {k i a n : ℕ} → (m : Message) → Admitted d → Begins d at m → Refusal y (guideNamed y m) (pagesNamed y m) m k i a n → VerdictRefused d at k i a n
 
   -- the accepted message m begins at the place
   pub record Stands (d : List ℕ) (at : ℕ) (m : Message) : Type 0 where
     pub admitted : Admitted d
     pub begins : Begins d at m
-    pub accepted : Accepted y pricat20d pageOf m
+    pub accepted : Accepted y (guideNamed y m) (pagesNamed y m) m
 
   -- the verdict asked for at a place is accepted with the count of segments and the byte after the message
   pub record VerdictAccepted (d : List ℕ) (at n e : ℕ) : Type 0 where
@@ -67,10 +66,10 @@ module _ (y : Syntax) where
   -- prices asked for at a place are refused: 1, 2, 31; then 30, "prices or article asked of a refused message"
   pub data PricesRefused (d : List ℕ) (at : ℕ) : ℕ → Type 0 where
     no-message : {k : ℕ} → NoMessage d at k → PricesRefused d at k
-    not-accepted : (m : Message) → Admitted d → Begins d at m → (Accepted y pricat20d pageOf m → ⊥) → PricesRefused d at 30
+    not-accepted : (m : Message) → Admitted d → Begins d at m → (Accepted y (guideNamed y m) (pagesNamed y m) m → ⊥) → PricesRefused d at 30
 
   -- the article of price k is refused: 1, 2, 31, 30; then 32, "article asked for a price number the message does not have"
   pub data ArticleRefused (d : List ℕ) (at k : ℕ) : ℕ → Type 0 where
     no-prices : {n : ℕ} → PricesRefused d at n → ArticleRefused d at k n
     no-price :
-        (m : Message) (s : Stands d at m) → length (pricesInTree pricat20d (s .accepted .proper .sheet .tree)) ≤ k → ArticleRefused d at k 32
+        (m : Message) (s : Stands d at m) → length (pricesInTree (guideNamed y m) (s .accepted .proper .sheet .tree)) ≤ k → ArticleRefused d at k 32
