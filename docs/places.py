@@ -4,8 +4,9 @@
 It judges nothing: verdict, segment, node and prices are taken from the tables as they stand. It adds up byte places
 (a segment ends at each `'` that is not released) and puts the lines together in document 01's print.
 
-places.py FOLDER writes FOLDER/stdin, FOLDER/judge.stdout (M lines), FOLDER/sheetcheck.stdout (M, P and E lines) and,
-for each of the other deliveries, FOLDER/other/NN.edi, NN.judge, NN.out.
+places.py FOLDER writes FOLDER/stdin, FOLDER/sheetcheck.stdout (M, P and E lines), for each of the other deliveries
+FOLDER/other/NN.edi, NN.judge, NN.out, and FOLDER/judge.stdout: the M lines of the one delivery, and behind them for each
+of the others a D line and its NN.judge, as crates/vectors_judge prints them.
 """
 import pathlib
 import re
@@ -76,15 +77,19 @@ def main():
     folder = pathlib.Path(sys.argv[1])
     (folder / "other").mkdir(parents=True, exist_ok=True)
     delivery, lines = one_delivery(table(first))
+    assert len(delivery) <= 65536, "more than the programs read"
     (folder / "stdin").write_bytes(delivery)
-    write(folder / "judge.stdout", [line for line in lines if line.startswith(b"M")])
     write(folder / "sheetcheck.stdout", lines)
+    judged = [line for line in lines if line.startswith(b"M")]
     for number, cell, printed, _ in table(second):
         stem = folder / "other" / number.zfill(2)
         lines = [raw(line) for line in re.findall("`[^`]*`", printed)]
         stem.with_suffix(".edi").write_bytes(raw(cell))
-        write(stem.with_suffix(".judge"), [line for line in lines if line[:1] in b"MX"])
+        verdicts = [line for line in lines if line[:1] in b"MX"]
+        judged += [b"D " + number.encode()] + verdicts
+        write(stem.with_suffix(".judge"), verdicts)
         write(stem.with_suffix(".out"), lines)
+    write(folder / "judge.stdout", judged)
 
 
 main()
