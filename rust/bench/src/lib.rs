@@ -1,8 +1,9 @@
-//! Times and stack of libraries on the five kinds of deliveries.
+//! Times and stack of libraries on the five kinds of deliveries, each with sheets of both editions.
 //!
 //! A wrapper crate implements `plain::Library` for another library and calls `run` with both.
 
 mod stack;
+mod walk;
 mod yardstick;
 
 use std::hint::black_box;
@@ -12,12 +13,14 @@ use generator::{kind, KINDS};
 use plain::Library;
 
 pub use stack::stack_of;
+pub use walk::walk;
 pub use yardstick::terminators;
 
 /// The two sizes that are timed.
 const SIZES: [usize; 2] = [131_072, 1_048_576];
 
-/// Each kind at each size: the yardstick, then survey of every library as a multiple of it.
+/// Each kind at each size: the yardstick, then survey of every library as a multiple of it, and the way through all
+/// messages and prices as a multiple of that library's survey.
 pub fn run(libraries: &[&'static (dyn Library + Sync)], for_each: Duration) {
     for size in SIZES {
         for name in KINDS {
@@ -57,10 +60,28 @@ fn times(d: &[u8], libraries: &[&'static (dyn Library + Sync)], for_each: Durati
         }
     }
     println!("  {:<12} {:>9.1} us", "yardstick", micros(yardstick));
-    for (best, library) in best.iter().zip(libraries) {
-        let ratio = best.as_secs_f64() / yardstick.as_secs_f64();
-        println!("  {:<12} {:>9.1} us  {ratio:.2} yardsticks", library.name(), micros(*best));
+    for (survey, library) in best.iter().zip(libraries) {
+        let (walked, prices) = walk_time(d, *library, for_each);
+        println!(
+            "  {:<12} {:>9.1} us  {:.2} yardsticks; all messages and {prices} prices {:.1} us  {:.2} surveys",
+            library.name(),
+            micros(*survey),
+            survey.as_secs_f64() / yardstick.as_secs_f64(),
+            micros(walked),
+            walked.as_secs_f64() / survey.as_secs_f64()
+        );
     }
+}
+
+/// The best way through the delivery, at least one, and how many prices it meets.
+fn walk_time(d: &[u8], library: &dyn Library, for_each: Duration) -> (Duration, usize) {
+    let mut best = Duration::MAX;
+    let mut prices = 0;
+    let until = Instant::now() + for_each;
+    while best == Duration::MAX || Instant::now() < until {
+        best = best.min(time(|| prices = black_box(walk(library, black_box(d)))));
+    }
+    (best, prices)
 }
 
 /// The answer is wanted, as far as the compiler knows.
@@ -81,8 +102,7 @@ fn micros(time: Duration) -> f64 {
 /// The stack of each call on the long delivery of a kind.
 fn stacks(name: &str, libraries: &[&'static (dyn Library + Sync)]) {
     let d = kind(name, SIZES[1], 7);
-    let at =
-        libraries[0].next_message(&d, d.len() / 3).or(libraries[0].next_message(&d, 0)).map_or(0, |(start, _)| start);
+    let at = libraries[0].next_message(&d, d.len() / 3).or(libraries[0].next_message(&d, 0)).map_or(0, |(start, _)| start);
     for library in libraries {
         let mut row = vec![0i64; 800];
         let survey = stack_of(|| ignore(library.survey(&d)));
