@@ -153,7 +153,7 @@ fn standing(random: &mut Random, segment: &Segment) -> Option<(usize, usize)> {
 }
 
 fn empty(random: &mut Random, all: &mut Vec<Segment>) {
-    if random.once_in(5) {
+    if random.once_in(3) {
         return description(random, all);
     }
     let at = any(random, all);
@@ -166,7 +166,7 @@ fn empty(random: &mut Random, all: &mut Vec<Segment>) {
 }
 
 fn fill(random: &mut Random, all: &mut Vec<Segment>) {
-    if random.once_in(8) {
+    if random.once_in(4) {
         return description(random, all);
     }
     let at = any(random, all);

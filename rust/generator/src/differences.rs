@@ -34,6 +34,7 @@ pub fn description(random: &mut Random, all: &mut Vec<Segment>) {
         &[b"", b"", b"", b"Text"],
         &[b"", b"", b"", b"", b""],
         &[b"", b"", b"", b"", b"X"],
+        &[b"", b"", b"", b"", b"", b"X"],
         &[b"Z10", b"", b"", b"", b"X"],
         &[b"", b"", b"", b"Text", b"X"],
         &[b"Z08", b"X"],
