@@ -110,38 +110,52 @@ fn the_text_of_a_description() {
     assert_eq!(imd(&format!("+:::{}", "X".repeat(257))), [(19, 9, 18), (19, 9, 17)]);
 }
 
+/// Behind `HEAD`, one segment of every node that both editions have.
+const POSITIONS: &str = "CTA+IC+:N'COM+1:TE'CUX+2:EUR:8'PGI+9'LIN+1++A:Z01'PIA+1+S:Z06'IMD+C+Z41'PRI+CAL:1'DTM+163:1:303'\
+    DTM+164:1:303'PGI+Z01'LIN+2++B:Z09'PRI+CAL:1'RNG+10+KWH:1'";
+
+/// How a segment begins, and its node in 2.0d and 2.0c.
+const NUMBERS: [(&str, usize, usize); 16] = [
+    ("BGM", 2, 2),
+    ("DTM+137", 4, 4),
+    ("RFF+Z13", 8, 7),
+    ("NAD+MR", 9, 8),
+    ("NAD+MS", 10, 9),
+    ("CTA", 12, 11),
+    ("COM", 13, 12),
+    ("CUX", 14, 13),
+    ("PGI+9", 15, 14),
+    ("LIN+1", 16, 15),
+    ("PIA", 17, 16),
+    ("IMD", 18, 17),
+    ("DTM+164", 21, 19),
+    ("PGI+Z01", 22, 20),
+    ("LIN+2", 23, 21),
+    ("RNG", 25, 23),
+];
+
 #[test]
 fn the_numbers_of_the_nodes() {
-    let sheet = format!("{HEAD}CTA+IC+:N'COM+1:TE'CUX+2:EUR:8'PGI+9'LIN+1++A:Z01'PIA+1+S:Z06'IMD+C+Z41'PRI+CAL:1'DTM+163:1:303'DTM+164:1:303'PGI+Z01'LIN+2++B:Z09'PRI+CAL:1'RNG+10+KWH:1'");
+    let sheet = format!("{HEAD}{POSITIONS}");
     assert_eq!(both(&sheet), [RIGHT, RIGHT]);
-    let numbers = [
-        ("BGM", 2, 2),
-        ("DTM+137", 4, 4),
-        ("RFF+Z13", 8, 7),
-        ("NAD+MR", 9, 8),
-        ("NAD+MS", 10, 9),
-        ("CTA", 12, 11),
-        ("COM", 13, 12),
-        ("CUX", 14, 13),
-        ("PGI+9", 15, 14),
-        ("LIN+1", 16, 15),
-        ("PIA", 17, 16),
-        ("IMD", 18, 17),
-        ("DTM+164", 21, 19),
-        ("PGI+Z01", 22, 20),
-        ("LIN+2", 23, 21),
-        ("RNG", 25, 23),
-    ];
-    for (begin, of_20d, of_20c) in numbers {
-        let wrong: String = sheet
-            .split_inclusive('\'')
-            .map(|segment| if segment.starts_with(begin) { segment.replace('\'', "+++++++X'") } else { segment.into() })
-            .collect();
+    for (begin, of_20d, of_20c) in NUMBERS {
+        let spoil = |segment: &str| match segment.starts_with(begin) {
+            true => segment.replace('\'', "+++++++X'"),
+            false => segment.to_string(),
+        };
+        let wrong: String = sheet.split_inclusive('\'').map(spoil).collect();
         assert_eq!(both(&wrong).map(|(number, _, node)| (number, node)), [(18, of_20d), (18, of_20c)], "{begin}");
     }
-    let other_article = sheet.replace("LIN+2++B:Z09", "LIN+2++A:Z09").replace("LIN+1++A:Z01'PIA+1+S:Z06'IMD+C+Z41", "LIN+1++A:Z09");
-    assert_eq!(both(&other_article).map(|(number, _, node)| (number, node)), [(23, 23), (23, 21)]);
-    let no_count = [message("2.0d", HEAD), message("2.0c", HEAD)]
-        .map(|d| judge_at(&String::from_utf8(d).unwrap().replace("UNT+7", "UNT+8").into_bytes(), 0));
-    assert_eq!(no_count, [26, 24].map(|node| refused(21, 7, message("2.0d", HEAD).len() - 8, node)));
+}
+
+#[test]
+fn the_numbers_of_23_and_21() {
+    let agreeing = format!("{HEAD}PGI+9'LIN+1++A:Z09'PGI+Z01'LIN+2++A:Z09'PRI+CAL:1'");
+    assert_eq!(both(&agreeing), [(23, 10, 23), (23, 10, 21)]);
+    for (edition, node) in [("2.0d", 26), ("2.0c", 24)] {
+        let mut d = message(edition, HEAD);
+        let place = d.len() - b"UNT+7+1'".len();
+        d[place + 4] = b'8';
+        assert_eq!(judge_at(&d, 0), refused(21, 7, place, node));
+    }
 }
