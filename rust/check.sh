@@ -16,6 +16,6 @@ done
 echo "docs/VECTORS.md: all lines equal"
 outside=../../shared/tools/vectors.py
 if [ -f $outside ]; then
-    python3 $outside $check base
+    python3 $outside $check request01
 fi
 nice target/release/compare --deliveries "${1:-5000}" --seed "${2:-1}"

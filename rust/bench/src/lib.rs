@@ -1,4 +1,4 @@
-//! Times and stack of libraries on the five kinds of deliveries.
+//! Times and stack of libraries on the five kinds of deliveries, each with sheets of both editions.
 //!
 //! A wrapper crate implements `plain::Library` for another library and calls `run` with both.
 

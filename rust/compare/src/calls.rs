@@ -19,11 +19,7 @@ pub struct Places {
 
 impl Places {
     pub fn new() -> Places {
-        Places {
-            delivery: Guarded::new(LIMIT + 65_536),
-            row: Guarded::new(LONGEST_ROW * 8),
-            other_row: Guarded::new(LONGEST_ROW * 8),
-        }
+        Places { delivery: Guarded::new(LIMIT + 65_536), row: Guarded::new(LONGEST_ROW * 8), other_row: Guarded::new(LONGEST_ROW * 8) }
     }
 }
 
@@ -52,11 +48,7 @@ pub fn compare_delivery(
     tally: &mut Tally,
 ) -> Outcome {
     let is_at_begin = random.once_in(4);
-    let lent = if is_at_begin {
-        places.delivery.at_the_begin(delivery.len())
-    } else {
-        places.delivery.at_the_end(delivery.len())
-    };
+    let lent = if is_at_begin { places.delivery.at_the_begin(delivery.len()) } else { places.delivery.at_the_end(delivery.len()) };
     lent.copy_from_slice(delivery);
     let pair = Pair { one, other, d: lent };
     tally.deliveries += 1;
@@ -150,7 +142,7 @@ impl Pair<'_> {
     fn verdict(&self, at: usize, tally: &mut Tally) -> Outcome {
         let (one, other) = (self.one.judge_at(self.d, at), self.other.judge_at(self.d, at));
         tally.calls += 1;
-        tally.verdict(&one);
+        tally.verdict(self.d, at, &one);
         equal(format_args!("judge_at({at})"), &one, &other)
     }
 

@@ -72,8 +72,7 @@ fn show(order: &Order, number: u64, d: &[u8], difference: &str) {
     println!("{} bytes", d.len());
     for (at, line) in d.chunks(32).enumerate().take(4096) {
         let hex: String = line.iter().map(|byte| format!("{byte:02x}")).collect();
-        let shown: String =
-            line.iter().map(|&byte| if (32..127).contains(&byte) { byte as char } else { '.' }).collect();
+        let shown: String = line.iter().map(|&byte| if (32..127).contains(&byte) { byte as char } else { '.' }).collect();
         println!("{:8} {hex:64} {shown}", at * 32);
     }
 }

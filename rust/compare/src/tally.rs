@@ -1,6 +1,7 @@
 //! How often each answer came.
 
 use std::collections::BTreeMap;
+use std::fmt::Display;
 
 use plain::{Article, Survey, Verdict};
 
@@ -23,6 +24,8 @@ pub struct Tally {
     price_refusals: Counts,
     article_refusals: Counts,
     nodes: Counts,
+    /// Accepted messages by their DE0057.
+    editions: BTreeMap<String, u64>,
 }
 
 impl Tally {
@@ -37,9 +40,13 @@ impl Tally {
         }
     }
 
-    pub fn verdict(&mut self, verdict: &Verdict) {
+    /// The verdict on what begins at `at`.
+    pub fn verdict(&mut self, d: &[u8], at: usize, verdict: &Verdict) {
         match verdict {
-            Verdict::Accepted { .. } => count(&mut self.verdicts, 0),
+            Verdict::Accepted { .. } => {
+                count(&mut self.verdicts, 0);
+                *self.editions.entry(edition(d.get(at..).unwrap_or_default())).or_default() += 1;
+            }
             Verdict::Refused { number, node, .. } => {
                 count(&mut self.verdicts, *number as usize);
                 count(&mut self.nodes, *node);
@@ -62,14 +69,12 @@ impl Tally {
     }
 
     pub fn print(&self) {
-        println!(
-            "deliveries {}, bytes {}, longest {}, calls {}",
-            self.deliveries, self.bytes, self.longest, self.calls
-        );
+        println!("deliveries {}, bytes {}, longest {}, calls {}", self.deliveries, self.bytes, self.longest, self.calls);
         println!("messages {}, accepted {}, segments outside {}", self.messages, self.accepted, self.outside);
         println!("prices compared {}, segments of the reader {}", self.prices, self.segments);
         println!("survey refused: {}", counted(&self.surveys));
         println!("judge_at (0 accepted): {}", counted(&self.verdicts));
+        println!("judge_at accepted by edition: {}", counted(&self.editions));
         println!("nodes named: {}", counted(&self.nodes));
         println!("prices (0 given): {}", counted(&self.price_refusals));
         println!("article (0 given): {}", counted(&self.article_refusals));
@@ -80,7 +85,33 @@ fn count(all: &mut Counts, number: usize) {
     *all.entry(number).or_default() += 1;
 }
 
-fn counted(all: &Counts) -> String {
+fn counted<T: Display>(all: &BTreeMap<T, u64>) -> String {
     let shown: Vec<String> = all.iter().map(|(number, count)| format!("{number}: {count}")).collect();
     shown.join(", ")
+}
+
+/// The decoded fifth component of the second element of the segment that `d` begins with.
+fn edition(d: &[u8]) -> String {
+    let (mut element, mut component) = (0, 1);
+    let mut named = String::new();
+    let mut bytes = d.iter();
+    while let Some(&byte) = bytes.next() {
+        let literal = match byte {
+            b'\'' => break,
+            b'+' => {
+                (element, component) = (element + 1, 1);
+                continue;
+            }
+            b':' => {
+                component += 1;
+                continue;
+            }
+            b'?' => bytes.next().copied().unwrap_or(b'?'),
+            _ => byte,
+        };
+        if (element, component) == (2, 5) {
+            named.push(literal as char);
+        }
+    }
+    named
 }

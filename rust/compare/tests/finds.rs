@@ -11,6 +11,7 @@ enum Wrong {
     Survey,
     NextMessage,
     Verdict,
+    Edition,
     Written,
     RowBehind,
     RowOnRefusal,
@@ -36,6 +37,9 @@ impl Library for Altered {
     }
 
     fn judge_at(&self, d: &[u8], at: usize) -> Verdict {
+        if self.0 == Wrong::Edition {
+            return Plain.judge_at(&as_20d(d), at);
+        }
         match Plain.judge_at(d, at) {
             Verdict::Refused { number, segment, place, .. } if self.0 == Wrong::Verdict => {
                 Verdict::Refused { number, segment, place, node: 0 }
@@ -48,9 +52,7 @@ impl Library for Altered {
         let answer = Plain.prices(d, at, k, row);
         match answer {
             Ok((written, total)) if self.0 == Wrong::Written => return Ok((written, total + 1)),
-            Ok((written, _)) if self.0 == Wrong::RowBehind && written > 0 && row.len() > written * 8 => {
-                row[written * 8] = 0
-            }
+            Ok((written, _)) if self.0 == Wrong::RowBehind && written > 0 && row.len() > written * 8 => row[written * 8] = 0,
             Err(30) if self.0 == Wrong::RowOnRefusal && !row.is_empty() => row[0] = 0,
             _ => {}
         }
@@ -71,6 +73,17 @@ impl Library for Altered {
     }
 }
 
+/// The delivery with every 2.0c made a 2.0d.
+fn as_20d(d: &[u8]) -> Vec<u8> {
+    let mut changed = d.to_vec();
+    for at in 3..d.len() {
+        if d[..=at].ends_with(b"2.0c") {
+            changed[at] = b'd';
+        }
+    }
+    changed
+}
+
 /// How many of some deliveries show a difference.
 fn differences(other: &dyn Library) -> usize {
     let mut places = Places::new();
@@ -78,8 +91,7 @@ fn differences(other: &dyn Library) -> usize {
     (0..300)
         .filter(|&seed| {
             let d = generator::delivery(seed);
-            d.len() < 100_000
-                && compare_delivery(&Plain, other, &d, &mut Random::new(seed), &mut places, &mut tally).is_err()
+            d.len() < 100_000 && compare_delivery(&Plain, other, &d, &mut Random::new(seed), &mut places, &mut tally).is_err()
         })
         .count()
 }
@@ -93,7 +105,7 @@ fn a_right_library_shows_none() {
 #[test]
 fn a_wrong_call_is_found() {
     use Wrong::*;
-    for wrong in [Survey, NextMessage, Verdict, Written, RowBehind, RowOnRefusal, Article, Segments] {
+    for wrong in [Survey, NextMessage, Verdict, Edition, Written, RowBehind, RowOnRefusal, Article, Segments] {
         assert!(differences(&Altered(wrong)) > 10);
     }
 }

@@ -1,6 +1,7 @@
 //! One fault in a right message. Each refusal number has several ways; a way may now and then miss, which is no harm:
 //! the readers decide what the message gets.
 
+use crate::differences::{description, only_in_one, other_edition, second_price, unknown_edition};
 use crate::random::Random;
 use crate::sheet::{exact_text, Segment};
 
@@ -30,7 +31,7 @@ fn any(random: &mut Random, all: &[Segment]) -> usize {
 }
 
 /// A segment with one of these tags, if there is one.
-fn one_of(random: &mut Random, all: &[Segment], tags: &[&str]) -> Option<usize> {
+pub fn one_of(random: &mut Random, all: &[Segment], tags: &[&str]) -> Option<usize> {
     let found: Vec<usize> = (0..all.len()).filter(|&at| tags.contains(&all[at].tag)).collect();
     (!found.is_empty()).then(|| found[random.below(found.len())])
 }
@@ -59,8 +60,7 @@ fn byte_not_allowed(random: &mut Random, all: &mut [Segment]) {
 fn wrong_tag(random: &mut Random, all: &mut Vec<Segment>) {
     if random.once_in(5) {
         let at = random.between(1, all.len());
-        let raw =
-            random.pick(&[&b"'"[..], b"A'", b"AB'", b"\xc4\xd6\xdc+1'", b"A1B+1'", b"?'AB'", b"ABC:'", b"ab'", b"+'"]);
+        let raw = random.pick(&[&b"'"[..], b"A'", b"AB'", b"\xc4\xd6\xdc+1'", b"A1B+1'", b"?'AB'", b"ABC:'", b"ab'", b"+'"]);
         return all.insert(at, Segment::raw(raw));
     }
     let at = any(random, all);
@@ -77,18 +77,14 @@ fn wrong_tag(random: &mut Random, all: &mut Vec<Segment>) {
 }
 
 fn wrong_place(random: &mut Random, all: &mut Vec<Segment>) {
-    match random.below(5) {
+    match random.below(8) {
         0 => {
             let at = random.between(1, all.len() - 1);
-            all.insert(
-                at,
-                Segment::raw(random.pick(&[&b"FTX+AAA'"[..], b"UNB+UNOC'", b"QTY+1'", b"UNA:+.? '", b"ABC'"])),
-            );
+            all.insert(at, Segment::raw(random.pick(&[&b"FTX+AAA'"[..], b"UNB+UNOC'", b"QTY+1'", b"UNA:+.? '", b"ABC'"])));
         }
         1 => {
             if let Some(at) = one_of(random, all, &["DTM", "RFF", "NAD", "PGI"]) {
-                *all[at].at(1, 1) =
-                    random.pick(&[&b""[..], b"XX", b"163", b"Z13", b"z01", b"MR", b"10", b"137"]).to_vec();
+                *all[at].at(1, 1) = random.pick(&[&b""[..], b"XX", b"163", b"Z13", b"z01", b"MR", b"10", b"137"]).to_vec();
             }
         }
         2 => {
@@ -100,6 +96,8 @@ fn wrong_place(random: &mut Random, all: &mut Vec<Segment>) {
             let moved = all.remove(from);
             all.insert(to.min(all.len()), moved);
         }
+        4 => other_edition(random, all),
+        5..=6 => only_in_one(random, all),
         _ => {
             let (from, to) = (any(random, all).max(1), random.between(1, all.len()));
             let copy = all[from].clone();
@@ -109,8 +107,7 @@ fn wrong_place(random: &mut Random, all: &mut Vec<Segment>) {
 }
 
 fn leave_out(random: &mut Random, all: &mut Vec<Segment>) {
-    let tags: &[&str] =
-        random.pick(&[&["BGM"][..], &["DTM"], &["RFF"], &["NAD"], &["COM"], &["LIN"], &["PRI"], &["PRI", "LIN"]]);
+    let tags: &[&str] = random.pick(&[&["BGM"][..], &["DTM"], &["RFF"], &["NAD"], &["COM"], &["LIN"], &["PRI"], &["PRI", "LIN"]]);
     let Some(at) = one_of(random, all, tags) else {
         drop(all.remove(random.between(1, 5.min(all.len() - 2))));
         return;
@@ -127,6 +124,9 @@ fn leave_out(random: &mut Random, all: &mut Vec<Segment>) {
 }
 
 fn repeat(random: &mut Random, all: &mut Vec<Segment>) {
+    if random.once_in(4) {
+        return second_price(random, all);
+    }
     let at = random.between(1, all.len() - 2);
     let times = match all[at].tag {
         "COM" => random.between(1, 6),
@@ -152,7 +152,10 @@ fn standing(random: &mut Random, segment: &Segment) -> Option<(usize, usize)> {
     (!found.is_empty()).then(|| found[random.below(found.len())])
 }
 
-fn empty(random: &mut Random, all: &mut [Segment]) {
+fn empty(random: &mut Random, all: &mut Vec<Segment>) {
+    if random.once_in(3) {
+        return description(random, all);
+    }
     let at = any(random, all);
     let Some((element, component)) = standing(random, &all[at]) else { return };
     match random.below(4) {
@@ -162,7 +165,10 @@ fn empty(random: &mut Random, all: &mut [Segment]) {
     }
 }
 
-fn fill(random: &mut Random, all: &mut [Segment]) {
+fn fill(random: &mut Random, all: &mut Vec<Segment>) {
+    if random.once_in(4) {
+        return description(random, all);
+    }
     let at = any(random, all);
     let segment = &mut all[at];
     let (element, component) = match random.below(4) {
@@ -229,6 +235,9 @@ fn misform(random: &mut Random, all: &mut [Segment]) {
 }
 
 fn wrong_code(random: &mut Random, all: &mut [Segment]) {
+    if random.once_in(4) {
+        return unknown_edition(random, all);
+    }
     let at = any(random, all);
     let Some((element, component)) = standing(random, &all[at]) else { return };
     let part = all[at].at(element, component);
@@ -239,11 +248,7 @@ fn wrong_code(random: &mut Random, all: &mut [Segment]) {
             part[place] = *random.pick(&[&b'0', &b'1', &b'Z', &b'X', &b'9', &b' ']);
         }
         2 => drop(part.pop()),
-        _ => {
-            *part = random
-                .pick(&[&b"Z01"[..], b"Z09", b"Z04", b"KWH", b"H87", b"303", b"610", b"10", b"9", b"2.0c", b"1"])
-                .to_vec()
-        }
+        _ => *part = random.pick(&[&b"Z01"[..], b"Z09", b"Z04", b"KWH", b"H87", b"303", b"610", b"10", b"9", b"2.0c", b"1"]).to_vec(),
     }
 }
 
@@ -304,7 +309,7 @@ fn agree(random: &mut Random, all: &mut Vec<Segment>) {
 }
 
 /// UNT's count put right again, so that the other fault is the only one.
-fn recount(all: &mut [Segment]) {
+pub fn recount(all: &mut [Segment]) {
     let count = all.len().to_string().into_bytes();
     if let Some(last) = all.last_mut() {
         *last.at(1, 1) = count;
@@ -313,10 +318,7 @@ fn recount(all: &mut [Segment]) {
 
 fn no_end(random: &mut Random, all: &mut Vec<Segment>) {
     match random.below(4) {
-        0 => {
-            *all.last_mut().expect("a message ends with UNT") =
-                Segment::raw(random.pick(&[&b"UNZ+1+1'"[..], b"UNZ'", b"UNZX'"]))
-        }
+        0 => *all.last_mut().expect("a message ends with UNT") = Segment::raw(random.pick(&[&b"UNZ+1+1'"[..], b"UNZ'", b"UNZX'"])),
         1 => all.truncate(random.between(1, all.len() - 1)),
         _ => drop(all.pop()),
     }

@@ -1,9 +1,10 @@
 //! Whole deliveries: messages right and damaged, what stands outside, UNA, pieces, sizes on both sides of the limit.
 
 use crate::damage::{damage, FAULTS};
+use crate::edition::Edition;
 use crate::kinds::dense;
 use crate::random::Random;
-use crate::sheet::{message, Segment, Shape};
+use crate::sheet::{message, Shape};
 
 /// The longest delivery that is admitted.
 pub const LIMIT: usize = 1_048_576;
@@ -121,7 +122,7 @@ fn shape(random: &mut Random) -> Shape {
         _ => random.between(20, 120),
     };
     let releases = if random.once_in(3) { random.between(3, 30) } else { 0 };
-    Shape { positions, releases, is_rich: !random.once_in(4), is_z04: random.once_in(8) }
+    Shape { edition: Edition::any(random), positions, releases, is_rich: !random.once_in(4), is_z04: random.once_in(8) }
 }
 
 /// One message, right or damaged.
@@ -136,7 +137,11 @@ fn one_message(random: &mut Random, shape: Shape, is_damaged: bool, d: &mut Vec<
         let number = *random.pick(&FAULTS.each_ref());
         damage(random, &mut all, number);
     }
-    all.iter().for_each(|segment: &Segment| segment.write(random, shape.releases, d));
+    // Now and then UNH is full of releases, so that the edition is spelled with some.
+    let in_unh = if random.once_in(12) { 2 } else { shape.releases };
+    for (at, segment) in all.iter().enumerate() {
+        segment.write(random, if at == 0 { in_unh } else { shape.releases }, d);
+    }
 }
 
 fn mixed(random: &mut Random, d: &mut Vec<u8>) {
@@ -150,7 +155,8 @@ fn mixed(random: &mut Random, d: &mut Vec<u8>) {
 
 fn many(random: &mut Random, d: &mut Vec<u8>) {
     for _ in 0..random.between(20, 200) {
-        let shape = Shape { positions: random.below(3), releases: 0, is_rich: false, is_z04: random.once_in(10) };
+        let edition = Edition::any(random);
+        let shape = Shape { edition, positions: random.below(3), releases: 0, is_rich: false, is_z04: random.once_in(10) };
         let is_damaged = random.once_in(4);
         one_message(random, shape, is_damaged, d);
     }
@@ -161,17 +167,13 @@ fn noise(random: &mut Random, d: &mut Vec<u8>) {
     for _ in 0..random.below(60) {
         match random.below(10) {
             0 => d.push(random.word() as u8),
-            1 => d.extend_from_slice(b"UNH+1+PRICAT:D:20B:UN:2.0d'"),
-            2 => d.extend_from_slice(random.pick(&[
-                &b"UNH"[..],
-                b"UNT",
-                b"UNZ",
-                b"'UNH",
-                b"'UNT",
-                b"'UNZ",
-                b"UNA",
-                b"?'UNH",
+            1 => d.extend_from_slice(random.pick(&[
+                &b"UNH+1+PRICAT:D:20B:UN:2.0d'"[..],
+                b"UNH+1+PRICAT:D:20B:UN:2.0c'",
+                b"UNH+1+PRICAT:D:20B:UN:2.0?c'",
+                b"UNH+1+PRICAT:D:20B:UN'",
             ])),
+            2 => d.extend_from_slice(random.pick(&[&b"UNH"[..], b"UNT", b"UNZ", b"'UNH", b"'UNT", b"'UNZ", b"UNA", b"?'UNH"])),
             3 => d.extend_from_slice(random.pick(&[
                 &b"BGM+Z32+A1'"[..],
                 b"DTM+137:1:303'",
@@ -187,6 +189,9 @@ fn noise(random: &mut Random, d: &mut Vec<u8>) {
                 b"UNT+3+1'",
                 b"CTA+IC+:N'",
                 b"COM+1:TE'",
+                b"RFF+Z56:1'",
+                b"RNG+10+H87:1'",
+                b"IMD+C+Z41+Z08'",
             ])),
             4..=7 => d.push(*random.pick(&[&b'\'', &b'+', &b':', &b'?', &b'\'', &b'?'])),
             _ => d.push(*random.pick(&[&b'A', &b'1', &b'U', &b'N', &b'H', &b'T', &b'Z', &b' '])),
@@ -201,11 +206,7 @@ fn scratch(random: &mut Random, d: &mut Vec<u8>) {
             return;
         }
         let at = random.below(d.len());
-        let byte = if random.once_in(3) {
-            random.word() as u8
-        } else {
-            *random.pick(&[&b'\'', &b'+', &b':', &b'?', &b'0', &b'U'])
-        };
+        let byte = if random.once_in(3) { random.word() as u8 } else { *random.pick(&[&b'\'', &b'+', &b':', &b'?', &b'0', &b'U']) };
         match random.below(3) {
             0 => d[at] = byte,
             1 => d.insert(at, byte),
@@ -218,6 +219,7 @@ fn scratch(random: &mut Random, d: &mut Vec<u8>) {
 fn large(random: &mut Random, d: &mut Vec<u8>) {
     for _ in 0..random.between(1, 3) {
         let shape = Shape {
+            edition: Edition::any(random),
             positions: random.between(100, 1200),
             releases: 0,
             is_rich: random.once_in(2),
@@ -229,8 +231,7 @@ fn large(random: &mut Random, d: &mut Vec<u8>) {
 }
 
 /// A right message with nothing in it that may be left out.
-const SMALLEST: &[u8] =
-    b"UNH+1+PRICAT:D:20B:UN:2.0d'BGM+Z32+1'DTM+137:1:303'RFF+Z13:27002'NAD+MR+1::9'NAD+MS+1::9'UNT+7+1'";
+const SMALLEST: &[u8] = b"UNH+1+PRICAT:D:20B:UN:2.0d'BGM+Z32+1'DTM+137:1:303'RFF+Z13:27002'NAD+MR+1::9'NAD+MS+1::9'UNT+7+1'";
 
 /// A delivery filled up to the limit, just short of it, or just past it.
 fn near_the_limit(random: &mut Random, d: &mut Vec<u8>) {

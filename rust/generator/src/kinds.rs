@@ -1,6 +1,7 @@
 //! The five kinds of deliveries that are timed.
 
 use crate::damage::{damage, FAULTS};
+use crate::edition::Edition;
 use crate::random::Random;
 use crate::sheet::{message, Shape};
 
@@ -32,7 +33,7 @@ fn one_message(random: &mut Random, name: &str) -> Vec<u8> {
         _ if random.once_in(10) => random.below(6),
         _ => random.between(50, 900),
     };
-    let shape = Shape { positions, releases: 0, is_rich: false, is_z04: name == "z04" };
+    let shape = Shape { edition: Edition::any(random), positions, releases: 0, is_rich: false, is_z04: name == "z04" };
     let mut all = message(random, shape);
     if name == "damaged" && random.below(5) < 4 {
         let number = *random.pick(&FAULTS.each_ref());
@@ -45,12 +46,12 @@ fn one_message(random: &mut Random, name: &str) -> Vec<u8> {
 
 /// One message with as many different minimal positions as fit into `size` bytes, articles in no order.
 pub fn dense(random: &mut Random, size: usize, d: &mut Vec<u8>) {
-    const BEGIN: &[u8] =
-        b"UNH+1+PRICAT:D:20B:UN:2.0d'BGM+Z32+1'DTM+137:1:303'RFF+Z13:27002'NAD+MR+1::9'NAD+MS+1::9'PGI+9'";
+    const HEAD: &str = "BGM+Z32+1'DTM+137:1:303'RFF+Z13:27002'NAD+MR+1::9'NAD+MS+1::9'PGI+9'";
     const END: usize = b"UNT+999999+1'".len();
+    let front = format!("UNH+1+PRICAT:D:20B:UN:{}'{HEAD}", Edition::any(random).code());
     let begin = d.len();
-    d.extend_from_slice(BEGIN);
-    let mut articles: Vec<usize> = (0..most_positions(size, BEGIN.len() + END)).collect();
+    d.extend_from_slice(front.as_bytes());
+    let mut articles: Vec<usize> = (0..most_positions(size, front.len() + END)).collect();
     random.shuffle(&mut articles);
     let count = articles.len() + 8;
     for (at, article) in articles.into_iter().enumerate() {
@@ -59,7 +60,7 @@ pub fn dense(random: &mut Random, size: usize, d: &mut Vec<u8>) {
         d.extend_from_slice(b":Z01'");
     }
     d.extend_from_slice(format!("UNT+{count}+1'").as_bytes());
-    debug_assert!(d.len() - begin <= size.max(BEGIN.len() + END));
+    debug_assert!(d.len() - begin <= size.max(front.len() + END));
 }
 
 /// How many positions fit beside `other` bytes: each has its number, its article and eleven bytes around them.

@@ -3,12 +3,15 @@
 
 mod damage;
 mod delivery;
+mod differences;
+mod edition;
 mod kinds;
 mod random;
 mod sheet;
 
 pub use damage::{damage, FAULTS};
 pub use delivery::{delivery, LIMIT};
+pub use edition::Edition;
 pub use kinds::{kind, KINDS};
 pub use random::Random;
 pub use sheet::{message, Segment, Shape};

@@ -1,5 +1,6 @@
-//! Right messages: the order, codes and formats of the guide's pages, with random optional parts.
+//! Right messages: the order, codes and formats of an edition's pages, with random optional parts.
 
+use crate::edition::Edition;
 use crate::random::Random;
 
 /// A segment before it is written: decoded components by element, or bytes that stand as they are.
@@ -13,6 +14,7 @@ pub struct Segment {
 /// How large and how varied a message is.
 #[derive(Clone, Copy)]
 pub struct Shape {
+    pub edition: Edition,
     pub positions: usize,
     /// One byte in so many gets a release it does not need; 0 for none.
     pub releases: usize,
@@ -114,21 +116,16 @@ pub fn number(random: &mut Random, most: usize) -> Vec<u8> {
 }
 
 fn date(random: &mut Random) -> Vec<u8> {
-    format!(
-        "20{:02}{:02}{:02}{:02}00+00",
-        random.between(11, 29),
-        random.between(1, 12),
-        random.between(1, 28),
-        random.below(24)
-    )
-    .into_bytes()
+    format!("20{:02}{:02}{:02}{:02}00+00", random.between(11, 29), random.between(1, 12), random.between(1, 28), random.below(24))
+        .into_bytes()
 }
 
 /// The segments of a right message.
 pub fn message(random: &mut Random, shape: Shape) -> Vec<Segment> {
     let rich = shape.is_rich;
     let reference = text(random, 14, rich);
-    let mut all = vec![Segment::new("UNH", &[&[&reference], &[b"PRICAT", b"D", b"20B", b"UN", b"2.0d"]])];
+    let edition = shape.edition.code().as_bytes();
+    let mut all = vec![Segment::new("UNH", &[&[&reference], &[b"PRICAT", b"D", b"20B", b"UN", edition]])];
     all.push(beginning(random, shape));
     dates(random, shape, &mut all);
     references(random, shape, &mut all);
@@ -173,7 +170,7 @@ fn references(random: &mut Random, shape: Shape, all: &mut Vec<Segment>) {
     if chance(random, shape.is_rich) {
         some.push(Segment::new("RFF", &[&[b"ACW", &text(random, 70, shape.is_rich)]]));
     }
-    if chance(random, shape.is_rich) {
+    if shape.edition == Edition::Of20d && chance(random, shape.is_rich) {
         some.push(Segment::new("RFF", &[&[b"Z56", &text(random, 35, shape.is_rich)]]));
     }
     random.shuffle(&mut some);
@@ -265,10 +262,11 @@ fn first_kind(random: &mut Random, shape: Shape, number: usize, name: usize, all
         all.push(Segment::new("PIA", &[&[b"1"], &[&stem, b"Z06"]]));
     }
     if apart == 1 || chance(random, rich) {
-        all.push(description(random, (apart == 1).then_some(&named), rich));
+        all.push(description(random, shape, (apart == 1).then_some(&named)));
     }
     let prices = match random.below(20) {
         0 => 0,
+        _ if shape.edition == Edition::Of20c => 1,
         1 if rich => random.between(2, 6),
         2 if rich && random.once_in(30) => 100,
         _ => 1,
@@ -278,17 +276,19 @@ fn first_kind(random: &mut Random, shape: Shape, number: usize, name: usize, all
     }
 }
 
-fn description(random: &mut Random, named: Option<&Vec<u8>>, is_rich: bool) -> Segment {
+/// The text is required in 2.0c where a code stands beside it.
+fn description(random: &mut Random, shape: Shape, named: Option<&Vec<u8>>) -> Segment {
     let format = random.pick(&["C", "X"]);
     let code = random.pick(&["Z15", "Z18", "Z25", "Z28", "Z32", "Z41"]);
     let mut segment = Segment::new("IMD", &[&[format.as_bytes()], &[code.as_bytes()]]);
-    if random.once_in(2) {
+    let has_code = random.once_in(2);
+    if has_code {
         *segment.at(3, 1) = random.pick(&["Z08", "Z09", "Z10", "Z11"]).as_bytes().to_vec();
     }
     if let Some(named) = named {
         *segment.at(3, 4) = named.clone();
-    } else if random.once_in(2) {
-        *segment.at(3, 4) = text(random, 256, is_rich);
+    } else if random.once_in(2) || (has_code && shape.edition == Edition::Of20c) {
+        *segment.at(3, 4) = text(random, 256, shape.is_rich);
     }
     segment
 }
@@ -304,7 +304,7 @@ fn price(random: &mut Random, shape: Shape, all: &mut Vec<Segment>) {
         *segment.at(1, 6) = b"ANN".to_vec();
     }
     all.push(segment);
-    if chance(random, shape.is_rich) && !shape.is_z04 {
+    if chance(random, shape.is_rich) && !shape.is_z04 && shape.edition == Edition::Of20d {
         let unit = random.pick(&["H87", "DAY"]);
         all.push(range(random, unit));
     }

@@ -109,9 +109,7 @@ fn agree(d: &[u8], one: &Position, other: &Position) -> bool {
 fn agree_in_full(d: &[u8], one: usize, other: usize) -> bool {
     let (one_pia, one_imd) = belonging(d, one);
     let (other_pia, other_imd) = belonging(d, other);
-    same_segment(d, Some(one), Some(other), 2)
-        && same_segment(d, one_pia, other_pia, 1)
-        && same_segment(d, one_imd, other_imd, 1)
+    same_segment(d, Some(one), Some(other), 2) && same_segment(d, one_pia, other_pia, 1) && same_segment(d, one_imd, other_imd, 1)
 }
 
 /// The places of PIA and IMD behind a LIN, where they stand.

@@ -1,4 +1,7 @@
-//! The nodes of PRICAT 2.0d (document 01, "Guide nodes"): order, limits, required nodes. Node 0 is the root.
+//! The nodes of PRICAT (document 01, "Guide nodes"): order and required nodes. Node 0 is the root.
+//!
+//! Nodes are numbered as in 2.0d. 2.0c has them too, but for two, in the same order and with the same parents, counters
+//! and required nodes (source 003), so what stands here holds for both; `edition` has what differs.
 //!
 //! The last node placed decides which instances are open and how far each has come, so "can come here" is a set of
 //! nodes for each last node, and "is required before" a set for each pair; both are computed from the three columns.
@@ -9,17 +12,11 @@ use crate::text::key;
 pub const NODES: usize = 27;
 pub type Set = u32;
 
-const PARENT: [usize; NODES] =
-    [0, 0, 0, 0, 0, 0, 0, 0, 0, 0, 0, 10, 10, 12, 0, 0, 15, 16, 16, 16, 19, 19, 0, 22, 23, 24, 0];
+const PARENT: [usize; NODES] = [0, 0, 0, 0, 0, 0, 0, 0, 0, 0, 0, 10, 10, 12, 0, 0, 15, 16, 16, 16, 19, 19, 0, 22, 23, 24, 0];
 
 /// The standard's counter; for a group's first node that of the group.
-const COUNTER: [u32; NODES] = [
-    0, 10, 20, 30, 30, 30, 60, 60, 60, 90, 90, 110, 150, 170, 220, 590, 1310, 1330, 1340, 1560, 1600, 1610, 590, 1310,
-    1560, 1600, 2400,
-];
-
-pub const LIMIT: [u32; NODES] =
-    [1, 1, 1, 1, 1, 1, 1, 1, 1, 1, 1, 1, 1, 5, 1, 1, 999_999, 1, 1, 100, 1, 2, 1, 999_999, 1, 1, 1];
+const COUNTER: [u32; NODES] =
+    [0, 10, 20, 30, 30, 30, 60, 60, 60, 90, 90, 110, 150, 170, 220, 590, 1310, 1330, 1340, 1560, 1600, 1610, 590, 1310, 1560, 1600, 2400];
 
 const REQUIRED: Set = set(&[1, 2, 4, 8, 9, 10, 13, 16, 23, 24, 26]);
 

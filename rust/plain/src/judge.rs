@@ -4,57 +4,12 @@
 //! looked at for 12 and 10, which come first, and the rest of the message only for its end.
 
 use crate::agree::{with_component, Position, Positions, FIRST_HASH};
+use crate::answers::{Judged, Price, Prices, Verdict};
 use crate::cut::{self, Class, Part, Scanner, UNH, UNT, UNZ};
-use crate::guide::{self, bit, AFTER, BELOW, LIMIT, NEEDED, NODES};
-use crate::pages::{Rule, PAGES};
+use crate::edition::{Edition, OF_20D};
+use crate::guide::{self, bit, AFTER, BELOW, NEEDED, NODES};
+use crate::pages::Rule;
 use crate::text::{self, key, Number, Room};
-
-/// Accepted with its count of segments and the place behind it, or refused.
-#[derive(Clone, Copy, PartialEq, Eq, Debug)]
-pub enum Verdict {
-    Accepted { segments: usize, end: usize },
-    Refused { number: u32, segment: usize, place: usize, node: usize },
-}
-
-impl Verdict {
-    /// A refusal that names no segment: 1, 2 and 30 to 32.
-    pub fn without_place(number: u32) -> Verdict {
-        Verdict::Refused { number, segment: 0, place: 0, node: 0 }
-    }
-}
-
-/// A verdict and the place where its message ends.
-pub struct Judged {
-    pub verdict: Verdict,
-    pub end: usize,
-}
-
-/// A price as it stands in the delivery; places count from the delivery's start.
-#[derive(Clone, Copy)]
-pub struct Price {
-    pub position: usize,
-    pub article: usize,
-    pub article_length: usize,
-    pub amount: i64,
-    pub decimals: usize,
-    pub unit: usize,
-    pub place: usize,
-}
-
-/// Who wants the prices of a message while it is judged. They mean nothing if it is refused in the end.
-pub trait Prices {
-    fn price(&mut self, price: &Price);
-    /// The RNG of the last price.
-    fn range(&mut self, place: usize);
-}
-
-/// For calls that hand out no price.
-pub struct NoPrices;
-
-impl Prices for NoPrices {
-    fn price(&mut self, _: &Price) {}
-    fn range(&mut self, _: usize) {}
-}
 
 /// A fault with the node it names, and the place from which its segment was not looked at yet.
 struct Fault {
@@ -70,6 +25,8 @@ struct Sheet<'a, P> {
     d: &'a [u8],
     prices: &'a mut P,
     positions: &'a mut Positions,
+    /// Known once DE0057 is read; what UNH holds before it is judged alike in both.
+    edition: &'static Edition,
     /// The last node placed, and all that occurred in instances still open.
     last: usize,
     seen: guide::Set,
@@ -120,6 +77,7 @@ impl<'a, P: Prices> Sheet<'a, P> {
             d,
             prices,
             positions,
+            edition: &OF_20D,
             last: 0,
             seen: 0,
             counts: [0; NODES],
@@ -144,7 +102,7 @@ impl<'a, P: Prices> Sheet<'a, P> {
         let (number, node) = match (tail.is_piece, tail.has_byte_not_allowed) {
             (true, _) => (12, 0),
             (_, true) => (10, 0),
-            _ => (fault.number, fault.node),
+            _ => (fault.number, self.edition.number(fault.node)),
         };
         let end = if tag == UNT { tail.next } else { cut::rest_of_message(self.d, tail.next) };
         Judged { verdict: refused(number, self.segment, at, node), end }
@@ -153,7 +111,7 @@ impl<'a, P: Prices> Sheet<'a, P> {
     /// All else holds: 23 or accepted.
     fn verdict(&mut self, end: usize) -> Verdict {
         match self.positions.first_agreeing(self.d) {
-            Some(position) => refused(23, position.segment(), position.lin as usize, position.node()),
+            Some(position) => refused(23, position.segment(), position.lin as usize, self.edition.number(position.node())),
             None => Verdict::Accepted { segments: self.segment, end },
         }
     }
@@ -179,7 +137,7 @@ impl<'a, P: Prices> Sheet<'a, P> {
     /// The node for a tag and code, or 13.
     #[inline(always)]
     fn choose(&self, tag: u32, first: &Part) -> Result<usize, Fault> {
-        let nodes = guide::nodes_of(tag, || text::key_of(self.d, first)) & AFTER[self.last];
+        let nodes = guide::nodes_of(tag, || text::key_of(self.d, first)) & AFTER[self.last] & self.edition.nodes;
         if nodes == 0 {
             return Err(Fault { number: 13, node: 0, from: first.to });
         }
@@ -190,7 +148,7 @@ impl<'a, P: Prices> Sheet<'a, P> {
     #[inline(always)]
     fn put(&mut self, node: usize, from: usize) -> Result<(), Fault> {
         let count = if self.seen & bit(node) != 0 { self.counts[node] + 1 } else { 1 };
-        if count > LIMIT[node] {
+        if count > self.edition.limit[node] {
             let number = if node == 16 || node == 23 { 16 } else { 15 };
             return Err(Fault { number, node, from });
         }
@@ -216,14 +174,20 @@ impl<'a, P: Prices> Sheet<'a, P> {
     /// Judges the components from left to right and gives the place of the terminator.
     #[inline(always)]
     fn components(&mut self, scanner: &mut Scanner, node: usize, first: Part) -> Result<usize, Fault> {
-        let rows = PAGES[node];
+        let rows = self.edition.pages[node];
         let mut part = first;
         let mut at = 0;
         loop {
-            let row = &rows[at];
+            let mut row = &rows[at];
             let number = match part.is_empty() {
                 true => 17 * row.must as u32,
-                false => self.component(&row.rule, &part),
+                false => {
+                    let number = self.component(&row.rule, &part);
+                    if row.twin != 0 {
+                        row = &rows[at + row.twin as usize];
+                    }
+                    number
+                }
             };
             if number != 0 {
                 return Err(Fault { number, node, from: part.to });
@@ -255,6 +219,7 @@ impl<'a, P: Prices> Sheet<'a, P> {
     fn component(&mut self, rule: &Rule, part: &Part) -> u32 {
         match *rule {
             Rule::NotUsed => 18,
+            Rule::Overdue => 17,
             Rule::Text(most) => self.text(most, part),
             Rule::Code(most, codes) => self.code(most, codes, part),
             Rule::Number(most) => self.number(part, |digits| digits <= most).0,
@@ -262,6 +227,7 @@ impl<'a, P: Prices> Sheet<'a, P> {
                 0 => self.code(usize::MAX, codes, part),
                 number => number,
             },
+            Rule::Edition => self.edition(part),
             Rule::Reference => {
                 self.reference = *part;
                 self.text(14, part)
@@ -302,6 +268,20 @@ impl<'a, P: Prices> Sheet<'a, P> {
                 self.unit = 1;
                 self.code(8, codes, part)
             }
+        }
+    }
+
+    /// A message that names neither edition is left to 2.0d, which has no such code.
+    fn edition(&mut self, part: &Part) -> u32 {
+        if part.length() > 6 {
+            return 19;
+        }
+        match Edition::named(text::key_of(self.d, part)) {
+            Some(edition) => {
+                self.edition = edition;
+                0
+            }
+            None => 20,
         }
     }
 
@@ -384,9 +364,7 @@ impl<'a, P: Prices> Sheet<'a, P> {
 
     /// UNT's count is the count of segments, and its reference UNH's.
     fn is_counted_right(&self) -> bool {
-        self.count.is_plain
-            && self.count.amount == self.segment as i64
-            && text::same(self.d, &self.reference, &self.last_reference)
+        self.count.is_plain && self.count.amount == self.segment as i64 && text::same(self.d, &self.reference, &self.last_reference)
     }
 }
 

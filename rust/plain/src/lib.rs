@@ -1,11 +1,15 @@
-//! A plain reader of PRICAT 2.0d price sheets, written from document 01, the settled readings and the guide's pages.
+//! A plain reader of PRICAT 2.0d and 2.0c price sheets, written from document 01, item 1, the settled readings and the
+//! guides' pages.
 //!
 //! It is the other side of the comparison: nothing here is taken from the proved library. The layers stand as the
-//! paper has them: `cut` knows separators and messages, `text` reads decoded components, `guide` and `pages` are the
-//! tables, `judge` puts a verdict on one message, `agree` is rule 23, `reader` has the calls, `report` the lines.
+//! paper has them: `cut` knows separators and messages, `text` reads decoded components, `guide`, `pages` and `edition`
+//! are the tables, `judge` puts a verdict on one message (`answers`), `agree` is rule 23, `reader` has the calls,
+//! `report` the lines.
 
 mod agree;
+mod answers;
 mod cut;
+mod edition;
 mod guide;
 mod judge;
 mod library;
@@ -14,7 +18,7 @@ mod reader;
 mod report;
 mod text;
 
-pub use judge::Verdict;
+pub use answers::Verdict;
 pub use library::{Library, Plain};
 pub use reader::{article, judge_at, next_message, prices, segments, survey, Article, Survey};
 pub use report::report;

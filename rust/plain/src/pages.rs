@@ -1,7 +1,8 @@
-//! The pages of the guide: the components of each element, in the order of the page (docs/PAGES.md, source 001).
+//! The pages of the guide: the components of each element, in the order of the page (docs/PAGES.md, source 001; where
+//! 2.0c differs, source 003).
 //!
-//! Every composite with a required component is itself required, so "must be non-empty" needs no look at the rest of
-//! its composite: the one optional composite, IMD's C273, has no required component.
+//! A composite with a required component is itself required, so "must be non-empty" needs no look at the rest of its
+//! composite. The one exception is IMD's C273 in 2.0c: its rows come twice, see `unless_filled`.
 
 use crate::guide::NODES;
 use crate::text::key;
@@ -13,6 +14,8 @@ type Codes = &'static [u64];
 pub enum Rule {
     /// Status N, and all beyond the last row.
     NotUsed,
+    /// As `NotUsed`, but a required component of the composite is empty and comes first.
+    Overdue,
     /// `an..k`
     Text(usize),
     /// `an..k` with codes.
@@ -21,6 +24,8 @@ pub enum Rule {
     Number(usize),
     /// `n5` with codes.
     Exactly(usize, Codes),
+    /// DE0057.
+    Edition,
     /// UNH's reference and UNT's.
     Reference,
     LastReference,
@@ -48,6 +53,8 @@ pub struct Row {
     /// The row behind `:` and the row behind `+`.
     pub next_component: u8,
     pub next_element: u8,
+    /// How far behind stands the row that is taken in place of this one if the component is not empty.
+    pub twin: u8,
     /// Not a row of the page, but all that stands beyond the last component of an element.
     is_beyond: bool,
 }
@@ -61,6 +68,7 @@ const fn may(rule: Rule) -> Row {
         must_follow: false,
         next_component: 0,
         next_element: 0,
+        twin: 0,
         is_beyond: false,
     }
 }
@@ -68,6 +76,12 @@ const fn may(rule: Rule) -> Row {
 /// Status M and R.
 const fn must(rule: Rule) -> Row {
     Row { must: true, ..may(rule) }
+}
+
+/// A row of an optional composite with `rows` rows, one of them required. They stand twice: first as they are while all of
+/// the composite is empty, with nothing required, then as they are once something stands.
+const fn unless_filled(rows: u8, row: Row) -> Row {
+    Row { twin: rows + 1, ..row }
 }
 
 const NOT_USED: Row = may(NotUsed);
@@ -81,12 +95,19 @@ const fn page<const ROWS: usize>(rows: [Row; ROWS]) -> [Row; ROWS] {
     page[at].next_element = at as u8;
     while at > 0 {
         at -= 1;
-        let next = page[at + 1];
-        page[at].must_follow = next.must || next.must_follow;
         if page[at].is_beyond {
+            // Behind a composite that stands twice the element's other rows are passed over.
+            let twin = page[at - 1].twin;
+            let next = page[at + 1 + twin as usize];
+            page[at].must_follow = next.must || next.must_follow;
             page[at].next_component = at as u8;
-            page[at].next_element = at as u8 + 1;
+            page[at].next_element = at as u8 + 1 + twin;
+            if twin != 0 {
+                page[at].rule = Overdue;
+            }
         } else {
+            let next = page[at + 1];
+            page[at].must_follow = next.must || next.must_follow;
             page[at].must_follow_in_element = next.must || next.must_follow_in_element;
             page[at].next_component = at as u8 + 1;
             page[at].next_element = next.next_element;
@@ -102,7 +123,7 @@ macro_rules! codes {
 /// `NAME: [rows of element 1] [rows of element 2] ..;`
 macro_rules! pages {
     ($($name:ident: $([$($row:expr),*])*;)*) => {
-        $(static $name: &[Row] = &page([$($($row,)* BEYOND,)* BEYOND]);)*
+        $(pub const $name: &[Row] = &page([$($($row,)* BEYOND,)* BEYOND]);)*
     };
 }
 
@@ -118,14 +139,23 @@ const fn code(most: usize, codes: Codes) -> Row {
 
 const TO_THE_MINUTE: &[u64] = codes!(b"303");
 const AGENCIES: &[u64] = codes!(b"9" b"293" b"332");
-const DESCRIPTIONS: &[u64] = codes!(b"Z15" b"Z16" b"Z17" b"Z18" b"Z19" b"Z20" b"Z21" b"Z22" b"Z23" b"Z24" b"Z25"
-    b"Z28" b"Z29" b"Z30" b"Z31" b"Z32" b"Z41");
+
+/// IMD's 7077, 7081, 7009 and 7008.
+const DESCRIPTION_FORM: Rule = ComparedCode(3, codes!(b"C" b"X"), 6);
+const DESCRIPTION: Rule = ComparedCode(
+    3,
+    codes!(b"Z15" b"Z16" b"Z17" b"Z18" b"Z19" b"Z20" b"Z21" b"Z22" b"Z23" b"Z24" b"Z25" b"Z28" b"Z29" b"Z30" b"Z31"
+        b"Z32" b"Z41"),
+    7,
+);
+const VOLTAGE: Rule = ComparedCode(17, codes!(b"Z08" b"Z09" b"Z10" b"Z11"), 8);
+const DESCRIPTION_TEXT: Rule = ComparedText(256, 9);
 
 pages! {
     UNH:
         [must(Reference)]
         [code(6, codes!(b"PRICAT")), code(3, codes!(b"D")), code(3, codes!(b"20B")), code(2, codes!(b"UN")),
-         code(6, codes!(b"2.0d"))];
+         must(Edition)];
     BGM:
         [must(Document(codes!(b"Z04" b"Z32" b"Z54" b"Z64" b"Z67" b"Z70" b"Z77")))]
         [text(70)] [NOT_USED] [NOT_USED] [may(Code(3, codes!(b"11")))];
@@ -147,9 +177,12 @@ pages! {
         [must(ComparedCode(3, codes!(b"1"), 3))]
         [must(ComparedText(35, 4)), must(ComparedCode(3, codes!(b"Z06"), 5))];
     IMD:
-        [must(ComparedCode(3, codes!(b"C" b"X"), 6))]
-        [must(ComparedCode(3, DESCRIPTIONS, 7))]
-        [may(ComparedCode(17, codes!(b"Z08" b"Z09" b"Z10" b"Z11"), 8)), NOT_USED, NOT_USED, may(ComparedText(256, 9))];
+        [must(DESCRIPTION_FORM)] [must(DESCRIPTION)]
+        [may(VOLTAGE), NOT_USED, NOT_USED, may(DESCRIPTION_TEXT)];
+    IMD_20C:
+        [must(DESCRIPTION_FORM)] [must(DESCRIPTION)]
+        [unless_filled(4, may(VOLTAGE)), NOT_USED, NOT_USED, unless_filled(4, may(DESCRIPTION_TEXT))]
+        [may(VOLTAGE), NOT_USED, NOT_USED, must(DESCRIPTION_TEXT)];
     PRI_9:
         [code(3, codes!(b"CAL")), must(Amount), NOT_USED, NOT_USED, may(Number(9)), may(Unit(codes!(b"ANN")))];
     RNG_9: [code(3, codes!(b"10"))] [code(8, codes!(b"H87" b"DAY")), must(Number(18)), may(Number(18))];
@@ -161,8 +194,8 @@ pages! {
     UNT: [must(Count)] [must(LastReference)];
 }
 
-/// The page of each node; the root has none.
-pub static PAGES: [&[Row]; NODES] = [
+/// The page of each node of 2.0d; the root has none.
+pub const PAGES: [&[Row]; NODES] = [
     &[],
     UNH,
     BGM,

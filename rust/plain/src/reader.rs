@@ -1,8 +1,9 @@
 //! Document 01's calls over a lent delivery.
 
 use crate::agree::Positions;
+use crate::answers::{Judged, NoPrices, Price, Prices, Verdict};
 use crate::cut;
-use crate::judge::{judge, Judged, NoPrices, Price, Prices, Verdict};
+use crate::judge::judge;
 
 #[derive(Clone, Copy, PartialEq, Eq, Debug)]
 pub struct Survey {

@@ -3,8 +3,9 @@
 use std::io::Write;
 
 use crate::agree::Positions;
+use crate::answers::{Price, Prices, Verdict};
 use crate::cut;
-use crate::judge::{judge, Price, Prices, Verdict};
+use crate::judge::judge;
 use crate::text::decoded;
 
 /// All prices of a message, in order.

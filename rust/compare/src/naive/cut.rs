@@ -1,0 +1,106 @@
+//! Every segment cut, decoded and copied, and the messages they make up.
+
+/// Place, raw bytes and decoded bytes.
+pub type Part = (usize, Vec<u8>, Vec<u8>);
+
+/// A segment or piece with its decoded components by element.
+pub struct Segment {
+    pub start: usize,
+    pub end: usize,
+    pub is_piece: bool,
+    /// By element and component.
+    pub parts: Vec<Vec<Part>>,
+}
+
+pub fn cut(d: &[u8], front: usize) -> Vec<Segment> {
+    let mut all = Vec::new();
+    let mut start = front;
+    let mut is_released = false;
+    for at in front..d.len() {
+        if is_released {
+            is_released = false;
+        } else if d[at] == b'?' {
+            is_released = true;
+        } else if d[at] == b'\'' {
+            all.push(segment(d, start, at + 1, false));
+            start = at + 1;
+        }
+    }
+    if start < d.len() {
+        all.push(segment(d, start, d.len(), true));
+    }
+    all
+}
+
+fn segment(d: &[u8], start: usize, end: usize, is_piece: bool) -> Segment {
+    let mut parts = vec![vec![(start, Vec::new(), Vec::new())]];
+    let last = if is_piece { end } else { end - 1 };
+    let mut at = start;
+    while at < last {
+        match d[at] {
+            b'+' => parts.push(vec![(at + 1, Vec::new(), Vec::new())]),
+            b':' => parts.last_mut().unwrap().push((at + 1, Vec::new(), Vec::new())),
+            byte => {
+                let part = parts.last_mut().unwrap().last_mut().unwrap();
+                part.1.push(byte);
+                if byte != b'?' {
+                    part.2.push(byte);
+                } else if at + 1 < last {
+                    at += 1;
+                    part.1.push(d[at]);
+                    part.2.push(d[at]);
+                }
+            }
+        }
+        at += 1;
+    }
+    Segment { start, end, is_piece, parts }
+}
+
+impl Segment {
+    /// The decoded component; element 0 is the tag, components from 1.
+    pub fn part(&self, element: usize, component: usize) -> &[u8] {
+        self.parts.get(element).and_then(|parts| parts.get(component - 1)).map_or(&[], |part| &part.2)
+    }
+}
+
+/// A message: its segments, and the byte behind it.
+pub struct Message {
+    pub segments: Vec<Segment>,
+    pub start: usize,
+    pub end: usize,
+    pub has_unt: bool,
+}
+
+pub fn front(d: &[u8]) -> Result<usize, u32> {
+    match (d.len() > 1_048_576, d.starts_with(b"UNA"), d.starts_with(b"UNA:+.? '")) {
+        (true, _, _) => Err(1),
+        (_, true, false) => Err(2),
+        (_, true, true) => Ok(9),
+        _ => Ok(0),
+    }
+}
+
+/// All messages and the count of segments outside.
+pub fn messages(d: &[u8]) -> Result<(Vec<Message>, usize), u32> {
+    let mut all: Vec<Message> = Vec::new();
+    let mut outside = 0;
+    let mut is_open = false;
+    for segment in cut(d, front(d)?) {
+        let begins = |tag: &[u8]| d[segment.start..segment.end].starts_with(tag);
+        if begins(b"UNH") {
+            all.push(Message { start: segment.start, end: segment.end, segments: vec![segment], has_unt: false });
+            is_open = true;
+        } else if begins(b"UNZ") || !is_open {
+            is_open = false;
+            outside += 1;
+        } else {
+            is_open = !begins(b"UNT");
+            let message = all.last_mut().unwrap();
+            message.has_unt = !is_open;
+            message.end = segment.end;
+            message.segments.push(segment);
+        }
+    }
+    Ok((all, outside))
+}
