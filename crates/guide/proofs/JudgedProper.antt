@@ -9,17 +9,18 @@ use Rattle.cut.specs.declared.service.Syntax.{Syntax}
 use Rattle.cut.specs.Bytes.{bytesOf}
 use Rattle.cut.specs.Messages.{Message, closeOf}
 use Rattle.guide.specs.Nodes.{Guide}
-use Rattle.guide.specs.Pricat.{pricat20d}
+use Rattle.guide.specs.Pricat.{pricat20d, pricat20c}
 use Rattle.guide.specs.Page.{Page}
 use Rattle.guide.specs.Pages20d.{pageOf}
+use Rattle.guide.specs.Pages20c.{pageOf20c}
 use Rattle.guide.specs.Checks.{Passes}
 use Rattle.guide.specs.Sheet.{isTag}
 use Rattle.guide.specs.Frames.{Framed}
 use Rattle.guide.specs.Accepted.{segmentsOf, Proper}
 use Rattle.guide.specs.Judging.{accepts, refuses, pickVerdict, fresh, judged}
 use Rattle.guide.proofs.Basics.{T-true, true-T}
-use Rattle.guide.proofs.Editions.{pricat20d-passes}
-use Rattle.guide.proofs.Framing.{pricat20d-framed}
+use Rattle.guide.proofs.Editions.{pricat20d-passes, pricat20c-passes}
+use Rattle.guide.proofs.Framing.{pricat20d-framed, pricat20c-framed}
 use Rattle.guide.proofs.Faultless.{kept, Through, Stopped, through-or-stopped}
 use Rattle.guide.proofs.Verdicts.{through-judged, stopped-judged, accepts-refuses}
 use Rattle.guide.proofs.ProperThrough.{proper-through, through-proper}
@@ -57,3 +58,9 @@ pub accepts-20d
     : (y : Syntax) (m : Message) (n e : ℕ)
     → (judged y pricat20d pageOf m ≡ accepts n e) ↔ (Proper y pricat20d pageOf m × (n ≡ length (segmentsOf m)) × (e ≡ closeOf m))
 accepts-20d y m n e = accepts-iff y pricat20d pageOf 26 pricat20d-passes 1 pricat20d-framed m n e
+
+-- ... and for 2.0c
+pub accepts-20c
+    : (y : Syntax) (m : Message) (n e : ℕ)
+    → (judged y pricat20c pageOf20c m ≡ accepts n e) ↔ (Proper y pricat20c pageOf20c m × (n ≡ length (segmentsOf m)) × (e ≡ closeOf m))
+accepts-20c y m n e = accepts-iff y pricat20c pageOf20c 24 pricat20c-passes 1 pricat20c-framed m n e

@@ -12,9 +12,10 @@ use Rattle.cut.specs.Bytes.{bytesOf}
 use Rattle.cut.specs.Segments.{Segment}
 use Rattle.cut.specs.Messages.{Message, closeOf}
 use Rattle.guide.specs.Nodes.{Guide}
-use Rattle.guide.specs.Pricat.{pricat20d}
+use Rattle.guide.specs.Pricat.{pricat20d, pricat20c}
 use Rattle.guide.specs.Page.{Page}
 use Rattle.guide.specs.Pages20d.{pageOf}
+use Rattle.guide.specs.Pages20c.{pageOf20c}
 use Rattle.guide.specs.Tree.{Given}
 use Rattle.guide.specs.Checks.{Passes}
 use Rattle.guide.specs.Sheet.{isTag}
@@ -23,8 +24,8 @@ use Rattle.guide.specs.Accepted.{segmentsOf}
 use Rattle.guide.specs.Judging.{accepts, refuses, pickVerdict, fresh, judged}
 use Rattle.guide.specs.Refusal.{FaultAfter, Refused, at-segment, at-end}
 use Rattle.guide.proofs.Basics.{false-T}
-use Rattle.guide.proofs.Editions.{pricat20d-passes}
-use Rattle.guide.proofs.Framing.{pricat20d-framed}
+use Rattle.guide.proofs.Editions.{pricat20d-passes, pricat20c-passes}
+use Rattle.guide.proofs.Framing.{pricat20d-framed, pricat20c-framed}
 use Rattle.guide.proofs.Faultless.{segmentsIn, kept, Through, Stopped, through-or-stopped}
 use Rattle.guide.proofs.Verdicts.{through-judged, stopped-judged, accepts-refuses}
 use Rattle.guide.proofs.FaultFound.{fault-found}
@@ -109,3 +110,9 @@ pub refuses-20d
     : (y : Syntax) (m : Message) (k i a n : ℕ)
     → (judged y pricat20d pageOf m ≡ refuses k i a n) ↔ Refused y pricat20d pageOf m k i a n
 refuses-20d y m k i a n = refuses-iff y pricat20d pageOf 26 pricat20d-passes 1 pricat20d-framed m k i a n
+
+-- ... and for 2.0c
+pub refuses-20c
+    : (y : Syntax) (m : Message) (k i a n : ℕ)
+    → (judged y pricat20c pageOf20c m ≡ refuses k i a n) ↔ Refused y pricat20c pageOf20c m k i a n
+refuses-20c y m k i a n = refuses-iff y pricat20c pageOf20c 24 pricat20c-passes 1 pricat20c-framed m k i a n
