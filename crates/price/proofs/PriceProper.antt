@@ -25,11 +25,9 @@ use Rattle.element.specs.Number.{signed}
 use Rattle.element.proofs.ComponentFace.{component-bytes}
 use Rattle.element.proofs.ValueFace.{n-up-to-fits, fits-amount}
 use Rattle.guide.specs.Nodes.{Guide}
-use Rattle.guide.specs.Pricat.{pricat20d}
 use Rattle.guide.specs.Page.{Page, Row, may, codes, elementOf, rowOf}
 use Rattle.guide.specs.Composites.{C509, basis}
 use Rattle.guide.specs.PageMakers.{PRI}
-use Rattle.guide.specs.Pages20d.{pageOf}
 use Rattle.guide.specs.Content.{text, Filled, Holds}
 use Rattle.guide.specs.Accepted.{Each, segmentsOf, Proper}
 use Rattle.guide.proofs.Contents.{holds-unused, holds-code, price-format, article-stands}
@@ -39,8 +37,7 @@ use Rattle.price.specs.PriceList.{pricesOf}
 use Rattle.price.specs.PriceCalls.{pricesIn}
 use Rattle.price.specs.PriceTable.{Priced}
 use Rattle.price.specs.PricePages.{PricePages}
-use Rattle.price.proofs.PriceTables.{pricat20d-priced}
-use Rattle.price.proofs.PricePaged.{lin-page, pri-page, pricat20d-pages}
+use Rattle.price.proofs.PricePaged.{lin-page, pri-page}
 use Rattle.price.proofs.PriceTree.{prices-tree}
 use Rattle.price.proofs.PriceComes.{Comes, tree-come}
 use Rattle.price.proofs.PriceLies.{Lies, PriceLies, prices-in-lie}
