@@ -1,4 +1,4 @@
-/* Schaumtruhe: reads deliveries of EDIFACT bytes that hold PRICAT 2.0d messages, judges each message and hands out its prices.
+/* Schaumtruhe: reads deliveries of EDIFACT bytes that hold PRICAT messages (2.0d and 2.0c), judges each message and hands out its prices.
  *
  * Link libschaumtruhe_c.a (`rt staticlib schaumtruhe_c` writes it), x86-64 Linux. The calls keep nothing between them and use no heap; any
  * number of threads may call at once.
