@@ -65,36 +65,29 @@ module _ (e : Edition) (cs : List ℕ) (n : ℕ) where
   unfolding levels missing
   level-any k p c = refl
 
-  -- the search from p outward gives the answer of the search from `last`, and gap is the one at the level of p
-  module _
-      (last p gap : ℕ) (given : missingFrom p ≡ missingFrom last) (here : gap ≡ firstNode (guideOf e) (lacking (guideOf e) cs n p))
-    where
-      pub gap-found : (gap ≡ 0 → ⊥) → gap ≡ missingFrom last
-      unfolding levels missing
-      gap-found h =
-          let q : missingFrom p ≡ gap = rw (sym here) (orElse-some gap _ h) in
-          sym q ∙ given
+  -- the gap at the level of p
+  module _ (p gap : ℕ) (here : gap ≡ firstNode (guideOf e) (lacking (guideOf e) cs n p)) where
+    pub gap-found : (gap ≡ 0 → ⊥) → gap ≡ missingFrom p
+    unfolding levels missing
+    gap-found h = sym (rw (sym here) (orElse-some gap _ h))
 
-      module _ (none : gap ≡ 0) where
-        pub gap-root : p ≡ 0 → 0 ≡ missingFrom last
+    module _ (none : gap ≡ 0) where
+      pub gap-root : p ≡ 0 → 0 ≡ missingFrom p
+      unfolding missing
+      gap-root h = sym (rw (levels-root e p 0 h, sym here, none) (pick-none (eqb p (node (guideOf e) n .parent))))
+
+      module _ (q : ℕ) (parent : q ≡ node (guideOf e) n .parent) where
+        -- the level that takes n is the last
+        pub gap-taking : p ≡ q → 0 ≡ missingFrom p
+        unfolding levels missing
+        gap-taking h = sym (rw (eq-eqb p (node (guideOf e) n .parent) (h ∙ parent), sym here, none))
+
+        pub gap-up
+            : (p ≡ q → ⊥) → (p ≡ 0 → ⊥) → p < length (guideOf e) → (r outer : ℕ) → r ≡ node (guideOf e) p .parent → outer ≡ missingFrom r
+            → outer ≡ missingFrom p
         unfolding missing
-        gap-root h =
-            let q : missingFrom p ≡ 0 = rw (levels-root e p 0 h, sym here, none) (pick-none (eqb p (node (guideOf e) n .parent))) in
-            sym q ∙ given
-
-        module _ (q : ℕ) (parent : q ≡ node (guideOf e) n .parent) where
-          -- the level that takes n is the last
-          pub gap-taking : p ≡ q → 0 ≡ missingFrom last
-          unfolding levels missing
-          gap-taking h =
-              let s : missingFrom p ≡ 0 = rw (eq-eqb p (node (guideOf e) n .parent) (h ∙ parent), sym here, none) in
-              sym s ∙ given
-
-          pub gap-up
-              : (p ≡ q → ⊥) → (p ≡ 0 → ⊥) → p < length (guideOf e) → (r : ℕ) → r ≡ node (guideOf e) p .parent → missingFrom r ≡ missingFrom last
-          unfolding missing
-          gap-up h k l r up =
-              let other : eqb p (node (guideOf e) n .parent) ≡ false = ne-eqb p _ (λ (z : p ≡ node (guideOf e) n .parent). h (z ∙ sym parent)) in
-              let s : missingFrom p ≡ missingFrom r =
-              rw (levels-up e p 0 k l, sym here, none, other, up) (level-any (node (guideOf e) p .parent) (node (guideOf e) p .parent) (node (guideOf e) p .counter)) in
-              sym s ∙ given
+        gap-up h k l r outer up found =
+            let other : eqb p (node (guideOf e) n .parent) ≡ false = ne-eqb p _ (λ (z : p ≡ node (guideOf e) n .parent). h (z ∙ sym parent)) in
+            let s : missingFrom p ≡ missingFrom r =
+            rw (levels-up e p 0 k l, sym here, none, other, up) (level-any (node (guideOf e) p .parent) (node (guideOf e) p .parent) (node (guideOf e) p .counter)) in
+            found ∙ sym s
