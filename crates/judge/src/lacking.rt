@@ -42,7 +42,7 @@ fn lacking_in(edition: Edition, counts: &[u32; 96], n: usize, p: usize) -> usize
 
 // The lowest missing node, looked for from the innermost open instance outward level by level, up to the one that takes n; 0 if none is
 // missing. The level is the open instance's node: a parent has a lower number, so it falls. The first gap ends the search, so the call
-// for the parent stands last and needs no room of its own.
+// for the parent stands last, which the compiler can turn into a jump.
 pub(crate) fn missing_for(edition: Edition, counts: &[u32; 96], n: usize, level: usize) -> usize
     requires { ⌜ (n < length (guideOf edition)) × (level < length (guideOf edition)) ⌝ }
     ensures { λ r. ⌜ r ≡ missing (guideOf edition) (now (counts .entry)) n (levels (guideOf edition) (suc level) level 0) ⌝ }
