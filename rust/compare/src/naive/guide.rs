@@ -135,11 +135,11 @@ impl Guide {
     }
 }
 
-/// The tables of 2.0d: those under the headings `### node tag, name` of the section `## Tables`.
+/// The tables of 2.0d: those under the headings `### node tag, name` of the section `## Tables of PRICAT 2.0d`.
 fn read_pages() -> HashMap<usize, Page> {
     let mut pages = HashMap::new();
     let mut node = 0;
-    let section = PAGES.split("\n## ").find(|section| section.starts_with("Tables\n")).expect("the tables");
+    let section = PAGES.split("\n## ").find(|section| section.starts_with("Tables of PRICAT 2.0d\n")).expect("the tables");
     for line in section.lines() {
         if let Some(heading) = line.strip_prefix("### ") {
             let mut words = heading.split([' ', ',']);
