@@ -23,7 +23,7 @@ pub use Rattle.price.proofs.PricePlaces.{ArticleIn, absent, stands, InM
 pub use Rattle.price.proofs.PriceMoved.{laterPrice, numbers-moved, prices-moved, prices-later, row-later, filled-later}
 -- the tables with the pages of prices; both editions have them
 pub use Rattle.price.proofs.PricePaged.{pricat20d-pages, pricat20c-pages}
--- in a proper message of any such table no article is absent, each amount is exact, and the unit is the page's or none; and once for 2.0d
+-- in a proper message of any such table no article is absent, each amount is exact, and the unit is the page's or none
 pub use Rattle.price.proofs.PriceProper.{Rank, no-unit, per-year, Exact, prices-exact}
 -- in a proper message of any table that has prices where the walk looks for them the position is the number that the LIN itself gives
 pub use Rattle.price.proofs.PriceNumbered.{Placed, proper-placed}

@@ -13,9 +13,12 @@ use cut::message_end;
 use element::Span;
 use guide::Edition;
 use judge::Placed;
+ghost use mathlib.Core.Bool.{false};
 ghost use mathlib.Core.Path.{_≡_};
+ghost use lib.ListN.{drop};
 ghost use Rattle.cut.specs.Held.{unless, held};
 ghost use Rattle.cut.specs.Messages.{lastEnd, body};
+ghost use Rattle.cut.specs.Segments.{segmentsFrom};
 ghost use Rattle.guide.specs.Editions.{guideOf, pagesOf};
 ghost use Rattle.verdict.specs.Answers.{declared, judgedAs};
 ghost use Rattle.verdict.specs.Named.{verdictNamed};
@@ -88,7 +91,7 @@ fn judged_by(y: Syntax, edition: Edition, d: &[u8], start: usize) -> Judged
 
 // The verdict and the end of the message that the segment at `start` begins, by the guide named in UNH.
 pub fn judged(y: Syntax, d: &[u8], start: usize) -> Judged
-    ensures { λ r. ⌜ r ≡ judgedAs (declared (verdictNamed y start (held (segmentsAt y (now (d .entry)) start)))) (lastEnd start (held (segmentsAt y (now (d .entry)) start))) ⌝ }
+    ensures { λ r. ⌜ r ≡ judgedAs (declared (verdictNamed y start (held (segmentsFrom y start false (drop start (now (d .entry))))))) (lastEnd start (held (segmentsFrom y start false (drop start (now (d .entry)))))) ⌝ }
 {
     judged_by(y, edition_at(y, d, start), d, start)
 }
