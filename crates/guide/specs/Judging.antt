@@ -1,5 +1,5 @@
 -- The verdict of a message, agreeing positions aside. Document 01, 'Refusal numbers': "In a message the first segment with a fault decides;
--- within it 12, 10, 11, 13, 15 or 16, 14, then components left to right (18, 17, 19, 20 at each), then 21 or 22."
+-- within it 12, 10, 11, 13, 15 or 16, 25 (request 2), 14, then components left to right (18, 17, 19, 20 at each), then 21 or 22."
 use Prim.Native.Nat.{ℕ, zero, suc, _+_}
 use mathlib.Core.Bool.{Bool, true, false, not, _&&_}
 use mathlib.Core.List.{List, [], _∷_}
@@ -14,7 +14,7 @@ use Rattle.element.specs.Digits.{countOf}
 use Rattle.element.specs.declared.counts.Count.{Count}
 use Rattle.element.specs.declared.counts.Count.the-variants.{Is, Nothing}
 use Rattle.guide.specs.Choices.{pickℕ, orElse}
-use Rattle.guide.specs.Nodes.{Guide, capacity}
+use Rattle.guide.specs.Nodes.{Guide, capacity, numberOf}
 use Rattle.guide.specs.Views.{viewOf}
 use Rattle.guide.specs.Page.{Page}
 use Rattle.guide.specs.Content.{text}
@@ -107,7 +107,7 @@ module _ (y : Syntax) (g : Guide) (pages : ℕ → Page) where
   -- segment i at a place got the answer; the rest is what comes of those after it
   abbrev pub decide : ℕ → ℕ → Answer → Verdict → Verdict
   decide i p (placed n) rest = rest
-  decide i p (refused k n) rest = refuses k i p n
+  decide i p (refused k n) rest = refuses k i p (numberOf g n)
 
   -- the segments after the first i, which end at e; "24 names the segment number after the last and the byte after it"
   unfoldable pub judgeFrom : ℕ → ℕ → Memory → List Segment → Verdict

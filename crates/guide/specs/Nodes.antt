@@ -7,6 +7,7 @@ use lib.ListN.{getD}
 use lib.Dec.{eqb, ltb}
 use Rattle.cut.specs.Bytes.{bytesOf}
 use Rattle.element.specs.Plain.{same}
+use Rattle.guide.specs.Choices.{pickℕ}
 
 -- a segment as a guide sees it: its tag, and the component at each element and component, releases removed; the tag is element 0,
 -- components count from 0, and one that does not stand there is empty
@@ -20,7 +21,8 @@ pub record Selector : Type 0 where
   pub component : ℕ
   pub codes : List (List ℕ)
 
--- "Node, tag, required (!) or optional, limit in its parent", with the standard's counter and the number given when the limit is passed
+-- "Node, tag, required (!) or optional, limit in its parent", with the standard's counter and the number given when the limit is passed. A node whose two
+-- codes come once each has a row for each of them, and each is the other's partner; 0: it has none
 pub record Node : Type 0 where
   pub tag : List ℕ
   pub selector : Selector
@@ -29,6 +31,7 @@ pub record Node : Type 0 where
   pub must : Bool
   pub limit : ℕ
   pub refusal : ℕ
+  pub partner : ℕ
 
 -- row n is node n; row 0 is the message itself
 abbrev pub Guide : Type 0
@@ -53,6 +56,7 @@ message =
       must = false;
       limit = 0;
       refusal = 0;
+      partner = 0;
     }
 
 -- node n; past the table's end there is none: a row like the message's takes no segment and is nobody's child
@@ -87,13 +91,23 @@ rival g (suc k) x v = (samePlace (node g k) x && matches (node g k) v) || rival 
 unfoldable pub takes : Guide → ℕ → View → Bool
 takes g n v = matches (node g n) v && not (rival g n (node g n) v)
 
--- whether node m must occur in an instance of its parent, where `seen` says how often each node has come there
-unfoldable pub required : Guide → ℕ → (ℕ → ℕ) → Bool
-required g m seen = node g m .must
+-- whether node n is one of two rows that come in pairs
+unfoldable pub paired : Guide → ℕ → Bool
+paired g n = ltb 0 (node g n .partner)
 
--- the number given when node n comes once more than its limit
+-- the node's number in the guide: both rows of a pair have that of the lower
+unfoldable pub numberOf : Guide → ℕ → ℕ
+numberOf g n = pickℕ (paired g n && ltb (node g n .partner) n) (node g n .partner) n
+
+-- whether node m must occur in an instance of its parent, where `seen` says how often each node has come there; request 2: "Where either is
+-- given, both must be"
+unfoldable pub required : Guide → ℕ → (ℕ → ℕ) → Bool
+required g m seen = node g m .must || (paired g m && ltb 0 (seen (node g m .partner)))
+
+-- the number given when node n comes once more than its limit; request 2: "25 at the second DTM of one code", unless the other code stands too: "a
+-- third DTM is 15 first"
 unfoldable pub over : Guide → ℕ → (ℕ → ℕ) → ℕ
-over g n seen = node g n .refusal
+over g n seen = pickℕ (paired g n && eqb (seen (node g n .partner)) 0) 25 (node g n .refusal)
 
 -- a table's rows as they are written
 abbrev pub tagAlone : Selector
@@ -103,4 +117,8 @@ abbrev pub select : ℕ → ℕ → List String → Selector
 select e c ts = record { element = e; component = c; codes = map bytesOf ts }
 
 abbrev pub row : String → Selector → ℕ → ℕ → Bool → ℕ → ℕ → Node
-row t s p c m l r = record { tag = bytesOf t; selector = s; parent = p; counter = c; must = m; limit = l; refusal = r }
+row t s p c m l r = record { tag = bytesOf t; selector = s; parent = p; counter = c; must = m; limit = l; refusal = r; partner = 0 }
+
+-- one of two rows that come in pairs: tag, codes, parent, counter, number of a third, the other row
+abbrev pub pairRow : String → Selector → ℕ → ℕ → ℕ → ℕ → Node
+pairRow t s p c r q = record { tag = bytesOf t; selector = s; parent = p; counter = c; must = false; limit = 1; refusal = r; partner = q }

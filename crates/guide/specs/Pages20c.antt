@@ -38,6 +38,7 @@ pages20c =
     ∷ PRI []  -- 22
     ∷ RNG ("KWH" ∷ [])  -- 23
     ∷ UNT  -- 24
+    ∷ DTM ("163" ∷ "164" ∷ []) "303"  -- 25: the other row of node 19
     ∷ []
 
 -- the page of a node of 2.0c; what is no node has a page without rows

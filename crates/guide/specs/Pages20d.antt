@@ -41,6 +41,7 @@ pages20d =
     ∷ PRI []  -- 24
     ∷ RNG ("KWH" ∷ [])  -- 25
     ∷ UNT  -- 26
+    ∷ DTM ("163" ∷ "164" ∷ []) "303"  -- 27: the other row of node 21
     ∷ []
 
 -- the page of a node; what is no node has a page without rows

@@ -2,7 +2,7 @@
 use mathlib.Core.Bool.{Bool, true, false}
 use mathlib.Core.List.{List, [], _∷_}
 use Prim.Native.String.{String}
-use Rattle.guide.specs.Nodes.{Selector, Guide, message, tagAlone, select, row}
+use Rattle.guide.specs.Nodes.{Selector, Guide, message, tagAlone, select, row, pairRow}
 
 -- "DTM, RFF, NAD and PGI find their node by the code in the first component after the tag"
 abbrev pub by : List String → Selector
@@ -15,7 +15,8 @@ must = true
 abbrev pub may : Bool
 may = false
 
--- tag, codes, parent, counter (a group's first node has the group's), status, limit in its parent, number of a passed limit
+-- tag, codes, parent, counter (a group's first node has the group's), status, limit in its parent, number of a passed limit. Request 2 tells the codes of the
+-- interval's node apart: 164 has a row of its own behind all nodes, so that every node keeps its number
 unfoldable pub pricat20d : Guide
 pricat20d =
     message
@@ -39,12 +40,13 @@ pricat20d =
     ∷ row "IMD" tagAlone 16 1340 may 1 15
     ∷ row "PRI" tagAlone 16 1560 may 100 15
     ∷ row "RNG" tagAlone 19 1600 may 1 15
-    ∷ row "DTM" (by ("163" ∷ "164" ∷ [])) 19 1610 may 2 15
+    ∷ pairRow "DTM" (by ("163" ∷ [])) 19 1610 15 27
     ∷ row "PGI" (by ("Z01" ∷ [])) 0 590 may 1 15
     ∷ row "LIN" tagAlone 22 1310 must 999999 16
     ∷ row "PRI" tagAlone 23 1560 must 1 15
     ∷ row "RNG" tagAlone 24 1600 may 1 15
     ∷ row "UNT" tagAlone 0 2400 must 1 15
+    ∷ pairRow "DTM" (by ("164" ∷ [])) 19 1610 15 21
     ∷ []
 
 -- "no RFF/Z56, price group limit 1 in both kinds, RNG in the second kind only"
@@ -69,10 +71,11 @@ pricat20c =
     ∷ row "PIA" tagAlone 15 1330 may 1 15
     ∷ row "IMD" tagAlone 15 1340 may 1 15
     ∷ row "PRI" tagAlone 15 1560 may 1 15
-    ∷ row "DTM" (by ("163" ∷ "164" ∷ [])) 18 1610 may 2 15
+    ∷ pairRow "DTM" (by ("163" ∷ [])) 18 1610 15 25
     ∷ row "PGI" (by ("Z01" ∷ [])) 0 590 may 1 15
     ∷ row "LIN" tagAlone 20 1310 must 999999 16
     ∷ row "PRI" tagAlone 21 1560 must 1 15
     ∷ row "RNG" tagAlone 22 1600 may 1 15
     ∷ row "UNT" tagAlone 0 2400 must 1 15
+    ∷ pairRow "DTM" (by ("164" ∷ [])) 18 1610 15 19
     ∷ []
