@@ -1,17 +1,17 @@
 -- Laws of the search for a missing node: one level, and the levels outward.
 use Prim.Native.Nat.{ℕ, suc, _<_}
 use mathlib.Core.Path.{_≡_, refl, sym, _∙_}
-use mathlib.Core.Bool.{Bool, true, false, _&&_, true≢false}
+use mathlib.Core.Bool.{Bool, true, false, not, _&&_, _||_, true≢false}
 use mathlib.Core.List.{List}
 use lib.ListN.{length}
 use lib.Dec.{eqb, ltb}
 use borrow.Author.Tests.{eq-eqb, ne-eqb}
-use Rattle.guide.specs.Nodes.{Guide, node, required}
+use Rattle.guide.specs.Nodes.{Guide, node, paired, required}
 use Rattle.guide.specs.Placing.{firstNode, levels, tally, lacking, missing}
 use Rattle.guide.specs.declared.edition.Edition.{Edition}
 use Rattle.guide.specs.Editions.{guideOf}
 use Rattle.judge.specs.Rows.{childOf, dueOf}
-use Rattle.judge.specs.Workers.{lacksDue}
+use Rattle.judge.specs.Workers.{wanted, lacksDue}
 use Rattle.judge.proofs.Links.{Only, pick-none}
 use Rattle.judge.proofs.Levels.{orElse-some, levels-up, levels-root}
 
@@ -20,40 +20,59 @@ module _ (g : Guide) (cs : List ℕ) (n p m : ℕ) where
   unfolding lacksDue
   lacks-there h = rw (ne-eqb (tally cs m) 0 h)
 
-  module _ (none : tally cs m ≡ 0) (q : ℕ) (parent : q ≡ node g n .parent) where
-    pub lacks-closed : (p ≡ q → ⊥) → true ≡ lacksDue g cs n p m
+  module _ (none : tally cs m ≡ 0) (w : Bool) (want : w ≡ wanted g cs m) where
+    pub lacks-unwanted : w ≡ false → false ≡ lacksDue g cs n p m
     unfolding lacksDue
-    lacks-closed h = rw (eq-eqb (tally cs m) 0 none, sym parent, ne-eqb p q h)
+    lacks-unwanted h = rw (eq-eqb (tally cs m) 0 none, sym want, h)
 
-    pub lacks-earlier
-        : (a b : ℕ) → p ≡ q → a ≡ node g m .counter → b ≡ node g n .counter → ltb a b ≡ lacksDue g cs n p m
-    unfolding lacksDue
-    lacks-earlier a b h i j = rw (eq-eqb (tally cs m) 0 none, sym parent, eq-eqb p q h, sym i, sym j)
+    module _ (so : w ≡ true) (q : ℕ) (parent : q ≡ node g n .parent) where
+      pub lacks-closed : (p ≡ q → ⊥) → true ≡ lacksDue g cs n p m
+      unfolding lacksDue
+      lacks-closed h = rw (eq-eqb (tally cs m) 0 none, sym want, so, sym parent, ne-eqb p q h)
 
--- of two and a third, the first two decide
+      pub lacks-earlier
+          : (a b : ℕ) → p ≡ q → a ≡ node g m .counter → b ≡ node g n .counter → ltb a b ≡ lacksDue g cs n p m
+      unfolding lacksDue
+      lacks-earlier a b h i j = rw (eq-eqb (tally cs m) 0 none, sym want, so, sym parent, eq-eqb p q h, sym i, sym j)
+
 pub and-left : (a b : Bool) → a && b ≡ true → a ≡ true
 and-left true b h = refl
 and-left false b h = h
 
-and-fails : (a b c : Bool) → a && b ≡ false → a && (b && c) ≡ false
-and-fails true b c h = rw h
-and-fails false b c h = refl
+-- of a child: whether it is required by itself (must), one of a pair, and whether the other has come
+due-fails : (child must pair came rest : Bool) → child && (must || pair) ≡ false → child && ((must || (pair && came)) && rest) ≡ false
+due-fails false must pair came rest h = refl
+due-fails true false false came rest h = refl
+due-fails true false true came rest h = absurd (true≢false h)
+due-fails true true pair came rest h = absurd (true≢false h)
 
-and-holds : (a b c : Bool) → a && b ≡ true → a && (b && c) ≡ c
-and-holds true b c h = rw h
-and-holds false b c h = absurd (true≢false (sym h))
+due-holds
+    : (child must pair came none rest : Bool) → pair && must ≡ false → child && (must || pair) ≡ true
+    → child && ((must || (pair && came)) && (none && rest)) ≡ none && ((not pair || came) && rest)
+due-holds false must pair came none rest k h = absurd (true≢false (sym h))
+due-holds true false false came none rest k h = absurd (true≢false (sym h))
+due-holds true true true came none rest k h = absurd (true≢false k)
+due-holds true true false came none rest k h = refl
+due-holds true false true true none rest k h = refl
+due-holds true false true false true rest k h = refl
+due-holds true false true false false rest k h = refl
 
 module _ (g : Guide) (cs : List ℕ) (n p : ℕ) where
   pub due-below : (m : ℕ) → dueOf g p m ≡ true → childOf g p m ≡ true
-  due-below m h = and-left (childOf g p m) (node g m .must) h
+  due-below m h = and-left (childOf g p m) (node g m .must || paired g m) h
 
   pub lacks-only : Only (dueOf g p) (lacking g cs n p)
   unfolding lacking required
-  lacks-only m h = and-fails (childOf g p m) (node g m .must) _ h
+  lacks-only m h = due-fails (childOf g p m) (node g m .must) (paired g m) _ _ h
 
-  pub lacks-due : (m : ℕ) (r b : Bool) → dueOf g p m ≡ true → r ≡ lacksDue g cs n p m → r ≡ b → lacking g cs n p m ≡ b
-  unfolding lacking required lacksDue
-  lacks-due m r b h e q = and-holds (childOf g p m) (node g m .must) _ h ∙ sym e ∙ q
+  pub lacks-due
+      : (m : ℕ) (r b : Bool) → paired g m && node g m .must ≡ false → dueOf g p m ≡ true → r ≡ lacksDue g cs n p m → r ≡ b
+      → lacking g cs n p m ≡ b
+  unfolding lacking required lacksDue wanted
+  lacks-due m r b k h e q =
+      let came = ltb 0 (tally cs (node g m .partner)) in
+      let first = not (eqb p (node g n .parent)) || ltb (node g m .counter) (node g n .counter) in
+      due-holds (childOf g p m) (node g m .must) (paired g m) came (eqb (tally cs m) 0) first k h ∙ sym e ∙ q
 
 module _ (e : Edition) (cs : List ℕ) (n : ℕ) where
   -- the search from the level of p outward

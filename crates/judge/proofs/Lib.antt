@@ -7,6 +7,7 @@ pub mod Links
 pub mod Levels
 pub mod Fits
 pub mod Gaps
+pub mod Partners
 pub mod Counts
 pub mod Likely
 pub mod Outcomes

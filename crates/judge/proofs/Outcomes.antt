@@ -7,7 +7,7 @@ use lib.ListN.{length, getD, List·getD-eq-default}
 use lib.Dec.{eqb, ltb, leb}
 use borrow.Author.Tests.{eq-eqb, ne-eqb, lt-ltb, le-ltb, ltb-true, ltb-false, leb-true, leb-false}
 use Rattle.guide.specs.Nodes.{View, Node, Guide, message, node, matches, over}
-use Rattle.guide.specs.Placing.{firstNode, Level, levels, fitsIn, seek, missing, place, recounted, countsAfter}
+use Rattle.guide.specs.Placing.{firstNode, Level, levels, fitsIn, seek, tally, missing, place, recounted, countsAfter}
 use Rattle.guide.specs.Answers.{Answer, placed, refused}
 use Rattle.guide.specs.Choices.{orElse}
 use Rattle.guide.specs.declared.edition.Edition.{Edition}
@@ -84,8 +84,8 @@ module _ (e : Edition) (v : View) (last : ℕ) (cs : List ℕ) where
     place-nowhere h = outcome-refused 13 0 (rw (sym sought, eq-eqb n 0 h))
 
     module _ (some : n ≡ 0 → ⊥) (limit : ℕ) (most : limit ≡ node (guideOf e) n .limit) where
-      pub place-over : (k : ℕ) → k ≡ node (guideOf e) n .refusal → leb limit (getD cs n 0) ≡ true → Outcome e v last cs (Refused k n) cs
-      unfolding place over
+      pub place-over : (k : ℕ) → k ≡ over (guideOf e) n (tally cs) → leb limit (getD cs n 0) ≡ true → Outcome e v last cs (Refused k n) cs
+      unfolding place
       place-over k number h =
           let full : ltb (getD cs n 0) (node (guideOf e) n .limit) ≡ false = rw (sym most) (le-ltb (getD cs n 0) limit (leb-true limit (getD cs n 0) h)) in
           outcome-refused k n (rw (sym sought, ne-eqb n 0 some, full, sym number))

@@ -1,10 +1,10 @@
 -- The tables as numbers: what the code holds of them. No public promise cites these.
 use Prim.Native.Nat.{ℕ, suc, _+_, _*_, _-_}
-use mathlib.Core.Bool.{Bool, _&&_}
+use mathlib.Core.Bool.{Bool, _&&_, _||_}
 use mathlib.Core.List.{List, [], _∷_, _++_, map}
 use lib.ListN.{length, take}
 use lib.Dec.{eqb}
-use Rattle.guide.specs.Nodes.{Guide, node}
+use Rattle.guide.specs.Nodes.{Guide, node, paired}
 use Rattle.guide.specs.Placing.{lowest, firstNode}
 use Rattle.judge.specs.Words.{packed}
 
@@ -24,9 +24,9 @@ firstChild g p = firstNode g (childOf g p)
 unfoldable pub nextSibling : Guide → ℕ → ℕ
 nextSibling g n = lowest (childOf g (node g n .parent)) (suc n) (length g - suc n)
 
--- the same of the required ones alone
+-- the same of those alone that may be missed: the required ones, and those of a pair
 abbrev pub dueOf : Guide → ℕ → ℕ → Bool
-dueOf g p m = childOf g p m && node g m .must
+dueOf g p m = childOf g p m && (node g m .must || paired g m)
 
 unfoldable pub firstDue : Guide → ℕ → ℕ
 firstDue g p = firstNode g (dueOf g p)

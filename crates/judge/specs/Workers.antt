@@ -4,7 +4,7 @@ use mathlib.Core.Bool.{Bool, not, _&&_, _||_}
 use mathlib.Core.List.{List, [], _∷_}
 use lib.ListN.{length}
 use lib.Dec.{eqb, ltb, leb}
-use Rattle.guide.specs.Nodes.{Guide, node}
+use Rattle.guide.specs.Nodes.{Guide, node, paired}
 use Rattle.guide.specs.Placing.{lowest, tally}
 use Rattle.guide.specs.Choices.{pickℕ}
 use Rattle.judge.specs.Words.{packed}
@@ -18,9 +18,13 @@ likely g tag c p m = childOf g p m && (leb c (node g m .counter) && eqb (packed 
 unfoldable pub onward : (ℕ → Bool) → Guide → ℕ → ℕ
 onward test g n = pickℕ (eqb n 0) 0 (lowest test n (length g - n))
 
--- whether p lacks its required child m when n comes: `lacking`, where it is known that m is one
+-- whether node m must come: `required`, where it is known that m is so by itself or one of a pair
+unfoldable pub wanted : Guide → List ℕ → ℕ → Bool
+wanted g cs m = not (paired g m) || ltb 0 (tally cs (node g m .partner))
+
+-- whether p lacks its child m when n comes: `lacking`, where that is known
 unfoldable pub lacksDue : Guide → List ℕ → ℕ → ℕ → ℕ → Bool
-lacksDue g cs n p m = eqb (tally cs m) 0 && (not (eqb p (node g n .parent)) || ltb (node g m .counter) (node g n .counter))
+lacksDue g cs n p m = eqb (tally cs m) 0 && (wanted g cs m && (not (eqb p (node g n .parent)) || ltb (node g m .counter) (node g n .counter)))
 
 -- the counts from node m on, where no child of n has come
 unfoldable pub cleared : Guide → ℕ → ℕ → List ℕ → List ℕ

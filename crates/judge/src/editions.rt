@@ -9,7 +9,7 @@ pub(crate) fn rows_of(edition: Edition) -> usize
     ensures { λ r. ⌜ r ≡ length (guideOf edition) ⌝ }
 {
     match edition {
-        Edition::D => 27,
-        Edition::C => 25,
+        Edition::D => 28,
+        Edition::C => 26,
     }
 }

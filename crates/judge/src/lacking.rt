@@ -1,4 +1,5 @@
 // Looks for the node that is missing when another comes: 14's question.
+use crate::pairs::is_wanted;
 use crate::rows::counter_of;
 use crate::rows::first_due;
 use crate::rows::next_due;
@@ -11,12 +12,15 @@ ghost use Rattle.guide.specs.Placing.{firstNode, levels, lacking, missing};
 ghost use Rattle.guide.specs.Editions.{guideOf};
 ghost use Rattle.judge.specs.Workers.{lacksDue};
 
-// Whether the instance p lacks its required child m when n comes.
+// Whether the instance p lacks its child m, which is required or one of a pair, when n comes.
 fn lacks(edition: Edition, counts: &[u32; 96], n: usize, p: usize, m: usize) -> bool
     requires { ⌜ (n < length (guideOf edition)) × (m < length (guideOf edition)) ⌝ }
     ensures { λ r. ⌜ r ≡ lacksDue (guideOf edition) (now (counts .entry)) n p m ⌝ }
 {
     if counts[m] != 0 {
+        return false;
+    }
+    if !is_wanted(edition, counts, m) {
         return false;
     }
     if p != parent_of(edition, n) {

@@ -5,6 +5,7 @@ mod editions;
 mod lacking;
 mod link_words;
 mod matching;
+mod pairs;
 mod placing;
 mod rows;
 mod seeking;
@@ -13,6 +14,7 @@ mod term_words;
 mod words;
 
 pub use guide::Edition;
+pub use pairs::number_of;
 pub use placing::Placed;
 pub use placing::place;
 pub use tags::has_tag;

@@ -9,7 +9,7 @@ ghost use Rattle.guide.specs.Editions.{guideOf};
 ghost use Rattle.judge.specs.Rows.{linkWord};
 
 fn links_20d(n: usize) -> u64
-    requires { ⌜ n < 27 ⌝ }
+    requires { ⌜ n < 28 ⌝ }
     ensures { λ r. ⌜ r ≡ linkWord pricat20d n ⌝ }
 {
     match n {
@@ -34,18 +34,19 @@ fn links_20d(n: usize) -> u64
         18 => 0x1444d49_0f_53c_13_00, // IMD
         19 => 0x1495250_0f_618_00_14, // PRI
         20 => 0x1474e52_0f_640_15_00, // RNG
-        21 => 0x14d5444_0f_64a_00_00, // DTM/163
+        21 => 0x14d5444_0f_64a_1b_00, // DTM/163
         22 => 0x1494750_0f_24e_1a_17, // PGI/Z01
         23 => 0x14e494c_10_51e_00_18, // LIN
         24 => 0x1495250_0f_618_00_19, // PRI
         25 => 0x1474e52_0f_640_00_00, // RNG
         26 => 0x1544e55_0f_960_00_00, // UNT
+        27 => 0x14d5444_0f_64a_00_00, // DTM/164
         _ => 0,
     }
 }
 
 fn links_20c(n: usize) -> u64
-    requires { ⌜ n < 25 ⌝ }
+    requires { ⌜ n < 26 ⌝ }
     ensures { λ r. ⌜ r ≡ linkWord pricat20c n ⌝ }
 {
     match n {
@@ -68,12 +69,13 @@ fn links_20c(n: usize) -> u64
         16 => 0x1414950_0f_532_11_00, // PIA
         17 => 0x1444d49_0f_53c_12_00, // IMD
         18 => 0x1495250_0f_618_00_13, // PRI
-        19 => 0x14d5444_0f_64a_00_00, // DTM/163
+        19 => 0x14d5444_0f_64a_19_00, // DTM/163
         20 => 0x1494750_0f_24e_18_15, // PGI/Z01
         21 => 0x14e494c_10_51e_00_16, // LIN
         22 => 0x1495250_0f_618_00_17, // PRI
         23 => 0x1474e52_0f_640_00_00, // RNG
         24 => 0x1544e55_0f_960_00_00, // UNT
+        25 => 0x14d5444_0f_64a_00_00, // DTM/164
         _ => 0,
     }
 }

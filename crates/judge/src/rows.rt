@@ -50,7 +50,7 @@ pub(crate) fn first_child(edition: Edition, n: usize) -> usize
     (links(edition, n) % 256) as usize
 }
 
-// The first child that is required, or 0.
+// The first child that is required or one of a pair, or 0.
 pub(crate) fn first_due(edition: Edition, n: usize) -> usize
     requires { ⌜ n < length (guideOf edition) ⌝ }
     ensures { λ r. ⌜ r ≡ firstDue (guideOf edition) n ⌝ }
@@ -58,7 +58,7 @@ pub(crate) fn first_due(edition: Edition, n: usize) -> usize
     (terms(edition, n) / 0x100_0000_0000_0000) as usize
 }
 
-// The next node with the same parent that is required, or 0.
+// The next node with the same parent that is required or one of a pair, or 0.
 pub(crate) fn next_due(edition: Edition, n: usize) -> usize
     requires { ⌜ n < length (guideOf edition) ⌝ }
     ensures { λ r. ⌜ r ≡ nextDue (guideOf edition) n ⌝ }

@@ -1,4 +1,4 @@
-// What else there is of a row: one number for each. Its hexadecimal digits are two of the first required child, two of the next required sibling,
+// What else there is of a row: one number for each. Its hexadecimal digits are two of the first child that may be missed, two of the next such sibling,
 // how many codes the row has, two of where they begin, one of the selector (four times the component and the element), three of the parent,
 // and five of the limit.
 use guide::Edition;
@@ -10,7 +10,7 @@ ghost use Rattle.guide.specs.Editions.{guideOf};
 ghost use Rattle.judge.specs.Rows.{termWord};
 
 fn terms_20d(n: usize) -> u64
-    requires { ⌜ n < 27 ⌝ }
+    requires { ⌜ n < 28 ⌝ }
     ensures { λ r. ⌜ r ≡ termWord pricat20d n ⌝ }
 {
     match n {
@@ -33,20 +33,21 @@ fn terms_20d(n: usize) -> u64
         16 => 0x00_00_0_09_0_00f_f423f, // LIN
         17 => 0x00_00_0_09_0_010_00001, // PIA
         18 => 0x00_00_0_09_0_010_00001, // IMD
-        19 => 0x00_00_0_09_0_010_00064, // PRI
-        20 => 0x00_00_0_09_0_013_00001, // RNG
-        21 => 0x00_00_2_09_1_013_00002, // DTM/163
-        22 => 0x17_1a_1_0b_1_000_00001, // PGI/Z01
-        23 => 0x18_00_0_0c_0_016_f423f, // LIN
-        24 => 0x00_00_0_0c_0_017_00001, // PRI
-        25 => 0x00_00_0_0c_0_018_00001, // RNG
-        26 => 0x00_00_0_0c_0_000_00001, // UNT
+        19 => 0x15_00_0_09_0_010_00064, // PRI
+        20 => 0x00_15_0_09_0_013_00001, // RNG
+        21 => 0x00_1b_1_09_1_013_00001, // DTM/163
+        22 => 0x17_1a_1_0a_1_000_00001, // PGI/Z01
+        23 => 0x18_00_0_0b_0_016_f423f, // LIN
+        24 => 0x00_00_0_0b_0_017_00001, // PRI
+        25 => 0x00_00_0_0b_0_018_00001, // RNG
+        26 => 0x00_00_0_0b_0_000_00001, // UNT
+        27 => 0x00_00_1_0b_1_013_00001, // DTM/164
         _ => 0,
     }
 }
 
 fn terms_20c(n: usize) -> u64
-    requires { ⌜ n < 25 ⌝ }
+    requires { ⌜ n < 26 ⌝ }
     ensures { λ r. ⌜ r ≡ termWord pricat20c n ⌝ }
 {
     match n {
@@ -68,13 +69,14 @@ fn terms_20c(n: usize) -> u64
         15 => 0x00_00_0_08_0_00e_f423f, // LIN
         16 => 0x00_00_0_08_0_00f_00001, // PIA
         17 => 0x00_00_0_08_0_00f_00001, // IMD
-        18 => 0x00_00_0_08_0_00f_00001, // PRI
-        19 => 0x00_00_2_08_1_012_00002, // DTM/163
-        20 => 0x15_18_1_0a_1_000_00001, // PGI/Z01
-        21 => 0x16_00_0_0b_0_014_f423f, // LIN
-        22 => 0x00_00_0_0b_0_015_00001, // PRI
-        23 => 0x00_00_0_0b_0_016_00001, // RNG
-        24 => 0x00_00_0_0b_0_000_00001, // UNT
+        18 => 0x13_00_0_08_0_00f_00001, // PRI
+        19 => 0x00_19_1_08_1_012_00001, // DTM/163
+        20 => 0x15_18_1_09_1_000_00001, // PGI/Z01
+        21 => 0x16_00_0_0a_0_014_f423f, // LIN
+        22 => 0x00_00_0_0a_0_015_00001, // PRI
+        23 => 0x00_00_0_0a_0_016_00001, // RNG
+        24 => 0x00_00_0_0a_0_000_00001, // UNT
+        25 => 0x00_00_1_0a_1_012_00001, // DTM/164
         _ => 0,
     }
 }

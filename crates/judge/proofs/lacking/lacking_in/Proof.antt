@@ -7,6 +7,7 @@ use Rattle.judge.specs.Rows.{dueOf, firstDue, nextDue}
 use Rattle.judge.proofs.Tables.{table-fits}
 use Rattle.judge.proofs.Links.{Walking, ahead, walk-begins, walk-out, walk-inside, walk-found, walk-next, walk-less}
 use Rattle.judge.proofs.Gaps.{due-below, lacks-only, lacks-due}
+use Rattle.judge.proofs.Partners.{pair-optional}
 use Rattle.judge.proofs.lacking.lacking_in.Statement.{statement}
 use Rattle.judge.proofs.lacking.lacking_in.Tie as tie
 
@@ -37,7 +38,8 @@ returns c =
     let a = loop .before .before .args in
     let some = asked .before .loop-test .taken in
     walk-found (loop .loop .inv) some
-    (lacks-due (guideOf (a .edition)) (a .counts .now) (a .n) (a .p) _ _ _ (loop .loop .inv .kind some) (asked .lacks .ensures) (c .if1 .taken))
+    (lacks-due (guideOf (a .edition)) (a .counts .now) (a .n) (a .p) _ _ _ (pair-optional (a .edition) _) (loop .loop .inv .kind some) (asked .lacks .ensures)
+    (c .if1 .taken))
 
 next-due-requires : tie.Need-next-due-requires Inv-loop μ-loop
 next-due-requires c κs =
@@ -58,7 +60,8 @@ loop-again c =
     let a = loop .before .before .args in
     let some = asked .before .loop-test .taken in
     walk-next (loop .loop .inv) some _ (c .next-due .ensures)
-    (lacks-due (guideOf (a .edition)) (a .counts .now) (a .n) (a .p) _ _ _ (loop .loop .inv .kind some) (asked .lacks .ensures) (c .before .if1 .left))
+    (lacks-due (guideOf (a .edition)) (a .counts .now) (a .n) (a .p) _ _ _ (pair-optional (a .edition) _) (loop .loop .inv .kind some) (asked .lacks .ensures)
+    (c .before .if1 .left))
 
 returns-2 : tie.Need-returns-2 Inv-loop μ-loop
 returns-2 c = walk-out (c .before .loop .inv) (c .loop-test .left)

@@ -10,8 +10,8 @@ use Rattle.judge.proofs.link_words.links_20c.Statement.{statement}
 use Rattle.judge.proofs.link_words.links_20c.Tie as tie
 
 -- each row has an arm
-past : tie.Need-returns-26
-past c = absurd (omega (arith, differs-past _ 25 (c .match .rest), c .before .pre))
+past : tie.Need-returns-27
+past c = absurd (omega (arith, differs-past _ 26 (c .match .rest), c .before .pre))
 
 pub links-20c-spec : {M : Type 1} → statement M
 unfolding pricat20c linkWord firstChild nextSibling lowest packed
@@ -43,4 +43,5 @@ links-20c-spec =
     (λ c. sym (ap (linkWord pricat20c) (c .match .keys23)))
     (λ c. sym (ap (linkWord pricat20c) (c .match .keys24)))
     (λ c. sym (ap (linkWord pricat20c) (c .match .keys25)))
+    (λ c. sym (ap (linkWord pricat20c) (c .match .keys26)))
     past)

@@ -10,8 +10,8 @@ use Rattle.judge.proofs.link_words.links_20d.Statement.{statement}
 use Rattle.judge.proofs.link_words.links_20d.Tie as tie
 
 -- each row has an arm
-past : tie.Need-returns-28
-past c = absurd (omega (arith, differs-past _ 27 (c .match .rest), c .before .pre))
+past : tie.Need-returns-29
+past c = absurd (omega (arith, differs-past _ 28 (c .match .rest), c .before .pre))
 
 pub links-20d-spec : {M : Type 1} → statement M
 unfolding pricat20d linkWord firstChild nextSibling lowest packed
@@ -45,4 +45,5 @@ links-20d-spec =
     (λ c. sym (ap (linkWord pricat20d) (c .match .keys25)))
     (λ c. sym (ap (linkWord pricat20d) (c .match .keys26)))
     (λ c. sym (ap (linkWord pricat20d) (c .match .keys27)))
+    (λ c. sym (ap (linkWord pricat20d) (c .match .keys28)))
     past)

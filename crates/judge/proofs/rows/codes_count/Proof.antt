@@ -3,7 +3,7 @@ use borrow.Author.Needs.{needs}
 use Prim.Native.Nat.{ℕ, _/_, _%_}
 use mathlib.Core.Path.{refl}
 use lib.ListN.{length}
-use Rattle.guide.specs.Nodes.{Guide, node}
+use Rattle.guide.specs.Nodes.{Guide, node, paired}
 use Rattle.guide.specs.Placing.{lowest}
 use Rattle.guide.specs.Pricat.{pricat20d, pricat20c}
 use Rattle.judge.specs.Rows.{termWord, codesOf, firstDue, nextDue}
@@ -15,7 +15,7 @@ terms-requires : tie.Need-terms-requires
 terms-requires c κs = search needs
 
 returns : tie.Need-returns
-unfolding pricat20d pricat20c termWord codesOf firstDue nextDue lowest
+unfolding pricat20d pricat20c termWord codesOf firstDue nextDue paired lowest
 returns c = digit-at termWord (λ (g : Guide) (n : ℕ). length (node g n .selector .codes)) (λ (x : ℕ). x / 17592186044416 % 16) refl refl (c .before .args .edition) (c .before .args .n) (c .before .pre) _ (c .terms .ensures)
 
 pub codes-count-spec : {M : Type 1} → statement M

@@ -1,6 +1,7 @@
 -- `judge::term_words::terms_20c` meets its contract: the number of each arm is, computed, the word of its row. Assumes nothing.
 use native.Mathlib.Omega.{arith}
 use mathlib.Core.Path.{sym, ap}
+use Rattle.guide.specs.Nodes.{paired}
 use Rattle.guide.specs.Placing.{lowest}
 use Rattle.guide.specs.Pricat.{pricat20c}
 use Rattle.judge.specs.Rows.{termWord, codesOf, firstDue, nextDue}
@@ -9,11 +10,11 @@ use Rattle.judge.proofs.term_words.terms_20c.Statement.{statement}
 use Rattle.judge.proofs.term_words.terms_20c.Tie as tie
 
 -- each row has an arm
-past : tie.Need-returns-26
-past c = absurd (omega (arith, differs-past _ 25 (c .match .rest), c .before .pre))
+past : tie.Need-returns-27
+past c = absurd (omega (arith, differs-past _ 26 (c .match .rest), c .before .pre))
 
 pub terms-20c-spec : {M : Type 1} → statement M
-unfolding pricat20c termWord codesOf firstDue nextDue lowest
+unfolding pricat20c termWord codesOf firstDue nextDue paired lowest
 terms-20c-spec =
     tie.close
     (tie.spec
@@ -42,4 +43,5 @@ terms-20c-spec =
     (λ c. sym (ap (termWord pricat20c) (c .match .keys23)))
     (λ c. sym (ap (termWord pricat20c) (c .match .keys24)))
     (λ c. sym (ap (termWord pricat20c) (c .match .keys25)))
+    (λ c. sym (ap (termWord pricat20c) (c .match .keys26)))
     past)

@@ -1,6 +1,7 @@
 -- `judge::term_words::terms_20d` meets its contract: the number of each arm is, computed, the word of its row. Assumes nothing.
 use native.Mathlib.Omega.{arith}
 use mathlib.Core.Path.{sym, ap}
+use Rattle.guide.specs.Nodes.{paired}
 use Rattle.guide.specs.Placing.{lowest}
 use Rattle.guide.specs.Pricat.{pricat20d}
 use Rattle.judge.specs.Rows.{termWord, codesOf, firstDue, nextDue}
@@ -9,11 +10,11 @@ use Rattle.judge.proofs.term_words.terms_20d.Statement.{statement}
 use Rattle.judge.proofs.term_words.terms_20d.Tie as tie
 
 -- each row has an arm
-past : tie.Need-returns-28
-past c = absurd (omega (arith, differs-past _ 27 (c .match .rest), c .before .pre))
+past : tie.Need-returns-29
+past c = absurd (omega (arith, differs-past _ 28 (c .match .rest), c .before .pre))
 
 pub terms-20d-spec : {M : Type 1} → statement M
-unfolding pricat20d termWord codesOf firstDue nextDue lowest
+unfolding pricat20d termWord codesOf firstDue nextDue paired lowest
 terms-20d-spec =
     tie.close
     (tie.spec
@@ -44,4 +45,5 @@ terms-20d-spec =
     (λ c. sym (ap (termWord pricat20d) (c .match .keys25)))
     (λ c. sym (ap (termWord pricat20d) (c .match .keys26)))
     (λ c. sym (ap (termWord pricat20d) (c .match .keys27)))
+    (λ c. sym (ap (termWord pricat20d) (c .match .keys28)))
     past)
