@@ -37,7 +37,7 @@ module _ (words : List ℕ) (pages : List Page) (order : column pageIn words ≡
 abbrev nodeTable20d : List ℕ
 nodeTable20d =
     0 ∷ 67584 ∷ 70658 ∷ 33799 ∷ 33800 ∷ 33801 ∷ 33802 ∷ 33803 ∷ 33804 ∷ 67597 ∷ 67599 ∷ 67601 ∷ 67603 ∷ 33813 ∷ 33814 ∷ 33815 ∷ 101400 ∷ 67611 ∷
-    68637 ∷ 33824 ∷ 67617 ∷ 33827 ∷ 33828 ∷ 101413 ∷ 33832 ∷ 67625 ∷ 67627 ∷ []
+    68637 ∷ 33824 ∷ 67617 ∷ 33827 ∷ 33828 ∷ 101413 ∷ 33832 ∷ 67625 ∷ 67627 ∷ 33827 ∷ []
 
 pages-20d : column pageIn nodeTable20d ≡ column (λ (p : Page). p) pages20d
 unfolding pages20d joined column allElements span pageIn
@@ -54,7 +54,7 @@ node-arm-20d = node-arm nodeTable20d pages20d pages-20d reach-20d
 abbrev nodeTable20c : List ℕ
 nodeTable20c =
     0 ∷ 67629 ∷ 70658 ∷ 33799 ∷ 33800 ∷ 33801 ∷ 33802 ∷ 33804 ∷ 67597 ∷ 67599 ∷ 67601 ∷ 67603 ∷ 33813 ∷ 33814 ∷ 33815 ∷ 101400 ∷ 67611 ∷ 68655 ∷
-    33824 ∷ 33827 ∷ 33828 ∷ 101413 ∷ 33832 ∷ 67625 ∷ 67627 ∷ []
+    33824 ∷ 33827 ∷ 33828 ∷ 101413 ∷ 33832 ∷ 67625 ∷ 67627 ∷ 33827 ∷ []
 
 pages-20c : column pageIn nodeTable20c ≡ column (λ (p : Page). p) pages20c
 unfolding pages20d pages20c joined column allElements span pageIn

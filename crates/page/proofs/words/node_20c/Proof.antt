@@ -84,8 +84,11 @@ returns-25 : tie.Need-returns-25
 returns-25 c = node-arm-20c 24 _ (c .match .keys25)
 
 returns-26 : tie.Need-returns-26
+returns-26 c = node-arm-20c 25 _ (c .match .keys26)
+
+returns-27 : tie.Need-returns-27
 unfolding pages20c pageOf20c span reach pageIn
-returns-26 c = rw (past-all pages20c [] (c .before .args .n) (c .match .rest)) (record { page = refl; reach = refl })
+returns-27 c = rw (past-all pages20c [] (c .before .args .n) (c .match .rest)) (record { page = refl; reach = refl })
 
 pub node-20c-spec : {M : Type 1} → statement M
 node-20c-spec =
@@ -116,4 +119,5 @@ node-20c-spec =
     returns-23
     returns-24
     returns-25
-    returns-26)
+    returns-26
+    returns-27)

@@ -90,8 +90,11 @@ returns-27 : tie.Need-returns-27
 returns-27 c = node-arm-20d 26 _ (c .match .keys27)
 
 returns-28 : tie.Need-returns-28
+returns-28 c = node-arm-20d 27 _ (c .match .keys28)
+
+returns-29 : tie.Need-returns-29
 unfolding pages20d pageOf span reach pageIn
-returns-28 c = rw (past-all pages20d [] (c .before .args .n) (c .match .rest)) (record { page = refl; reach = refl })
+returns-29 c = rw (past-all pages20d [] (c .before .args .n) (c .match .rest)) (record { page = refl; reach = refl })
 
 pub node-20d-spec : {M : Type 1} → statement M
 node-20d-spec =
@@ -124,4 +127,5 @@ node-20d-spec =
     returns-25
     returns-26
     returns-27
-    returns-28)
+    returns-28
+    returns-29)
