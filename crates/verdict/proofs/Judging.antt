@@ -21,6 +21,7 @@ use Rattle.guide.specs.Answers.{Answer, placed, refused}
 use Rattle.guide.specs.Content.{text}
 use Rattle.guide.specs.Judging.{Memory, Verdict, accepts, refuses, pickVerdict, fresh, bytesFault, contentFault, unlessFault, thenContent, thenPlace, segmentAnswer, remember, decide, judgeFrom}
 use Rattle.guide.specs.Placing.{after, countsAfter, lastAfter, place, give, given}
+use Rattle.guide.specs.Nodes.{numberOf}
 use Rattle.guide.specs.Editions.{guideOf, pagesOf}
 use Rattle.guide.specs.declared.edition.Edition.{Edition}
 use Rattle.guide.specs.Sheet.{isTag}
@@ -178,7 +179,9 @@ module _ (ed : Edition) (y : Syntax) (d : List ℕ) (start : ℕ) where
         is-answer : r ≡ answerOf answer
         is-answer = is ∙ ap answerOf same-answer
 
-        is-refused : (j m : ℕ) → r ≡ told.Refused j m → Refused j (n + 1) s m ≡ declared (verdictFrom y (guideOf ed) (pagesOf ed) start all)
+        is-refused
+            : (j m : ℕ) → r ≡ told.Refused j m
+            → Refused j (n + 1) s (numberOf (guideOf ed) m) ≡ declared (verdictFrom y (guideOf ed) (pagesOf ed) start all)
         unfolding verdictFrom settled
         is-refused j m h =
             let a : answer ≡ refused j m = answer-refused answer j m (sym is-answer ∙ h) in
@@ -186,9 +189,9 @@ module _ (ed : Edition) (y : Syntax) (d : List ℕ) (start : ℕ) where
             rw (← judged-here, a, z, q .starts)
 
         pub passed-refused
-            : (j m : ℕ) → r ≡ told.Refused j m → (c : ℕ) → c ≡ lastEnd e rest → (o : Judged) → o ≡ judgedAs (Refused j (n + 1) s m) c
-            → o ≡ judgedAs (declared (verdictFrom y (guideOf ed) (pagesOf ed) start all)) (lastEnd start all)
-        passed-refused j m h c l o g = g ∙ ap₂ judgedAs (is-refused j m h) (l ∙ more-closes)
+            : (j m : ℕ) → r ≡ told.Refused j m → (v : Told) → v ≡ Refused j (n + 1) s (numberOf (guideOf ed) m) → (c : ℕ) → c ≡ lastEnd e rest → (o : Judged)
+            → o ≡ judgedAs v c → o ≡ judgedAs (declared (verdictFrom y (guideOf ed) (pagesOf ed) start all)) (lastEnd start all)
+        passed-refused j m h v t c l o g = g ∙ ap₂ judgedAs (t ∙ is-refused j m h) (l ∙ more-closes)
 
         module _ (m : ℕ) (taken : r ≡ told.At m) (cs′ : List ℕ) (k′ : Kept) (after-it : KeptAfter ed y d s e m k k′)
             (left : cs′ ≡ countsLeft ed (bytesFault y (guideOf ed) (pagesOf ed) (segmentIn s e piece d)) (place (guideOf ed) (viewOf y (part s e d)) (k .last) cs) cs) where

@@ -13,12 +13,15 @@ use cut::message_end;
 use element::Span;
 use guide::Edition;
 use judge::Placed;
+use judge::number_of;
 ghost use mathlib.Core.Bool.{false};
 ghost use mathlib.Core.Path.{_≡_};
 ghost use lib.ListN.{drop};
 ghost use Rattle.cut.specs.Held.{unless, held};
 ghost use Rattle.cut.specs.Messages.{lastEnd, body};
 ghost use Rattle.cut.specs.Segments.{segmentsFrom};
+ghost use Rattle.guide.specs.Nodes.{numberOf};
+ghost use Rattle.guide.specs.Judging.{refuses};
 ghost use Rattle.guide.specs.Editions.{guideOf, pagesOf};
 ghost use Rattle.verdict.specs.Answers.{declared, judgedAs};
 ghost use Rattle.verdict.specs.Named.{verdictNamed};
@@ -29,6 +32,19 @@ fn with_end(verdict: Verdict, end: usize) -> Judged
     ensures { λ r. ⌜ r ≡ judgedAs verdict end ⌝ }
 {
     Judged { verdict, end }
+}
+
+// A segment's refusal: the node of its row is named by its number in the guide.
+fn refused(edition: Edition, number: u32, segment: usize, place: usize, row: usize) -> Verdict
+    ensures { λ r. ⌜ r ≡ declared (refuses number segment place (numberOf (guideOf edition) row)) ⌝ }
+{
+    let node = number_of(edition, row);
+    Verdict::Refused {
+        number,
+        segment,
+        place,
+        node,
+    }
 }
 
 // Where the message ends of which a segment ends at `end`; `last`: that is its UNT.
@@ -70,12 +86,7 @@ fn judged_by(y: Syntax, edition: Edition, d: &[u8], start: usize) -> Judged
         let node = match answer {
             Placed::At(node) => node,
             Placed::Refused { number, node } => {
-                let verdict = Verdict::Refused {
-                    number,
-                    segment: n + 1,
-                    place,
-                    node,
-                };
+                let verdict = refused(edition, number, n + 1, place, node);
                 return with_end(verdict, close_of(y, d, end, last));
             }
         };

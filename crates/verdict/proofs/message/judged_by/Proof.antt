@@ -70,11 +70,14 @@ enum-known-answer c = search needs
 enum-known-answer-2 : tie.Need-enum-known-answer-2 Inv-loop μ-loop
 enum-known-answer-2 c = search needs
 
-add-with-end : tie.Need-add-with-end Inv-loop μ-loop
-add-with-end c =
+add-refused : tie.Need-add-refused Inv-loop μ-loop
+add-refused c =
     let p = c .before .before .before .before .before .before .before .before .before .loop .inv in
     let n = p .short in
     search needs
+
+refused-requires : tie.Need-refused-requires Inv-loop μ-loop
+refused-requires c κs = search needs
 
 close-of-requires : tie.Need-close-of-requires Inv-loop μ-loop
 close-of-requires c κs = search needs
@@ -84,11 +87,12 @@ with-end-requires-2 c κs = search needs
 
 returns-2 : tie.Need-returns-2 Inv-loop μ-loop
 returns-2 c =
-    let told = c .before .before in
+    let named = c .before .before in
+    let told = named .before in
     let cut = told .before .before .before .before .before in
     let q = took cut in
     passed-refused _ _ _ _ _ _ _ _ _ (cut .before .before .before .before .loop .inv) _ _ _ (q .cuts) _ (q .list) _ (told .before .before .before .segment-answer .ensures .0) _ _ (told .before .answer2 .given .1) _
-    (c .before .close-of .ensures) _ (c .with-end2 .ensures)
+    (named .refused .ensures) _ (c .before .close-of .ensures) _ (c .with-end2 .ensures)
 
 keep-requires : tie.Need-keep-requires Inv-loop μ-loop
 keep-requires c κs =
@@ -164,7 +168,8 @@ judged-by-spec =
     segment-answer-requires
     enum-known-answer
     enum-known-answer-2
-    add-with-end
+    add-refused
+    refused-requires
     close-of-requires
     with-end-requires-2
     returns-2
