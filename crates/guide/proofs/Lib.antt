@@ -1,4 +1,5 @@
 pub mod Basics
+pub mod Required
 pub mod Tables
 pub mod Growing
 pub mod Meeting
@@ -18,6 +19,7 @@ pub mod Links
 pub mod Clearing
 pub mod Face
 pub mod Sheets
+pub mod IntervalSheets
 pub mod PageSamples
 pub mod PageSamples20c
 pub mod TwoEditions
