@@ -1,13 +1,12 @@
 -- The sheets of request 2, for each edition: as one statement by computation, and what they say over trees.
 use mathlib.Core.Path.{_≡_, refl}
-use mathlib.Core.List.{List, [], _∷_}
+use mathlib.Core.List.{List}
 use Rattle.element.specs.Plain.{same}
 use Rattle.guide.specs.Nodes.{among, chosen, matches, paired, numberOf, required, over}
 use Rattle.guide.specs.Pricat.{pricat20d, pricat20c}
-use Rattle.guide.specs.Tree.{Whole}
 use Rattle.guide.specs.Placing.{lowest, levels, fitsIn, seek, lacking, missing, place, indexed, recounted, countsAfter, lastAfter, run}
-use Rattle.guide.specs.Sheets.{bare, refusal, Sheet, interval, intervals, saidOf, expectedOf, AllMean}
-use Rattle.guide.proofs.Editions.{pricat20d-passes, pricat20c-passes, whole-iff}
+use Rattle.guide.specs.Sheets.{refusal, Sheet, intervals, saidOf, expectedOf, AllMean}
+use Rattle.guide.proofs.Editions.{pricat20d-passes, pricat20c-passes}
 use Rattle.guide.proofs.Sheets.{all-mean}
 
 -- in 2.0d a second price can come, and closes the first

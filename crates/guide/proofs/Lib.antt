@@ -1,5 +1,6 @@
 pub mod Basics
 pub mod Required
+pub mod Pairs
 pub mod Tables
 pub mod Growing
 pub mod Meeting

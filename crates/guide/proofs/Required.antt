@@ -1,18 +1,16 @@
 -- What is required in an instance, and the number of a passed limit: both depend on what has come through a row's partner alone. Where limits hold, an
 -- instance is complete exactly if every required node has come.
 use Prim.Native.Nat.{ℕ, _≤_, _<_}
-use mathlib.Core.Path.{_≡_, refl, sym, _∙_, ap}
+use mathlib.Core.Path.{_≡_, refl, _∙_}
 use mathlib.Core.Logic.{_↔_}
 use mathlib.Core.Bool.{Bool, true, false, _&&_}
 use native.Mathlib.Omega.{arith}
 use lib.Dec.{T, eqb, ltb, ltb→lt, lt→ltb}
-use borrow.Author.Tests.{eq-eqb, ne-eqb, lt-ltb, le-ltb}
 use Rattle.guide.specs.Choices.{pickℕ}
-use Rattle.guide.specs.Nodes.{Guide, node, paired, numberOf, required, over}
+use Rattle.guide.specs.Nodes.{Guide, node, paired, required, over}
 use Rattle.guide.specs.Tree.{Kids, count, Limits, Complete}
-use Rattle.guide.specs.Steps.{Full}
 use Rattle.guide.specs.Checks.{Pairing}
-use Rattle.guide.proofs.Basics.{true-T, false-T, same-number, and-left, and-right, and-both, or-left, or-right, or-cases}
+use Rattle.guide.proofs.Basics.{same-number, and-left, and-right, and-both, or-left, or-right, or-cases}
 
 module _ (g : Guide) (m : ℕ) where
   -- a node is required by itself

@@ -6,7 +6,6 @@ use lib.ListN.{length, getD}
 use Rattle.element.specs.Plain.{same}
 use Rattle.guide.specs.Nodes.{Node, node, among, chosen, matches, paired, numberOf, required, over}
 use Rattle.guide.specs.Columns.{values}
-use Rattle.guide.specs.Page.{Page}
 use Rattle.guide.specs.Pricat.{pricat20d, pricat20c}
 use Rattle.guide.specs.Pages20d.{pages20d, pageOf}
 use Rattle.guide.specs.Pages20c.{pages20c, pageOf20c}
