@@ -7,10 +7,11 @@ use native.Mathlib.Omega.{arith}
 use lib.Dec.{eqb, ltb}
 use borrow.Author.Tests.{eqb-true, eqb-false, ltb-true, ltb-false}
 use Rattle.guide.specs.Nodes.{View, Guide, node}
-use Rattle.guide.specs.Tree.{Kids, none, then, Given, one, giving, assigned, count, top, Limits, All, Next, Closed, Open, Whole}
+use Rattle.guide.specs.Tree.{Kids, none, then, Given, one, giving, assigned, count, top, Limits, Complete, Next, Closed, Open, Whole}
 use Rattle.guide.specs.Checks.{Rising, Passes}
 use Rattle.guide.specs.Frames.{Framed}
 use Rattle.guide.proofs.Basics.{one-same, one-other}
+use Rattle.guide.proofs.Required.{complete-come}
 use Rattle.guide.proofs.Tables.{takes-limit}
 use Rattle.guide.proofs.Framing.{two-nodes}
 use Rattle.guide.proofs.Growing.{Begun, closed-open}
@@ -131,13 +132,13 @@ module _ {A : Type 0} (g : Guide) (view : A → View) (u : ℕ) (p : Passes g u)
       }
 
   enclosed
-      : (l : Kids A) (s : A) → Closed g view 0 (then l u s none) → Limits g 0 (then l u s none) → All g 0 (then l u s none)
+      : (l : Kids A) (s : A) → Closed g view 0 (then l u s none) → Limits g 0 (then l u s none) → Complete g 0 (then l u s none)
       → Enclosed h u (assigned (then l u s none))
   unfolding Closed times
   enclosed l s c m a =
       let root = q .head-once .root in
       let end = q .tail-once .root in
-      let there = a h root (q .head-once .wanted (count (then l u s none))) in
+      let there = complete-come g 0 (then l u s none) a h root (q .head-once .wanted (count (then l u s none))) in
       let o = closed-open g view 0 l (c .0) in
       let x = first-head l o (omega (arith, one-other u h (λ i. two-nodes g h u q (sym i)))) in
       record {
@@ -153,5 +154,5 @@ module _ {A : Type 0} (g : Guide) (view : A → View) (u : ℕ) (p : Passes g u)
   pub whole-enclosed : (ss : List A) (w : Whole g view ss) → Enclosed h u (assigned (w .tree))
   whole-enclosed ss w =
       let x = whole-ended g view (p .rising) u (p .ends) ss w in
-      subst (λ (f : Kids A). Closed g view 0 f → Limits g 0 f → All g 0 f → Enclosed h u (assigned f)) (sym (x .2)) (enclosed (x .0) (x .1))
-      (w .closed) (w .limits) (w .all)
+      subst (λ (f : Kids A). Closed g view 0 f → Limits g 0 f → Complete g 0 f → Enclosed h u (assigned f)) (sym (x .2)) (enclosed (x .0) (x .1))
+      (w .closed) (w .limits) (w .complete)

@@ -9,11 +9,12 @@ use lib.ListN.{length}
 use lib.Dec.{T, eqb}
 use borrow.Author.Tests.{eqb-true, eqb-false}
 use Rattle.guide.specs.Nodes.{View, Guide, node, takes, required}
-use Rattle.guide.specs.Tree.{Kids, none, then, one, count, top, All, Next, Closed, Open, Whole, Beginning}
+use Rattle.guide.specs.Tree.{Kids, none, then, one, count, top, Complete, Next, Closed, Open, Whole, Beginning}
 use Rattle.guide.specs.Placing.{start, run}
 use Rattle.guide.specs.Runs.{GoesTo}
-use Rattle.guide.specs.Checks.{Rising, Apart, Ends}
+use Rattle.guide.specs.Checks.{Rising, Apart, Ends, Pairing}
 use Rattle.guide.proofs.Basics.{one-same, one-other}
+use Rattle.guide.proofs.Required.{complete-come, come-complete}
 use Rattle.guide.proofs.Tables.{takes-limit}
 use Rattle.guide.proofs.Growing.{Begun, closed-open}
 use Rattle.guide.proofs.Standing.{lastNode, rise}
@@ -24,7 +25,13 @@ module _ {A : Type 0} (g : Guide) (view : A → View) where
   -- A whole message is a beginning.
   abbrev pub whole-begins : (ss : List A) → Whole g view ss → Beginning g view ss
   whole-begins ss w =
-      record { tree = w .tree; begun = closed-open g view 0 (w .tree) (w .closed); limits = w .limits; due = λ m e q i. w .all m e q; same = w .same }
+      record {
+        tree = w .tree;
+        begun = closed-open g view 0 (w .tree) (w .closed);
+        limits = w .limits;
+        due = λ m e q i. complete-come g 0 (w .tree) (w .complete) m e q;
+        same = w .same;
+      }
 
   -- The tree of a whole message is the only one.
   pub only-whole : Rising g → Apart g → (ss : List A) (a b : Whole g view ss) → a .tree ≡ b .tree
@@ -53,18 +60,18 @@ module _ {A : Type 0} (g : Guide) (view : A → View) (r : Rising g) (u : ℕ) (
       absurd (ends .childless n (next .under) (limit-of u l n s next))
 
   -- a beginning that ends at UNT is whole
-  whole-tree : (f : Kids A) → Begun g view 0 f → lastNode g 0 f ≡ u → Closed g view 0 f × All g 0 f
+  whole-tree : Pairing g → (f : Kids A) → Begun g view 0 f → lastNode g 0 f ≡ u → Closed g view 0 f × Complete g 0 f
   unfolding Open Closed
-  whole-tree none b e = absurd (omega (arith, r .rises u (r .taking u (count {A = A} none) (ends .wanted (count {A = A} none)))))
-  whole-tree (then l n s k) b e =
+  whole-tree pairs none b e = absurd (omega (arith, r .rises u (r .taking u (count {A = A} none) (ends .wanted (count {A = A} none)))))
+  whole-tree pairs (then l n s k) b e =
       let o = b .opened in
       let next = o .1 in
       let up = rise g view r n (view s) (next .takes) in
       let q : u ≡ n = sym e ∙ last-inside n k (omega arith) (o .2) (ap (λ (x : ℕ). node g x .parent) e ∙ ends .root) in
       let bare : k ≡ none = childless k (rw q (o .2)) in
       let closed : Closed g view n k = rw bare tt in
-      let nothing : All g n k = λ m w v. absurd (ends .childless m (w ∙ sym q) (r .taking m (count k) v)) in
-      ((o .0, next, closed, o .3, nothing), λ m w v. there q m w v (eqb n m) refl)
+      let nothing = come-complete g n k pairs (o .3) (λ m w v. absurd (ends .childless m (w ∙ sym q) (r .taking m (count k) v))) in
+      ((o .0, next, closed, o .3, nothing), come-complete g 0 (then l n s k) pairs (b .limits) (λ m w v. there q m w v (eqb n m) refl))
     where
       there
           : u ≡ n → (m : ℕ) → node g m .parent ≡ 0 → T (required g m (count (then l n s k))) → (c : Bool) → eqb n m ≡ c
@@ -89,9 +96,9 @@ module _ {A : Type 0} (g : Guide) (view : A → View) (r : Rising g) (u : ℕ) (
           omega (arith, ih i, next .order)
 
   -- the last segment of a whole message is an instance of UNT at the root, without children
-  ended : (f : Kids A) → Closed g view 0 f → All g 0 f → (l : Kids A) × (s : A) × (f ≡ then l u s none)
+  ended : (f : Kids A) → Closed g view 0 f → Complete g 0 f → (l : Kids A) × (s : A) × (f ≡ then l u s none)
   unfolding Closed
-  ended none c a = absurd (omega (arith, a u (ends .root) (ends .wanted (count {A = A} none))))
+  ended none c a = absurd (omega (arith, complete-come g 0 none a u (ends .root) (ends .wanted (count {A = A} none))))
   ended (then l n s k) c a = go (eqb n u) refl
     where
       go : (b : Bool) → eqb n u ≡ b → (h : Kids A) × (t : A) × (then l n s k ≡ then h u t none)
@@ -102,21 +109,21 @@ module _ {A : Type 0} (g : Guide) (view : A → View) (r : Rising g) (u : ℕ) (
       go false e =
           let next = c .1 in
           let before = ends .final n (next .under) (limit-of 0 l n s next) (eqb-false n u e) in
-          absurd (omega (arith, reached-counter 0 (then l n s k) u c (a u (ends .root) (ends .wanted (count (then l n s k))))))
+          absurd (omega (arith, reached-counter 0 (then l n s k) u c (complete-come g 0 (then l n s k) a u (ends .root) (ends .wanted (count (then l n s k))))))
 
   pub whole-ended : (ss : List A) (w : Whole g view ss) → (l : Kids A) × (s : A) × (w .tree ≡ then l u s none)
-  whole-ended ss w = ended (w .tree) (w .closed) (w .all)
+  whole-ended ss w = ended (w .tree) (w .closed) (w .complete)
 
-  module _ (a : Apart g) (z : ℕ) (room : length g ≤ z) where
+  module _ (pairs : Pairing g) (a : Apart g) (z : ℕ) (room : length g ≤ z) where
     goes-whole : (ss : List A) → GoesTo g view z u ss → Whole g view ss
     goes-whole ss h =
-        let x = reached-all g view r a z room ss (h .0) (h .1) in
-        let w = whole-tree (x .tree) (x .begun) (sym (x .stands .last) ∙ h .2) in
-        record { tree = x .tree; closed = w .0; limits = x .begun .limits; all = w .1; same = x .same }
+        let x = reached-all g view r pairs a z room ss (h .0) (h .1) in
+        let w = whole-tree pairs (x .tree) (x .begun) (sym (x .stands .last) ∙ h .2) in
+        record { tree = x .tree; closed = w .0; limits = x .begun .limits; complete = w .1; same = x .same }
 
     whole-goes : (ss : List A) → Whole g view ss → GoesTo g view z u ss
     whole-goes ss w =
-        let x = built g view r a z room (w .tree) (begun-of g view ss (whole-begins g view ss w)) in (
+        let x = built g view r pairs a z room (w .tree) (begun-of g view ss (whole-begins g view ss w)) in (
           x .state,
           ap (λ (us : List A). run g 1 (map view us) (start z)) (sym (w .same)) ∙ x .ran,
           x .stands .last ∙ ap (lastNode g 0) (whole-ended ss w .2),

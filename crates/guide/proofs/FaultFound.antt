@@ -35,7 +35,7 @@ module _
   -- what placing says of the segment, over any tree of those before: there is only one
   told : (b : Beginning g (seen y) (segmentsIn xs)) → Outcome g (seen y) (b .tree) s (sought y g (kept y g pages fresh xs) s)
   told b =
-      answer-means g (seen y) (p .rising) (p .apart) capacity (p .room) (segmentsIn xs) b (kept y g pages fresh xs .state) s
+      answer-means g (seen y) (p .rising) (p .pairing) (p .apart) capacity (p .room) (segmentsIn xs) b (kept y g pages fresh xs .state) s
       (faultless-parts y g pages 0 fresh xs f .ran)
 
   sought-is

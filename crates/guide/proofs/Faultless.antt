@@ -9,7 +9,7 @@ use Rattle.cut.specs.declared.service.Syntax.{Syntax}
 use Rattle.cut.specs.Bytes.{bytesOf}
 use Rattle.cut.specs.Segments.{Segment, endOf}
 use Rattle.cut.specs.Messages.{lastEnd}
-use Rattle.guide.specs.Nodes.{Guide}
+use Rattle.guide.specs.Nodes.{Guide, numberOf}
 use Rattle.guide.specs.Page.{Page}
 use Rattle.guide.specs.Tree.{Given, giving}
 use Rattle.guide.specs.Answers.{Answer, placed, refused}
@@ -122,7 +122,7 @@ module _ (y : Syntax) (g : Guide) (pages : ℕ → Page) where
   -- the verdict where one has a fault
   pub stopped-verdict
       : (i e : ℕ) (m : Memory) (ss : List Segment) (t : Stopped i m ss)
-      → judgeFrom y g pages i e m ss ≡ refuses (t .number) (suc (length (t .given) + i)) (t .segment .start) (t .node)
+      → judgeFrom y g pages i e m ss ≡ refuses (t .number) (suc (length (t .given) + i)) (t .segment .start) (numberOf g (t .node))
   unfolding judgeFrom
   stopped-verdict i e m ss t =
       ap (judgeFrom y g pages i e m) (t .split) ∙ (judged-on i e m (t .given) (t .segment ∷ t .rest) (t .faultless) ∙ rw (t .why))

@@ -37,7 +37,7 @@ module _ (y : Syntax) (g : Guide) (u : ℕ) (p : Passes g u) where
       → (b : Beginning g (seen y) ss) → assigned (b .tree) ≡ xs
   given-tree xs ss e h b =
       same-given (assigned (b .tree)) xs
-      (sym (given-assigned g (seen y) (p .rising) (p .apart) capacity (p .room) ss b) ∙ h)
+      (sym (given-assigned g (seen y) (p .rising) (p .pairing) (p .apart) capacity (p .room) ss b) ∙ h)
       (assigned-segments (b .tree) ∙ (b .same ∙ sym e))
 
   pub faultless-tree

@@ -10,7 +10,7 @@ use Rattle.guide.specs.Tree.{none, Whole, Beginning}
 use Rattle.guide.specs.Placing.{place, State, start, fits, fault, run}
 use Rattle.guide.specs.Answers.{refused}
 use Rattle.guide.specs.Meaning.{Outcome, Stops}
-use Rattle.guide.specs.Checks.{Rising, Apart}
+use Rattle.guide.specs.Checks.{Rising, Apart, Pairing}
 use Rattle.guide.proofs.Basics.{map-append}
 use Rattle.guide.proofs.Growing.{begun-none}
 use Rattle.guide.proofs.Standing.{stands-start}
@@ -20,20 +20,20 @@ use Rattle.guide.proofs.Running.{fits-fault, fits-same, run-on, broken,
 use Rattle.guide.proofs.Fitting.{begun-of, goes-beginning, front-begins}
 use Rattle.guide.proofs.Ending.{whole-begins}
 
-module _ {A : Type 0} (g : Guide) (view : A → View) (r : Rising g) (a : Apart g) (z : ℕ) (room : length g ≤ z) where
+module _ {A : Type 0} (g : Guide) (view : A → View) (r : Rising g) (pairs : Pairing g) (a : Apart g) (z : ℕ) (room : length g ≤ z) where
   -- What placing answers of the segment after a beginning is what the rows say over the beginning's tree.
   pub answer-means
       : (ss : List A) (b : Beginning g view ss) (st : State) (s : A) → run g 1 (map view ss) (start z) ≡ fits st
       → Outcome g view (b .tree) s (place g (view s) (st .last) (st .counts))
   answer-means ss b st s h =
-      let x = built g view r a z room (b .tree) (begun-of g view ss b) in
+      let x = built g view r pairs a z room (b .tree) (begun-of g view ss b) in
       let e = fits-same (x .state) st (sym (x .ran) ∙ (ap (λ (us : List A). run g 1 (map view us) (start z)) (b .same) ∙ h)) in
       subst (λ (y : State). Outcome g view (b .tree) s (place g (view s) (y .last) (y .counts))) e
-      (outcome g view r (b .tree) s (x .state) (b .begun) (x .stands))
+      (outcome g view r pairs (b .tree) s (x .state) (b .begun) (x .stands))
 
   fault-stops : (ss : List A) (k i m : ℕ) → run g 1 (map view ss) (start z) ≡ fault k i m → Stops g view ss k i m
   fault-stops ss k i m h =
-      let x = broken g view r 1 ss none (start z) k i m (begun-none g view 0) (stands-start g z room) h in
+      let x = broken g view r pairs 1 ss none (start z) k i m (begun-none g view 0) (stands-start g z room) h in
       record {
         front = x .front;
         segment = x .segment;
@@ -47,7 +47,7 @@ module _ {A : Type 0} (g : Guide) (view : A → View) (r : Rising g) (a : Apart 
   stops-fault : (ss : List A) (k i m : ℕ) → Stops g view ss k i m → run g 1 (map view ss) (start z) ≡ fault k i m
   unfolding run
   stops-fault ss k i m x =
-      let goes = goes-beginning g view r a z room (x .front) .1 (x .begins) in
+      let goes = goes-beginning g view r pairs a z room (x .front) .1 (x .begins) in
       let st = goes .0 in
       let vs = map view (x .front) in
       let v = view (x .segment) in
@@ -66,9 +66,9 @@ module _ {A : Type 0} (g : Guide) (view : A → View) (r : Rising g) (a : Apart 
 
   no-beginning : (ss : List A) (k i m : ℕ) → run g 1 (map view ss) (start z) ≡ fault k i m → Beginning g view ss → ⊥
   no-beginning ss k i m h b =
-      let goes = goes-beginning g view r a z room ss .1 b in
+      let goes = goes-beginning g view r pairs a z room ss .1 b in
       fits-fault (goes .0) k i m (sym (goes .1) ∙ h)
 
   -- Nothing that comes later mends a refusal: no message begins with segments that are refused.
   pub nothing-mends : (ss rest : List A) (k i m : ℕ) → run g 1 (map view ss) (start z) ≡ fault k i m → Whole g view (ss ++ rest) → ⊥
-  nothing-mends ss rest k i m h w = no-beginning ss k i m h (front-begins g view r a z room ss rest (whole-begins g view (ss ++ rest) w))
+  nothing-mends ss rest k i m h w = no-beginning ss k i m h (front-begins g view r pairs a z room ss rest (whole-begins g view (ss ++ rest) w))

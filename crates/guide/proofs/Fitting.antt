@@ -1,5 +1,5 @@
 -- Placing goes through exactly if the segments are a beginning of a message; the tree is the only one; a front of a beginning is a
--- beginning. For every table that passes the tests `rising` and `apart`, over any type of segments.
+-- beginning. For every table that passes the tests `rising`, `mates` and `apart`, over any type of segments.
 use Prim.Native.Nat.{ℕ, _≤_}
 use mathlib.Core.Path.{_≡_, refl, sym, _∙_, ap}
 use mathlib.Core.Logic.{_↔_}
@@ -9,7 +9,7 @@ use Rattle.guide.specs.Nodes.{View, Guide}
 use Rattle.guide.specs.Tree.{none, Given, assigned, Beginning}
 use Rattle.guide.specs.Placing.{State, start, Ran, fits, fault, run, given}
 use Rattle.guide.specs.Runs.{Goes}
-use Rattle.guide.specs.Checks.{Rising, Apart}
+use Rattle.guide.specs.Checks.{Rising, Apart, Pairing}
 use Rattle.guide.proofs.Basics.{map-append}
 use Rattle.guide.proofs.Growing.{Begun, begun-none}
 use Rattle.guide.proofs.Meeting.{one-tree}
@@ -24,9 +24,9 @@ module _ {A : Type 0} (g : Guide) (view : A → View) where
   pub only-one : Rising g → Apart g → (ss : List A) (a b : Beginning g view ss) → a .tree ≡ b .tree
   only-one r x ss a b = one-tree g view r x (a .tree) (b .tree) (begun-of ss a) (begun-of ss b) (a .same ∙ sym (b .same))
 
-module _ {A : Type 0} (g : Guide) (view : A → View) (r : Rising g) (a : Apart g) (z : ℕ) (room : length g ≤ z) where
-  pub reached-all : (ss : List A) (st : State) → run g 1 (map view ss) (start z) ≡ fits st → Reached g view r none ss st
-  reached-all ss st h = reached g view r 1 ss none (start z) st (begun-none g view 0) (stands-start g z room) h
+module _ {A : Type 0} (g : Guide) (view : A → View) (r : Rising g) (pairs : Pairing g) (a : Apart g) (z : ℕ) (room : length g ≤ z) where
+  pub reached-all : (ss : List A) (st : State) → run g 1 (map view ss) (start z) ≡ fits st → Reached g view r pairs none ss st
+  reached-all ss st h = reached g view r pairs 1 ss none (start z) st (begun-none g view 0) (stands-start g z room) h
 
   goes-begins : (ss : List A) → Goes g view z ss → Beginning g view ss
   goes-begins ss h =
@@ -35,7 +35,7 @@ module _ {A : Type 0} (g : Guide) (view : A → View) (r : Rising g) (a : Apart 
 
   begins-goes : (ss : List A) → Beginning g view ss → Goes g view z ss
   begins-goes ss b =
-      let x = built g view r a z room (b .tree) (begun-of g view ss b) in
+      let x = built g view r pairs a z room (b .tree) (begun-of g view ss b) in
       (x .state, ap (λ (us : List A). run g 1 (map view us) (start z)) (sym (b .same)) ∙ x .ran)
 
   -- Placing goes through exactly if the segments are a beginning.
@@ -46,7 +46,7 @@ module _ {A : Type 0} (g : Guide) (view : A → View) (r : Rising g) (a : Apart 
   pub given-assigned
       : (ss : List A) (b : Beginning g view ss) → given g (map view ss) (start z) ≡ map (λ (x : Given A). x .node) (assigned (b .tree))
   given-assigned ss b =
-      let x = built g view r a z room (b .tree) (begun-of g view ss b) in
+      let x = built g view r pairs a z room (b .tree) (begun-of g view ss b) in
       ap (λ (us : List A). given g (map view us) (start z)) (sym (b .same)) ∙ x .gave
 
   front-goes : (ss rest : List A) → Goes g view z (ss ++ rest) → Goes g view z ss

@@ -9,12 +9,13 @@ use lib.Dec.{T, eqb, ltb, eqb→eq, ltb→lt}
 use borrow.Author.Tests.{ltb-false}
 use Rattle.cut.specs.Bytes.{bytesOf}
 use Rattle.element.specs.Plain.{same}
-use Rattle.guide.specs.Nodes.{Guide, message, node, required}
+use Rattle.guide.specs.Nodes.{Guide, message, node}
 use Rattle.guide.specs.Pricat.{pricat20d, pricat20c}
 use Rattle.guide.specs.Checks.{every, implies}
 use Rattle.guide.specs.Sheet.{isTag}
 use Rattle.guide.specs.Frames.{onlyFrame, later, once, framed, Once, Framed}
 use Rattle.guide.proofs.Basics.{T-true, and-left, and-right, or-cases, implied, eq-T, same-eq, every-at}
+use Rattle.guide.proofs.Required.{must-required}
 use Rattle.guide.proofs.Tables.{in-table}
 
 -- a node that has a tag stands in the table
@@ -29,13 +30,12 @@ tag-inside g x t n h = go (ltb n (length g)) refl
         absurd (rw (List·getD-eq-default g message l) at h)
 
 once-holds : (g : Guide) (t : ℕ) → T (once g t) → Once g t
-unfolding required
 once-holds g t h =
     let rest = and-right (eqb (node g t .parent) 0) _ h in
     record {
       root = eqb→eq _ _ (and-left (eqb (node g t .parent) 0) _ h);
       limit = eqb→eq _ _ (and-left (eqb (node g t .limit) 1) _ rest);
-      wanted = λ seen. and-right (eqb (node g t .limit) 1) _ rest;
+      wanted = λ seen. must-required g t seen (and-right (eqb (node g t .limit) 1) _ rest);
     }
 
 pub framed-holds : (g : Guide) (h z : ℕ) → T (framed g h z) → Framed g h z

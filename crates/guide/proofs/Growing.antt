@@ -1,5 +1,5 @@
--- A beginning grows by one segment at a time: a step makes a beginning, and every beginning that is not empty is made by a step. No table
--- test is needed for either.
+-- A beginning grows by one segment at a time: a step makes a beginning, and every beginning that is not empty is made by a step. The first
+-- asks of the table that the two rows of a pair share a place, so that a segment never makes a node of an earlier counter required; the second asks nothing.
 use Prim.Native.Nat.{ℕ, _+_, _≤_, _<_}
 use mathlib.Core.Path.{_≡_, refl, sym, ap}
 use mathlib.Core.Bool.{Bool, true, false}
@@ -7,11 +7,12 @@ use mathlib.Core.List.{[], _∷_, _++_, map, append-assoc}
 use native.Mathlib.Omega.{arith}
 use lib.Dec.{T, eqb}
 use borrow.Author.Tests.{eqb-true}
-use Rattle.guide.specs.Nodes.{View, Guide, node, takes}
+use Rattle.guide.specs.Nodes.{View, Guide, node, takes, paired}
 use Rattle.guide.specs.Tree.{Kids, none, then, Given, one, segs, giving, assigned, count, top, Limits, Due, Next, Closed, Open}
 use Rattle.guide.specs.Steps.{Claim, At, here, below, add, Done, Fresh}
 use Rattle.guide.proofs.Basics.{map-append, one-same, one-other}
-use Rattle.guide.proofs.Tables.{required-any}
+use Rattle.guide.specs.Checks.{Pairing}
+use Rattle.guide.proofs.Required.{required-more, complete-come}
 
 module _ {A : Type 0} where
   -- the new segment stands last
@@ -50,7 +51,7 @@ module _ {A : Type 0} (g : Guide) (view : A → View) where
   pub closed-open : (p : ℕ) (f : Kids A) → Closed g view p f → Open g view p f
   unfolding Closed Open
   closed-open p none c = tt
-  closed-open p (then l n s k) c = (c .0, c .1, closed-open n k (c .2), c .3, λ m e r i. c .4 m e r)
+  closed-open p (then l n s k) c = (c .0, c .1, closed-open n k (c .2), c .3, λ m e r i. complete-come g n k (c .4) m e r)
 
   closed-done : (p : ℕ) (f : Kids A) → Closed g view p f → Done g f
   unfolding Closed Done
@@ -75,7 +76,7 @@ module _ {A : Type 0} (g : Guide) (view : A → View) where
       record {
         opened = (o .0, o .1, c .opened, c .limits, c .due);
         limits = b .limits;
-        due = λ m e r i. b .due m e (required-any g m (count (then l n s j)) (count (then l n s k)) r) i;
+        due = λ m e r i. b .due m e (required-more g m (count (then l n s j)) (count (then l n s k)) (λ h. omega arith) r) i;
       }
 
   -- before the first child
@@ -84,18 +85,28 @@ module _ {A : Type 0} (g : Guide) (view : A → View) where
   begun-none p = record { opened = tt; limits = λ m e. omega arith; due = λ m e r i. absurd (omega arith) }
 
   -- a step from a beginning makes a beginning
-  pub sound : (p : ℕ) (f : Kids A) (n : ℕ) (s : A) → Begun p f → (d : At (Fresh g) p f n) → T (takes g n (view s)) → Begun p (add d s)
+  pub sound
+      : Pairing g → (p : ℕ) (f : Kids A) (n : ℕ) (s : A) → Begun p f → (d : At (Fresh g) p f n) → T (takes g n (view s))
+      → Begun p (add d s)
   unfolding Open
-  sound p f n s b (here h) t =
+  sound pairs p f n s b (here h) t =
       let next : Next g view p f n s = record { takes = t; under = h .might .under; order = h .might .order } in
       let empty = begun-none n in
       record {
         opened = (close p f (b .opened) (h .done), next, empty .opened, empty .limits, empty .due);
         limits = λ m e. count-within f n m (node g m .limit) (b .limits m e) (λ (q : n ≡ m). rw q at (h .room));
-        due = λ m e r i. omega (arith, h .due m e (required-any g m (count (then f n s none)) (count f) r) i);
+        due =
+            λ m e r i.
+            let other : T (paired g m) → n ≡ node g m .partner → ⊥ =
+            λ t q. omega (arith, pairs m t .counters, ap (λ (x : ℕ). node g x .counter) q)
+            in
+            let before =
+            required-more g m (count (then f n s none)) (count f) (λ t. omega (arith, one-other n (node g m .partner) (other t))) r
+            in
+            omega (arith, h .due m e before i);
       }
-  sound p f n s b (below {l = l} {x = x} {t = t} {k = k} d) u =
-      begun-again p l x t k (add d s) b (sound x k n s (begun-last p l x t k (b .opened)) d u)
+  sound pairs p f n s b (below {l = l} {x = x} {t = t} {k = k} d) u =
+      begun-again p l x t k (add d s) b (sound pairs x k n s (begun-last p l x t k (b .opened)) d u)
 
   -- what a beginning was before its last segment
   pub record Grown (p : ℕ) (f : Kids A) : Type 0 where
@@ -115,7 +126,7 @@ module _ {A : Type 0} (g : Guide) (view : A → View) where
       let due : Due g p (node g n .counter) l =
       λ m e r i.
       let other : (n ≡ m) → ⊥ = λ q. omega (arith, ap (λ (x : ℕ). node g x .counter) q) in
-      omega (arith, b .due m e (required-any g m (count l) (count (then l n s none)) r) i, one-other n m other)
+      omega (arith, b .due m e (required-more g m (count l) (count (then l n s none)) (λ h. omega arith) r) i, one-other n m other)
       in
       record {
         before = l;

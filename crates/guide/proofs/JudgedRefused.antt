@@ -11,7 +11,7 @@ use Rattle.cut.specs.declared.service.Syntax.{Syntax}
 use Rattle.cut.specs.Bytes.{bytesOf}
 use Rattle.cut.specs.Segments.{Segment}
 use Rattle.cut.specs.Messages.{Message, closeOf}
-use Rattle.guide.specs.Nodes.{Guide}
+use Rattle.guide.specs.Nodes.{Guide, numberOf}
 use Rattle.guide.specs.Pricat.{pricat20d, pricat20c}
 use Rattle.guide.specs.Page.{Page}
 use Rattle.guide.specs.Pages20d.{pageOf}
@@ -44,7 +44,7 @@ module _ (y : Syntax) (g : Guide) (pages : ℕ → Page) (u : ℕ) (p : Passes g
 
   stopped-refused
       : (t : Stopped y g pages 0 fresh (segmentsOf m))
-      → Refused y g pages m (t .number) (suc (length (t .given))) (t .segment .start) (t .node)
+      → Refused y g pages m (t .number) (suc (length (t .given))) (t .segment .start) (numberOf g (t .node))
   stopped-refused t =
       let z : length (t .given) + 0 ≡ length (t .given) = omega arith in
       let front : Through y g pages 0 fresh (segmentsIn (t .given)) = record { given = t .given; same = refl; faultless = t .faultless } in
@@ -74,13 +74,14 @@ module _ (y : Syntax) (g : Guide) (pages : ℕ → Page) (u : ℕ) (p : Passes g
       go : Through y g pages 0 fresh (segmentsOf m) ⊎ Stopped y g pages 0 fresh (segmentsOf m) → Refused y g pages m k i a n
       go (inl t) = ended t (isTag g (bytesOf "UNT") (kept y g pages fresh (t .given) .state .last)) refl (sym (through-judged y g pages m t) ∙ v)
       go (inr t) =
-          same (t .number) (suc (length (t .given))) (t .segment .start) (t .node) (sym (stopped-judged y g pages m t) ∙ v) (stopped-refused t)
+          same (t .number) (suc (length (t .given))) (t .segment .start) (numberOf g (t .node)) (sym (stopped-judged y g pages m t) ∙ v)
+          (stopped-refused t)
 
   refused-refuses : (k i a n : ℕ) → Refused y g pages m k i a n → judged y g pages m ≡ refuses k i a n
-  refused-refuses k i a n (at-segment before s after e free fault) =
+  refused-refuses k i a n (at-segment {n = x} before s after e free fault) =
       let t = free-iff y g pages u p h q before .1 free in
       let z : length (t .given) ≡ length (t .given) + 0 = omega arith in
-      let found : FaultAfter y g pages (segmentsIn (t .given)) s k n = rw (t .same) fault in
+      let found : FaultAfter y g pages (segmentsIn (t .given)) s k x = rw (t .same) fault in
       let stopped : Stopped y g pages 0 fresh (segmentsOf m) =
       record {
         given = t .given;
@@ -89,12 +90,12 @@ module _ (y : Syntax) (g : Guide) (pages : ℕ → Page) (u : ℕ) (p : Passes g
         split = e ∙ ap (λ (us : List Segment). us ++ (s ∷ after)) (sym (t .same));
         faultless = t .faultless;
         number = k;
-        node = n;
-        why = rw (sym z) (fault-found y g pages u p h q (t .given) (t .faultless) s k n .1 found);
+        node = x;
+        why = rw (sym z) (fault-found y g pages u p h q (t .given) (t .faultless) s k x .1 found);
       }
       in
       let length-is : length (t .given) ≡ length before = size (t .given) ∙ ap length (t .same) in
-      stopped-judged y g pages m stopped ∙ ap (λ (j : ℕ). refuses k (suc j) (s .start) n) length-is
+      stopped-judged y g pages m stopped ∙ ap (λ (j : ℕ). refuses k (suc j) (s .start) (numberOf g x)) length-is
   refused-refuses k i a n (at-end free w) =
       let t = free-iff y g pages u p h q (segmentsOf m) .1 free in
       let UNT = isTag g (bytesOf "UNT") (kept y g pages fresh (t .given) .state .last) in

@@ -1,4 +1,6 @@
 pub mod Basics
+pub mod Required
+pub mod Pairs
 pub mod Tables
 pub mod Growing
 pub mod Meeting
@@ -18,6 +20,7 @@ pub mod Links
 pub mod Clearing
 pub mod Face
 pub mod Sheets
+pub mod IntervalSheets
 pub mod PageSamples
 pub mod PageSamples20c
 pub mod TwoEditions

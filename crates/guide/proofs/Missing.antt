@@ -8,13 +8,14 @@ use lib.ListN.{length}
 use lib.Dec.{T, eqb, ltb, eqb→eq, ltb→lt, lt→ltb, T-not}
 use borrow.Author.Tests.{eq-eqb, ne-eqb, eqb-true, eqb-false}
 use Rattle.guide.specs.Nodes.{View, Guide, node, required}
-use Rattle.guide.specs.Tree.{Kids, none, then, count, All, Due, Open}
+use Rattle.guide.specs.Tree.{Kids, none, then, count, Limits, Complete, Due, Open}
 use Rattle.guide.specs.Steps.{Claim, Possible, At, here, below, Done, Lacks, LacksBefore, Lowest, Gap, inside, itself, Short, closing, earlier}
 use Rattle.guide.specs.Placing.{firstNode, Level, level, tally, lacking, missing}
 use Rattle.guide.specs.Choices.{orElse}
-use Rattle.guide.specs.Checks.{Rising}
+use Rattle.guide.specs.Checks.{Rising, Pairing}
 use Rattle.guide.proofs.Basics.{and-left, and-right, and-both, or-right, or-cases, eq-T, Search, found, nowhere, searched, orElse-some}
-use Rattle.guide.proofs.Tables.{required-any, in-table}
+use Rattle.guide.proofs.Tables.{in-table}
+use Rattle.guide.proofs.Required.{required-more, come-complete}
 use Rattle.guide.proofs.Meeting.{And}
 use Rattle.guide.proofs.Standing.{spine, Counted, Counts, rise}
 
@@ -67,7 +68,7 @@ module _ {A : Type 0} (g : Guide) where
     pub due : Due g p (node g n .counter) f
     pub done : Done g f
 
-module _ {A : Type 0} (g : Guide) (view : A → View) (r : Rising g) (cs : List ℕ) (n : ℕ) where
+module _ {A : Type 0} (g : Guide) (view : A → View) (r : Rising g) (pairs : Pairing g) (cs : List ℕ) (n : ℕ) where
   lacks-some : (p : ℕ) (f : Kids A) (m : ℕ) → Lacks g p f m → 0 < m
   lacks-some p f m l =
       let up = r .rises m (r .taking m (count f) (l .required)) in
@@ -76,17 +77,24 @@ module _ {A : Type 0} (g : Guide) (view : A → View) (r : Rising g) (cs : List 
   lacks-inside : (p : ℕ) (f : Kids A) (m : ℕ) → Lacks g p f m → m < length g
   lacks-inside p f m l = in-table g m (r .taking m (count f) (l .required))
 
+  -- what the counts make required in an instance is what its children do
+  required-from : (p : ℕ) (f : Kids A) → Counted g p f cs → (m : ℕ) → node g m .parent ≡ p → T (required g m (tally cs)) → T (required g m (count f))
+  required-from p f c m e = required-more g m (tally cs) (count f) (λ t. omega (arith, c (node g m .partner) (pairs m t .parents ∙ e)))
+
+  required-to : (p : ℕ) (f : Kids A) → Counted g p f cs → (m : ℕ) → node g m .parent ≡ p → T (required g m (count f)) → T (required g m (tally cs))
+  required-to p f c m e = required-more g m (count f) (tally cs) (λ t. omega (arith, c (node g m .partner) (pairs m t .parents ∙ e)))
+
   lacks-from : (p : ℕ) (f : Kids A) → Counted g p f cs → (m : ℕ) → T (lacking g cs n p m) → Lacks g p f m
   lacks-from p f c m h =
       let parts = lacking-parts g cs n p m h in
-      record { under = parts .0; required = required-any g m (tally cs) (count f) (parts .1); missing = sym (c m (parts .0)) ∙ parts .2 }
+      record { under = parts .0; required = required-from p f c m (parts .0) (parts .1); missing = sym (c m (parts .0)) ∙ parts .2 }
 
   -- a level that the segment closes
   closed-level : (p : ℕ) (f : Kids A) → Counted g p f cs → (p ≡ node g n .parent → ⊥) → Least (Lacks g p f) (firstNode g (lacking g cs n p))
   closed-level p f c d =
       least-of g (lacking g cs n p) (Lacks g p f) (lacks-from p f c)
       (λ m l.
-      lacking-make g cs n p m (l .under) (required-any g m (count f) (tally cs) (l .required)) (c m (l .under) ∙ l .missing)
+      lacking-make g cs n p m (l .under) (required-to p f c m (l .under) (l .required)) (c m (l .under) ∙ l .missing)
       (due-closed g cs n p m d))
       (lacks-some p f) (lacks-inside p f)
 
@@ -99,7 +107,7 @@ module _ {A : Type 0} (g : Guide) (view : A → View) (r : Rising g) (cs : List 
       (λ m h. record { lacks = lacks-from p f c m h; earlier = due-earlier g cs n p m (sym e) (lacking-parts g cs n p m h .3) })
       (λ m b.
       let l = b .lacks in
-      lacking-make g cs n p m (l .under) (required-any g m (count f) (tally cs) (l .required)) (c m (l .under) ∙ l .missing)
+      lacking-make g cs n p m (l .under) (required-to p f c m (l .under) (l .required)) (c m (l .under) ∙ l .missing)
       (or-right (not (eqb p (node g n .parent))) (ltb (node g m .counter) (node g n .counter)) (lt→ltb _ _ (b .earlier))))
       (λ m b. lacks-some p f m (b .lacks)) (λ m b. lacks-inside p f m (b .lacks))
 
@@ -115,30 +123,30 @@ module _ {A : Type 0} (g : Guide) (view : A → View) (r : Rising g) (cs : List 
   -- what the search finds in the open instances of f when all of them are closed, before it goes on to the rest
   data Closing (p : ℕ) (f : Kids A) (rest : List Level) : ℕ → Type 0 where
     gap : {m : ℕ} → 0 < m → Gap g p f m → Closing p f rest m
-    complete : All g p f → Done g f → Closing p f rest (missing g cs n rest)
+    complete : Complete g p f → Done g f → Closing p f rest (missing g cs n rest)
 
   closing-level
-      : (p c : ℕ) (f : Kids A) (rest : List Level) → Counted g p f cs → (p ≡ node g n .parent → ⊥) → Done g f
+      : (p c : ℕ) (f : Kids A) (rest : List Level) → Limits g p f → Counted g p f cs → (p ≡ node g n .parent → ⊥) → Done g f
       → Closing p f rest (missing g cs n (level p c ∷ rest))
   unfolding missing
-  closing-level p c f rest k d done = rw (ne-eqb p (node g n .parent) d) (go (closed-level p f k d))
+  closing-level p c f rest limits k d done = rw (ne-eqb p (node g n .parent) d) (go (closed-level p f k d))
     where
       go : {m : ℕ} → Least (Lacks g p f) m → Closing p f rest (orElse m (missing g cs n rest))
       go (least {m = m} i l) = rw (orElse-some m (missing g cs n rest) i) (gap i (itself done l))
-      go (absent never) = complete (λ m e q. present p f m e q (never m)) done
+      go (absent never) = complete (come-complete g p f pairs limits (λ m e q. present p f m e q (never m))) done
 
   closes
-      : (p : ℕ) (f : Kids A) (rest : List Level) → Open g view p f → Counts g p f cs → node g n .parent < p
+      : (p : ℕ) (f : Kids A) (rest : List Level) → Open g view p f → Limits g p f → Counts g p f cs → node g n .parent < p
       → Closing p f rest (missing g cs n (spine g p f rest))
   unfolding Open Counts Done
-  closes p none rest o c l = closing-level p 0 none rest c (λ q. omega arith) tt
-  closes p (then h x t k) rest o c l =
+  closes p none rest o limits c l = closing-level p 0 none rest limits c (λ q. omega arith) tt
+  closes p (then h x t k) rest o limits c l =
       let next = o .1 in
-      go (closes x k (level p (node g x .counter) ∷ rest) (o .2) (c .1) (omega (arith, rise g view r x _ (next .takes), next .under)))
+      go (closes x k (level p (node g x .counter) ∷ rest) (o .2) (o .3) (c .1) (omega (arith, rise g view r x _ (next .takes), next .under)))
     where
       go : {m : ℕ} → Closing x k (level p (node g x .counter) ∷ rest) m → Closing p (then h x t k) rest m
       go (gap i e) = gap i (inside e)
-      go (complete a d) = closing-level p (node g x .counter) (then h x t k) rest (c .0) (λ q. omega arith) (a, d)
+      go (complete a d) = closing-level p (node g x .counter) (then h x t k) rest limits (c .0) (λ q. omega arith) (a, d)
 
   module _ (F : Claim A) (mi : Possible g F) where
     -- what the search finds, where n has a place in f
@@ -170,7 +178,7 @@ module _ {A : Type 0} (g : Guide) (view : A → View) (r : Rising g) (cs : List 
     lacks-at p (then l x t k) rest (here h) o c =
         let next = o .1 in
         let up : node g n .parent < x = omega (arith, rise g view r x _ (next .takes), next .under, mi p (then l x t k) n h .under) in
-        go (closes x k (level p (node g x .counter) ∷ rest) (o .2) (c .1) up)
+        go (closes x k (level p (node g x .counter) ∷ rest) (o .2) (o .3) (c .1) up)
       where
         go : {m : ℕ} → Closing x k (level p (node g x .counter) ∷ rest) m → Lacked p (then l x t k) m
         go (gap i e) = lacked i (here (h, closing e))

@@ -66,7 +66,7 @@ module _ (y : Syntax) (g : Guide) (pages : ℕ → Page) (u : ℕ) (p : Passes g
       let xs = assigned (w .tree) in
       let same : segmentsIn xs ≡ ss = assigned-segments (w .tree) ∙ w .same in
       let goes = whole-iff g u p (seen y) ss .1 w in
-      let gave = given-assigned g (seen y) (p .rising) (p .apart) capacity (p .room) ss (whole-begins g (seen y) ss w) in
+      let gave = given-assigned g (seen y) (p .rising) (p .pairing) (p .apart) capacity (p .room) ss (whole-begins g (seen y) ss w) in
       let closes : Closes y g (length ss) (text y (m .first .bytes) 1 0) (lastOf (m .first) (m .rest)) =
       record { counted = x .counted; referred = x .referred }
       in

@@ -30,6 +30,7 @@ use Rattle.guide.specs.Answers.{Answer, placed, refused}
 use Rattle.guide.specs.Meaning.{Outcome, moved, no-node, too-many, short}
 use Rattle.guide.specs.Checks.{Rising, Apart}
 use Rattle.guide.proofs.Basics.{same-number}
+use Rattle.guide.proofs.Required.{complete-come}
 use Rattle.guide.proofs.Meeting.{And, Met, meet}
 use Rattle.guide.proofs.Outcomes.{at-map}
 
@@ -45,12 +46,12 @@ module _ {A : Type 0} (g : Guide) where
   -- where something is missing, not everything is there
   gap-all : (x : ℕ) (k : Kids A) (m : ℕ) → Gap g x k m → ((m : ℕ) → Lacks g x k m → ⊥) → Done g k → ⊥
   unfolding Done
-  gap-all x k m (inside {x = y} {k = j} e) a d = gap-all y j m e (λ m l. omega (arith, d .0 m (l .under) (l .required), l .missing)) (d .1)
+  gap-all x k m (inside {x = y} {k = j} e) a d = gap-all y j m e (λ m l. omega (arith, complete-come g y j (d .0) m (l .under) (l .required), l .missing)) (d .1)
   gap-all x k m (itself done l) a d = a m (l .holds)
 
   gap-done : (p : ℕ) (l : Kids A) (x : ℕ) (t : A) (k : Kids A) (m : ℕ) → Gap g x k m → Done g (then l x t k) → ⊥
   unfolding Done
-  gap-done p l x t k m e d = gap-all x k m e (λ m l. omega (arith, d .0 m (l .under) (l .required), l .missing)) (d .1)
+  gap-done p l x t k m e d = gap-all x k m e (λ m l. omega (arith, complete-come g x k (d .0) m (l .under) (l .required), l .missing)) (d .1)
 
   gap-one : (p : ℕ) (f : Kids A) (m k : ℕ) → Gap g p f m → Gap g p f k → m ≡ k
   gap-one p f m k (inside {x = x} {k = j} e) (inside h) = gap-one x j m k e h

@@ -13,7 +13,7 @@ use Rattle.guide.specs.Steps.{Claim, Possible, At, add, Fresh}
 use Rattle.guide.specs.Placing.{place, State, start, after, fits, fault, follow, run, give, given}
 use Rattle.guide.specs.Answers.{Answer, placed, refused}
 use Rattle.guide.specs.Meaning.{Outcome, moved}
-use Rattle.guide.specs.Checks.{Rising, Apart}
+use Rattle.guide.specs.Checks.{Rising, Apart, Pairing}
 use Rattle.guide.proofs.Basics.{map-append}
 use Rattle.guide.proofs.Growing.{assigned-add, segs-add, Begun, sound, Grown, grown}
 use Rattle.guide.proofs.Meeting.{meet}
@@ -80,7 +80,7 @@ module _ (g : Guide) where
       go (placed n) e ih = ap (λ (ns : List ℕ). n ∷ ns) (ih (after g (placed n) st) st′ e)
       go (refused k m) e ih = absurd (fits-fault st′ k i m (sym e))
 
-module _ {A : Type 0} (g : Guide) (view : A → View) (r : Rising g) where
+module _ {A : Type 0} (g : Guide) (view : A → View) (r : Rising g) (pairs : Pairing g) where
   fresh-might : Possible {A = A} g (Fresh g)
   fresh-might p f n h = h .might
 
@@ -98,7 +98,7 @@ module _ {A : Type 0} (g : Guide) (view : A → View) (r : Rising g) where
   reached i [] f st st′ b z h =
       record { tree = f; begun = b; stands = subst (λ (x : State). Stands g f x) (fits-same st st′ h) z; same = sym (append-nil (segs f)) }
   reached i (s ∷ ss) f st st′ b z h =
-      go (place g (view s) (st .last) (st .counts)) (outcome g view r f s st (b .opened) z) h (λ x y. reached (suc i) ss x y st′)
+      go (place g (view s) (st .last) (st .counts)) (outcome g view r pairs f s st (b .opened) z) h (λ x y. reached (suc i) ss x y st′)
     where
       go
           : (a : Answer) → Outcome g view f s a → follow i a (run g (suc i) (map view ss) (after g a st)) ≡ fits st′
@@ -106,7 +106,7 @@ module _ {A : Type 0} (g : Guide) (view : A → View) (r : Rising g) where
           → Reached f (s ∷ ss) st′
       go (placed n) (moved t d) e ih =
           let x =
-          ih (add d s) (after g (placed n) st) (sound g view 0 f n s b d t) (stands-add g view r (Fresh g) fresh-might f st n s d t (b .opened) z) e
+          ih (add d s) (after g (placed n) st) (sound g view pairs 0 f n s b d t) (stands-add g view r (Fresh g) fresh-might f st n s d t (b .opened) z) e
           in
           record {
             tree = x .tree;
@@ -134,7 +134,7 @@ module _ {A : Type 0} (g : Guide) (view : A → View) (r : Rising g) where
   unfolding run
   broken i [] f st k j m b z h = absurd (fits-fault st k j m h)
   broken i (s ∷ ss) f st k j m b z h =
-      go (place g (view s) (st .last) (st .counts)) (outcome g view r f s st (b .opened) z) h (λ x y. broken (suc i) ss x y k j m)
+      go (place g (view s) (st .last) (st .counts)) (outcome g view r pairs f s st (b .opened) z) h (λ x y. broken (suc i) ss x y k j m)
     where
       go
           : (a : Answer) → Outcome g view f s a → follow i a (run g (suc i) (map view ss) (after g a st)) ≡ fault k j m
@@ -142,7 +142,7 @@ module _ {A : Type 0} (g : Guide) (view : A → View) (r : Rising g) where
           → Broken f i (s ∷ ss) k j m
       go (placed n) (moved t d) e ih =
           let x =
-          ih (add d s) (after g (placed n) st) (sound g view 0 f n s b d t) (stands-add g view r (Fresh g) fresh-might f st n s d t (b .opened) z) e
+          ih (add d s) (after g (placed n) st) (sound g view pairs 0 f n s b d t) (stands-add g view r (Fresh g) fresh-might f st n s d t (b .opened) z) e
           in
           record {
             front = s ∷ x .front;
@@ -187,7 +187,7 @@ module _ {A : Type 0} (g : Guide) (view : A → View) (r : Rising g) where
     built-step
         : (f : Kids A) (n : ℕ) (s : A) (d : At (Fresh g) 0 f n) → Begun g view 0 f → T (takes g n (view s)) → Built f → Built (add d s)
     unfolding run given
-    built-step f n s d b t x = go (place g (view s) (x .state .last) (x .state .counts)) (outcome g view r f s (x .state) (b .opened) (x .stands)) refl
+    built-step f n s d b t x = go (place g (view s) (x .state .last) (x .state .counts)) (outcome g view r pairs f s (x .state) (b .opened) (x .stands)) refl
       where
         all : map view (segs (add d s)) ≡ map view (segs f) ++ (view s ∷ [])
         all = ap (map view) (segs-add d s) ∙ map-append view (segs f) (s ∷ [])

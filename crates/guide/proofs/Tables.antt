@@ -7,7 +7,7 @@ use native.Mathlib.Omega.{arith}
 use lib.ListN.{length, List·getD-eq-default}
 use lib.Dec.{T, eqb, ltb, leb, eqb→eq, ltb→lt, lt→ltb, le→leb, T-not, not-T}
 use borrow.Author.Tests.{eqb-true, eqb-false, ltb-false}
-use Rattle.guide.specs.Nodes.{View, Selector, Node, Guide, capacity, message, node, among, chosen, matches, samePlace, rival, takes, required, over}
+use Rattle.guide.specs.Nodes.{View, Selector, Node, Guide, capacity, message, node, among, chosen, matches, samePlace, rival, takes, paired}
 use Rattle.element.specs.Plain.{same}
 use Rattle.guide.specs.Checks.{
   lowerParent,
@@ -26,12 +26,16 @@ use Rattle.guide.specs.Checks.{
   distinct,
   earlier,
   ends,
+  mated,
+  mates,
   Rising,
   Under,
   child,
   deeper,
   Apart,
   Ends,
+  Mated,
+  Pairing,
   Passes,
 }
 use Rattle.guide.proofs.Basics.{
@@ -50,23 +54,7 @@ use Rattle.guide.proofs.Basics.{
   same-refl,
   every-at,
 }
-
--- whether a node is required, and the number of its passed limit, do not depend on what has come
-pub required-any : (g : Guide) (m : ℕ) (a b : ℕ → ℕ) → T (required g m a) → T (required g m b)
-unfolding required
-required-any g m a b h = h
-
-pub required-is : (g : Guide) (m : ℕ) (seen : ℕ → ℕ) → required g m seen ≡ node g m .must
-unfolding required
-required-is g m seen = refl
-
-pub over-is : (g : Guide) (n : ℕ) (seen : ℕ → ℕ) → over g n seen ≡ node g n .refusal
-unfolding over
-over-is g n seen = refl
-
-pub over-any : (g : Guide) (n : ℕ) (a b : ℕ → ℕ) → over g n a ≡ over g n b
-unfolding over
-over-any g n a b = refl
+use Rattle.guide.proofs.Required.{must-required, required-cases}
 
 -- a node that takes a segment stands in the table
 pub in-table : (g : Guide) (n : ℕ) → 0 < node g n .limit → n < length g
@@ -197,7 +185,9 @@ module _ (g : Guide) where
   unfolding rising
   rising-at h n l = every-at _ (length g) n h l
 
-  must-inside : (n : ℕ) → T (node g n .must) → n < length g
+  -- a node that can be required stands in the table
+  must-inside : (n : ℕ) → T (node g n .must || paired g n) → n < length g
+  unfolding paired
   must-inside n h = go (ltb n (length g)) refl
     where
       go : (b : Bool) → ltb n (length g) ≡ b → n < length g
@@ -211,15 +201,19 @@ module _ (g : Guide) where
       ltb→lt _ _ (implied (ltb 0 n || ltb 0 (node g n .limit)) (ltb (node g n .parent) n) (and-left (lowerParent g n) (mustTakes g n) (rising-at h n l)) k)
 
   pub rising-holds : T (rising g) → Rising g
-  unfolding required
   rising-holds h =
+      let takes : (n : ℕ) → T (node g n .must || paired g n) → 0 < node g n .limit =
+      λ n m.
+      let t = rising-at h n (must-inside n m) in
+      ltb→lt _ _ (implied (node g n .must || paired g n) (ltb 0 (node g n .limit)) (and-right (lowerParent g n) (mustTakes g n) t) m)
+      in
       record {
         below = λ n k l. parent-below h n l (or-left (ltb 0 n) (ltb 0 (node g n .limit)) (lt→ltb 0 n k));
         rises = λ n l. parent-below h n (in-table g n l) (or-right (ltb 0 n) (ltb 0 (node g n .limit)) (lt→ltb 0 (node g n .limit) l));
         taking =
-            λ n seen m.
-            let t = rising-at h n (must-inside n m) in
-            ltb→lt _ _ (implied (node g n .must) (ltb 0 (node g n .limit)) (and-right (lowerParent g n) (mustTakes g n) t) m);
+            λ n seen.
+            required-cases g n seen (λ m. takes n (or-left (node g n .must) (paired g n) m))
+            (λ m l. takes n (or-right (node g n .must) (paired g n) m));
       }
 
   -- walking up from the parent of m, past every instance that m is in
@@ -290,7 +284,7 @@ module _ (g : Guide) where
       go false e = refl
 
   pub ends-holds : (z : ℕ) → T (ends g z) → Ends g z
-  unfolding ends required
+  unfolding ends
   ends-holds z t =
       let rest = and-right (eqb (node g z .parent) 0) _ t in
       let each : (n : ℕ) → 0 < node g n .limit → T (not (eqb (node g n .parent) z) && earlier g z n) =
@@ -298,7 +292,7 @@ module _ (g : Guide) where
       in
       record {
         root = eqb→eq (node g z .parent) 0 (and-left (eqb (node g z .parent) 0) _ t);
-        wanted = λ seen. and-left (node g z .must) _ rest;
+        wanted = λ seen. must-required g z seen (and-left (node g z .must) _ rest);
         childless = λ n e l. T-not (eqb (node g n .parent) z) (and-left (not (eqb (node g n .parent) z)) (earlier g z n) (each n l)) (eq-T _ _ e);
         final =
             λ n e l d.
@@ -306,6 +300,39 @@ module _ (g : Guide) where
             (implied (eqb (node g n .parent) 0) _ (and-right (not (eqb (node g n .parent) z)) (earlier g z n) (each n l)) (eq-T _ _ e));
       }
 
-  -- a table that passes the three tests
-  pub passing : (z : ℕ) → T (rising g) → T (apart g) → T (ends g z) → length g ≤ capacity → Passes g z
-  passing z r a e l = record { rising = rising-holds r; apart = apart-holds (rising-holds r) a; ends = ends-holds z e; room = l }
+  mated-holds : (n q : ℕ) → T (mated g n q) → Mated g n q
+  unfolding samePlace
+  mated-holds n q t =
+      let x = node g q in
+      let y = node g n in
+      let back = and-left (paired g q && eqb (x .partner) n) _ t in
+      let rest = and-right (paired g q && eqb (x .partner) n) _ t in
+      let place = and-left (not (eqb q n) && samePlace x y) _ rest in
+      let one = and-right (not (eqb q n) && samePlace x y) _ rest in
+      let shared = and-right (not (eqb q n)) (samePlace x y) place in
+      record {
+        both = and-left (paired g q) (eqb (x .partner) n) back;
+        back = eqb→eq _ _ (and-right (paired g q) (eqb (x .partner) n) back);
+        other = λ e. T-not (eqb q n) (and-left (not (eqb q n)) (samePlace x y) place) (eq-T q n e);
+        parents = eqb→eq _ _ (and-left (eqb (x .parent) (y .parent)) (eqb (x .counter) (y .counter)) shared);
+        counters = eqb→eq _ _ (and-right (eqb (x .parent) (y .parent)) (eqb (x .counter) (y .counter)) shared);
+        once = eqb→eq _ _ (and-left (eqb (y .limit) 1) (not (y .must)) one);
+        free = λ m. T-not (y .must) (and-right (eqb (y .limit) 1) (not (y .must)) one) m;
+      }
+
+  pub mates-holds : T (mates g) → Pairing g
+  unfolding mates
+  mates-holds t n h =
+      let inside = must-inside n (or-right (node g n .must) (paired g n) h) in
+      mated-holds n (node g n .partner) (implied (paired g n) _ (every-at _ (length g) n t inside) h)
+
+  -- a table that passes the four tests
+  pub passing : (z : ℕ) → T (rising g) → T (apart g) → T (ends g z) → T (mates g) → length g ≤ capacity → Passes g z
+  passing z r a e m l =
+      record {
+        rising = rising-holds r;
+        apart = apart-holds (rising-holds r) a;
+        ends = ends-holds z e;
+        pairing = mates-holds m;
+        room = l;
+      }

@@ -6,7 +6,7 @@ use lib.ListN.{length}
 use Rattle.cut.specs.declared.service.Syntax.{Syntax}
 use Rattle.cut.specs.Bytes.{bytesOf}
 use Rattle.cut.specs.Messages.{Message, startOf, lastEnd, closeOf}
-use Rattle.guide.specs.Nodes.{Guide}
+use Rattle.guide.specs.Nodes.{Guide, numberOf}
 use Rattle.guide.specs.Page.{Page}
 use Rattle.guide.specs.Sheet.{isTag}
 use Rattle.guide.specs.Accepted.{segmentsOf}
@@ -26,7 +26,7 @@ module _ (y : Syntax) (g : Guide) (pages : ℕ → Page) (m : Message) where
 
   pub stopped-judged
       : (t : Stopped y g pages 0 fresh (segmentsOf m))
-      → judged y g pages m ≡ refuses (t .number) (suc (length (t .given))) (t .segment .start) (t .node)
+      → judged y g pages m ≡ refuses (t .number) (suc (length (t .given))) (t .segment .start) (numberOf g (t .node))
   unfolding judged
   stopped-judged t =
       let z : length (t .given) + 0 ≡ length (t .given) = omega arith in

@@ -5,7 +5,7 @@ use mathlib.Core.Bool.{Bool, true, false, not, _&&_, _||_}
 use mathlib.Core.List.{List, [], _∷_}
 use lib.ListN.{length}
 use lib.Dec.{T, eqb, ltb, leb}
-use Rattle.guide.specs.Nodes.{View, Selector, Node, Guide, capacity, node, among, samePlace, takes, required}
+use Rattle.guide.specs.Nodes.{View, Selector, Node, Guide, capacity, node, among, samePlace, takes, paired, required}
 use Rattle.element.specs.Plain.{same}
 
 -- the test holds of every number below k
@@ -18,12 +18,12 @@ abbrev pub implies : Bool → Bool → Bool
 implies true b = b
 implies false b = true
 
--- every node but the message has a parent of a lower number, the message takes no segment, and a required node takes segments
+-- every node but the message has a parent of a lower number, the message takes no segment, and a node that can be required takes segments
 abbrev pub lowerParent : Guide → ℕ → Bool
 lowerParent g n = implies (ltb 0 n || ltb 0 (node g n .limit)) (ltb (node g n .parent) n)
 
 abbrev pub mustTakes : Guide → ℕ → Bool
-mustTakes g n = implies (node g n .must) (ltb 0 (node g n .limit))
+mustTakes g n = implies (node g n .must || paired g n) (ltb 0 (node g n .limit))
 
 unfoldable pub rising : Guide → Bool
 rising g = every (λ n. lowerParent g n && mustTakes g n) (length g)
@@ -83,6 +83,15 @@ unfoldable pub ends : Guide → ℕ → Bool
 ends g z =
     eqb (node g z .parent) 0 && (node g z .must && every (λ n. not (eqb (node g n .parent) z) && earlier g z n) (length g))
 
+-- one of two rows that come in pairs: the other is another row of its place, whose partner it is; it comes once, and is not required by itself
+abbrev pub mated : Guide → ℕ → ℕ → Bool
+mated g n q =
+    (paired g q && eqb (node g q .partner) n)
+    && ((not (eqb q n) && samePlace (node g q) (node g n)) && (eqb (node g n .limit) 1 && not (node g n .must)))
+
+unfoldable pub mates : Guide → Bool
+mates g = every (λ n. implies (paired g n) (mated g n (node g n .partner))) (length g)
+
 -- what `rising` gives
 pub record Rising (g : Guide) : Type 0 where
   pub below : (n : ℕ) → 0 < n → n < length g → node g n .parent < n
@@ -109,9 +118,23 @@ pub record Ends (g : Guide) (z : ℕ) : Type 0 where
   pub childless : (n : ℕ) → node g n .parent ≡ z → 0 < node g n .limit → ⊥
   pub final : (n : ℕ) → node g n .parent ≡ 0 → 0 < node g n .limit → (n ≡ z → ⊥) → node g n .counter < node g z .counter
 
+-- what `mates` gives of one of two rows that come in pairs, and of the other
+pub record Mated (g : Guide) (n q : ℕ) : Type 0 where
+  pub both : T (paired g q)
+  pub back : node g q .partner ≡ n
+  pub other : q ≡ n → ⊥
+  pub parents : node g q .parent ≡ node g n .parent
+  pub counters : node g q .counter ≡ node g n .counter
+  pub once : node g n .limit ≡ 1
+  pub free : T (node g n .must) → ⊥
+
+abbrev pub Pairing : Guide → Type 0
+Pairing g = (n : ℕ) → T (paired g n) → Mated g n (node g n .partner)
+
 -- all that the theorems ask of a table whose messages end with node z
 pub record Passes (g : Guide) (z : ℕ) : Type 0 where
   pub rising : Rising g
   pub apart : Apart g
   pub ends : Ends g z
+  pub pairing : Pairing g
   pub room : length g ≤ capacity

@@ -1,5 +1,5 @@
 -- What a refusal of a message says. Document 01, 'Refusal numbers': "In a message the first segment with a fault decides; within it 12, 10, 11,
--- 13, 15 or 16, 14, then components left to right (18, 17, 19, 20 at each), then 21 or 22."
+-- 13, 15 or 16, 25 (request 2), 14, then components left to right (18, 17, 19, 20 at each), then 21 or 22."
 use Prim.Native.Nat.{ℕ, suc}
 use mathlib.Core.Path.{_≡_}
 use mathlib.Core.Bool.{true, false}
@@ -13,7 +13,7 @@ use Rattle.cut.specs.Messages.{Message, closeOf}
 use Rattle.element.specs.Clean.{allowedBytes, taggedBytes}
 use Rattle.element.specs.Digits.{countOf}
 use Rattle.element.specs.declared.counts.Count.the-variants.{Is}
-use Rattle.guide.specs.Nodes.{Guide}
+use Rattle.guide.specs.Nodes.{Guide, numberOf}
 use Rattle.guide.specs.Page.{Page}
 use Rattle.guide.specs.Content.{text, Holds}
 use Rattle.guide.specs.FirstFault.{First}
@@ -36,7 +36,7 @@ module _ (y : Syntax) (g : Guide) (pages : ℕ → Page) where
     pub comes : Outcome g (seen y) (begins .tree) s (placed n)
     pub holds : Holds y (pages n) (s .bytes)
 
-  -- the segment s, which comes after those before, has the fault with this number first, and this node is named
+  -- the segment s, which comes after those before, has the fault with this number first, and the node of this row is named
   pub data FaultAfter (before : List Segment) (s : Segment) : ℕ → ℕ → Type 0 where
     -- 12, "the segment is an unterminated piece"
     piece : s .piece ≡ true → FaultAfter before s 12 0
@@ -44,7 +44,7 @@ module _ (y : Syntax) (g : Guide) (pages : ℕ → Page) where
     byte : s .piece ≡ false → allowedBytes (s .bytes) ≡ false → FaultAfter before s 10 0
     -- 11, "not three capital letters followed by `+` or `'`"
     tag : s .piece ≡ false → allowedBytes (s .bytes) ≡ true → taggedBytes y (s .bytes) ≡ false → FaultAfter before s 11 0
-    -- 13; 15 or 16; 14: over the tree of the segments before
+    -- 13; 15 or 16; 25, "at the second DTM of one code"; 14: over the tree of the segments before
     place :
         {k n : ℕ} → Clean y s → (b : Beginning g (seen y) before) → Outcome g (seen y) (b .tree) s (refused k n) → FaultAfter before s k n
     -- 18, 17, 19, 20: against the page of the node
@@ -68,10 +68,10 @@ module _ (y : Syntax) (g : Guide) (pages : ℕ → Page) where
 
   -- the message is refused with number, segment, place and node
   pub data Refused (m : Message) : ℕ → ℕ → ℕ → ℕ → Type 0 where
-    -- "the first segment with a fault decides"
+    -- "the first segment with a fault decides"; the node is named by its number in the guide
     at-segment :
         {k n : ℕ} → (before : List Segment) (s : Segment) (after : List Segment) → segmentsOf m ≡ before ++ (s ∷ after) → FaultFree before →
-        FaultAfter before s k n → Refused m k (suc (length before)) (s .start) n
+        FaultAfter before s k n → Refused m k (suc (length before)) (s .start) (numberOf g n)
     -- 24, "message ends without UNT", "names the segment number after the last and the byte after it"
     at-end :
         FaultFree (segmentsOf m) → (seen y (lastOf (m .first) (m .rest)) .tag ≡ bytesOf "UNT" → ⊥) →

@@ -1,10 +1,11 @@
--- Document 01, 'Sheets on both sides of each rule': rows a to l, structure only.
+-- Document 01, 'Sheets on both sides of each rule': rows a to l, structure only; and sheets of request 2.
 use Prim.Native.Nat.{ℕ}
 use Prim.Native.String.{String}
+use mathlib.Core.Path.{_≡_}
 use mathlib.Core.Bool.{Bool, true, false, _&&_}
 use mathlib.Core.List.{List, [], _∷_, _++_, map}
 use lib.Dec.{eqb}
-use Rattle.guide.specs.Nodes.{View, Guide, capacity}
+use Rattle.guide.specs.Nodes.{View, Guide, capacity, numberOf}
 use Rattle.cut.specs.Bytes.{bytesOf}
 use Rattle.guide.specs.Tree.{Beginning}
 use Rattle.guide.specs.Placing.{Ran, fits, fault, run, start}
@@ -26,9 +27,9 @@ pub data Said : Type 0 where
   fitting : Said
   refusal : ℕ → ℕ → ℕ → Said
 
-abbrev pub said : Ran → Said
-said (fits st) = fitting
-said (fault k i n) = refusal k i n
+abbrev pub said : Guide → Ran → Said
+said g (fits st) = fitting
+said g (fault k i n) = refusal k i (numberOf g n)
 
 pub record Sheet : Type 0 where
   pub segments : List View
@@ -66,17 +67,50 @@ a-to-l =
     ∷ sheet (H ++ (with "PGI" "Z01" ∷ bare "UNT" ∷ [])) (refusal 14 8 23)
     ∷ []
 
+-- a price of the first kind, segment 9; then the codes of its DTM, and what comes behind
+abbrev pub P : List View
+P = H ++ (with "PGI" "9" ∷ bare "LIN" ∷ bare "PRI" ∷ [])
+
+abbrev pub interval : List String → List View → List View
+interval codes rest = P ++ (map (with "DTM") codes ++ rest)
+
+-- Request 2, where n is the interval's node, and `next` is said of a price right behind one that has 163 alone
+abbrev pub intervals : ℕ → Said → List Sheet
+intervals n next =
+    -- "a price without any interval stays allowed"; "both must be, once each", in either order, in each price
+    sheet (interval [] (bare "UNT" ∷ [])) fitting
+    ∷ sheet (interval ("163" ∷ "164" ∷ []) (bare "UNT" ∷ [])) fitting
+    ∷ sheet (interval ("164" ∷ "163" ∷ []) (bare "UNT" ∷ [])) fitting
+    ∷ sheet (interval ("163" ∷ "164" ∷ []) (bare "LIN" ∷ bare "PRI" ∷ with "DTM" "164" ∷ with "DTM" "163" ∷ bare "UNT" ∷ [])) fitting
+    -- "14 with the interval's node at the segment that closes a price with only one": UNT, LIN, the other kind's PGI
+    ∷ sheet (interval ("163" ∷ []) (bare "UNT" ∷ [])) (refusal 14 11 n)
+    ∷ sheet (interval ("164" ∷ []) (bare "UNT" ∷ [])) (refusal 14 11 n)
+    ∷ sheet (interval ("163" ∷ []) (bare "LIN" ∷ bare "PRI" ∷ with "DTM" "164" ∷ [])) (refusal 14 11 n)
+    ∷ sheet (interval ("164" ∷ []) (bare "LIN" ∷ [])) (refusal 14 11 n)
+    ∷ sheet (interval ("163" ∷ []) (with "PGI" "Z01" ∷ [])) (refusal 14 11 n)
+    -- a segment that itself gets 13 or 15 gives that number
+    ∷ sheet (interval ("163" ∷ []) (bare "PRI" ∷ with "DTM" "164" ∷ [])) next
+    ∷ sheet (interval ("164" ∷ []) (bare "CUX" ∷ [])) (refusal 13 11 0)
+    -- "25 at the second DTM of one code, after 15": a third is 15
+    ∷ sheet (interval ("163" ∷ "163" ∷ []) []) (refusal 25 11 n)
+    ∷ sheet (interval ("164" ∷ "164" ∷ []) []) (refusal 25 11 n)
+    ∷ sheet (interval ("163" ∷ "164" ∷ "163" ∷ []) []) (refusal 15 12 n)
+    ∷ sheet (interval ("163" ∷ "164" ∷ "164" ∷ []) []) (refusal 15 12 n)
+    -- what just stops may still go on
+    ∷ sheet (interval ("164" ∷ []) []) fitting
+    ∷ []
+
 -- what placing says of each sheet
 abbrev pub saidOf : Guide → List Sheet → List Said
-saidOf g sheets = map (λ (x : Sheet). said (run g 1 (x .segments) (start capacity))) sheets
+saidOf g sheets = map (λ (x : Sheet). said g (run g 1 (x .segments) (start capacity))) sheets
 
 abbrev pub expectedOf : List Sheet → List Said
 expectedOf sheets = map (λ (x : Sheet). x .expected) sheets
 
--- what the row says over trees: the segments are a beginning, or the refusal's row holds where it says
+-- what the sheet says over trees: the segments are a beginning, or the refusal's row holds where it says, of a row with the node's number
 abbrev pub Means : Guide → List View → Said → Type 0
 Means g ss fitting = Beginning g (λ v. v) ss
-Means g ss (refusal k i n) = Stops g (λ v. v) ss k i n
+Means g ss (refusal k i n) = (m : ℕ) × (numberOf g m ≡ n) × Stops g (λ v. v) ss k i m
 
 abbrev pub AllMean : Guide → List Sheet → Type 0
 AllMean g [] = Unit {0}

@@ -1,9 +1,9 @@
--- What can come next in a beginning, and why a segment cannot. The words of refusals 13, 14 and 15 in document 01, over trees.
+-- What can come next in a beginning, and why a segment cannot. The words of refusals 13, 14 and 15 in document 01 and of 25 in request 2, over trees.
 use Prim.Native.Nat.{ℕ, _≤_, _<_}
 use mathlib.Core.Path.{_≡_}
 use lib.Dec.{T}
 use Rattle.guide.specs.Nodes.{Guide, node, required, over}
-use Rattle.guide.specs.Tree.{Kids, none, then, count, top, All, Due}
+use Rattle.guide.specs.Tree.{Kids, none, then, count, top, Complete, Due}
 
 -- what may be said of node n in an instance of p with the children f so far
 abbrev pub Claim : Type 0 → Type 1
@@ -33,7 +33,7 @@ module _ {A : Type 0} (g : Guide) where
   -- what is open inside f lacks nothing
   unfoldable pub Done : Kids A → Type 0
   Done none = Unit {0}
-  Done (then l n s k) = All g n k × Done k
+  Done (then l n s k) = Complete g n k × Done k
 
   -- n can come here: its limit is not reached, and no required node of what it closes or of an earlier counter is missing
   pub record Fresh (p : ℕ) (f : Kids A) (n : ℕ) : Type 0 where
@@ -42,7 +42,7 @@ module _ {A : Type 0} (g : Guide) where
     pub due : Due g p (node g n .counter) f
     pub done : Done f
 
-  -- "it can, but its limit is passed": k is the number given
+  -- "it can, but its limit is passed": k is the number given, 15 or 16, or 25 at "the second DTM of one code" where the other code has not come
   pub record Full (k : ℕ) (p : ℕ) (f : Kids A) (n : ℕ) : Type 0 where
     pub might : Might p f n
     pub full : node g n .limit ≤ count f n

@@ -5,7 +5,7 @@ use mathlib.Core.Path.{_≡_}
 use mathlib.Core.Bool.{Bool, true, false}
 use mathlib.Core.List.{List, [], _∷_, _++_}
 use lib.Dec.{T, eqb}
-use Rattle.guide.specs.Nodes.{View, Guide, node, takes, required}
+use Rattle.guide.specs.Nodes.{View, Guide, node, takes, paired, required}
 
 -- the children of an instance, in order: those before the last, and then the last: its node, its segment and its own children
 pub data Kids (A : Type 0) : Type 0 where
@@ -52,9 +52,19 @@ module _ {A : Type 0} (g : Guide) where
 
   -- "A required node must occur in each instance of its parent, and at the root"
   abbrev pub All : ℕ → Kids A → Type 0
-  All p f = (m : ℕ) → node g m .parent ≡ p → T (required g m (count f)) → 1 ≤ count f m
+  All p f = (m : ℕ) → node g m .parent ≡ p → T (node g m .must) → 1 ≤ count f m
 
-  -- "no required node .. of an earlier counter is missing": none of a counter below c
+  -- request 2: "Where either is given, both must be, once each; a price without any interval stays allowed": each of the two codes as often as the
+  -- other, at most once
+  abbrev pub Pairs : ℕ → Kids A → Type 0
+  Pairs p f = (m : ℕ) → node g m .parent ≡ p → T (paired g m) → (count f m ≡ count f (node g m .partner)) × (count f m ≤ 1)
+
+  -- a closed instance of p lacks nothing
+  pub record Complete (p : ℕ) (f : Kids A) : Type 0 where
+    pub all : All p f
+    pub pairs : Pairs p f
+
+  -- "no required node .. of an earlier counter is missing": none of a counter below c; one of two codes makes the other required
   abbrev pub Due : ℕ → ℕ → Kids A → Type 0
   Due p c f = (m : ℕ) → node g m .parent ≡ p → T (required g m (count f)) → node g m .counter < c → 1 ≤ count f m
 
@@ -69,19 +79,19 @@ module _ {A : Type 0} (g : Guide) (view : A → View) where
   -- the children of an instance of p, each of them closed
   unfoldable pub Closed : ℕ → Kids A → Type 0
   Closed p none = Unit {0}
-  Closed p (then l n s k) = Closed p l × Next p l n s × Closed n k × Limits g n k × All g n k
+  Closed p (then l n s k) = Closed p l × Next p l n s × Closed n k × Limits g n k × Complete g n k
 
   -- the same where the last child may still be open, and so its last child
   unfoldable pub Open : ℕ → Kids A → Type 0
   Open p none = Unit {0}
   Open p (then l n s k) = Closed p l × Next p l n s × Open n k × Limits g n k × Due g n (top g k) k
 
-  -- the segments ss can be given nodes so that order, status and limits hold
+  -- the segments ss can be given nodes so that order, status, limits and pairs hold
   pub record Whole (ss : List A) : Type 0 where
     pub tree : Kids A
     pub closed : Closed 0 tree
     pub limits : Limits g 0 tree
-    pub all : All g 0 tree
+    pub complete : Complete g 0 tree
     pub same : segs tree ≡ ss
 
   -- "A beginning of a message fits if its segments can be so assigned, limits hold, and no required node of a closed instance or of an
