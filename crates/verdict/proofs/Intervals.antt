@@ -70,7 +70,7 @@ module _ (y : Syntax) (g : Guide) where
     -- the nodes that placing gives are the tree's
     pub nodes-tree : nodesOf y g ss ≡ nodesIn (assigned (w .tree))
     unfolding nodesOf
-    nodes-tree = given-assigned g (seen y) (p .rising) (p .apart) capacity (p .room) ss (whole-begins g (seen y) ss w)
+    nodes-tree = given-assigned g (seen y) (p .rising) (p .pairing) (p .apart) capacity (p .room) ss (whole-begins g (seen y) ss w)
 
     -- "Where BGM 1001 is not Z04"
     pub compared-iff : (forIntervals y g (nodesOf y g ss) ss ≡ false) ↔ Compared y (withTag g (bytesOf "BGM") (assigned (w .tree)))
