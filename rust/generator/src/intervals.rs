@@ -6,7 +6,7 @@ use crate::sheet::{interval, Segment};
 
 /// Another interval in place of the one that a price has or has not, now and then with one more fault at its end or behind it.
 pub fn wrong_interval(random: &mut Random, all: &mut Vec<Segment>) {
-    let prices = first_kind(all);
+    let prices = first_kind_prices(all);
     if prices.is_empty() {
         return wrong_end(random, all);
     }
@@ -30,8 +30,8 @@ pub fn wrong_interval(random: &mut Random, all: &mut Vec<Segment>) {
     recount(all);
 }
 
-/// The prices of the first kind: the second has no interval.
-fn first_kind(all: &[Segment]) -> Vec<usize> {
+/// The second kind has no interval.
+fn first_kind_prices(all: &[Segment]) -> Vec<usize> {
     let mut is_first = false;
     let mut prices = Vec::new();
     for (at, segment) in all.iter().enumerate() {
