@@ -4,7 +4,8 @@
 It judges nothing: verdict, segment, node and prices are taken from the tables as they stand. It adds up byte places
 (a segment ends at each `'` that is not released) and puts the lines together in document 01's print.
 
-places.py FOLDER writes FOLDER/stdin, FOLDER/sheetcheck.stdout (M, P and E lines), for each of the other deliveries
+places.py FOLDER writes FOLDER/stdin, FOLDER/sheetcheck.stdout (M, P and E lines), the same of "Interval pairs" as
+FOLDER/pairs/stdin and FOLDER/pairs/sheetcheck.stdout, for each of the other deliveries
 FOLDER/other/NN.edi, NN.judge, NN.out, and FOLDER/judge.stdout: the M lines of the one delivery, and behind them for each
 of the others a D line and its NN.judge, as crates/vectors_judge prints them.
 """
@@ -71,17 +72,24 @@ def write(path, lines):
     path.write_bytes(b"".join(line + b"\n" for line in lines))
 
 
-def main():
-    tables = (pathlib.Path(__file__).parent / "VECTORS.md").read_text(encoding="ascii")
-    first, _, second = tables.partition("\n## Other deliveries")
-    folder = pathlib.Path(sys.argv[1])
-    (folder / "other").mkdir(parents=True, exist_ok=True)
-    delivery, lines = one_delivery(table(first))
+def write_delivery(folder, part):
+    """Writes the delivery of a section and its lines, and gives the lines."""
+    delivery, lines = one_delivery(table(part))
     assert len(delivery) <= 65536, "more than the programs read"
+    folder.mkdir(parents=True, exist_ok=True)
     (folder / "stdin").write_bytes(delivery)
     write(folder / "sheetcheck.stdout", lines)
-    judged = [line for line in lines if line.startswith(b"M")]
-    for number, cell, printed, _ in table(second):
+    return lines
+
+
+def main():
+    text = (pathlib.Path(__file__).parent / "VECTORS.md").read_text(encoding="ascii")
+    sections = {part.partition("\n")[0]: part for part in text.split("\n## ")}
+    folder = pathlib.Path(sys.argv[1])
+    (folder / "other").mkdir(parents=True, exist_ok=True)
+    judged = [line for line in write_delivery(folder, sections["One delivery"]) if line.startswith(b"M")]
+    write_delivery(folder / "pairs", sections["Interval pairs"])
+    for number, cell, printed, _ in table(sections["Other deliveries"]):
         stem = folder / "other" / number.zfill(2)
         lines = [raw(line) for line in re.findall("`[^`]*`", printed)]
         stem.with_suffix(".edi").write_bytes(raw(cell))

@@ -17,6 +17,7 @@
  *   17 component missing      18 component not used      19 wrong format      20 code not on its page
  *   21 UNT count or reference differs            22 LIN number is not the next
  *   23 position agrees with an earlier one       24 message ends without UNT
+ *   25 DTM/163 or DTM/164 a second time under one price (one without the other is 14)
  *   30 prices or article asked of a refused message
  *   31 no message begins at the place asked      32 the message has no price with that number
  */
@@ -87,7 +88,7 @@ struct schaumtruhe_totals schaumtruhe_survey(const uint8_t *delivery, size_t len
 struct schaumtruhe_next schaumtruhe_next_message(const uint8_t *delivery, size_t length, size_t from);
 
 /* The verdict of the message that begins at `at`: 0 if it is accepted.
- * Refused: 1, 2 or 31, and the rest is 0; or 10 to 24 with segment, place and node. */
+ * Refused: 1, 2 or 31, and the rest is 0; or 10 to 25 with segment, place and node. */
 struct schaumtruhe_judged schaumtruhe_judge_at(const uint8_t *delivery, size_t length, size_t at);
 
 /* The prices of the message that begins at `at`, from the k-th on (k from 0), SCHAUMTRUHE_PRICE numbers to a price, as many as fit whole into

@@ -123,8 +123,7 @@ fn micros(time: Duration) -> f64 {
 /// The stack of each call on the long delivery of a kind.
 fn stacks(name: &str, libraries: &[&'static (dyn Library + Sync)]) {
     let d = kind(name, SIZES[1], 7);
-    let at =
-        libraries[0].next_message(&d, d.len() / 3).or(libraries[0].next_message(&d, 0)).map_or(0, |(start, _)| start);
+    let at = libraries[0].next_message(&d, d.len() / 3).or(libraries[0].next_message(&d, 0)).map_or(0, |(start, _)| start);
     for library in libraries {
         let mut row = vec![0i64; 800];
         let survey = stack_of(|| ignore(library.survey(&d)));

@@ -24,6 +24,8 @@ pub struct Tally {
     price_refusals: Counts,
     article_refusals: Counts,
     nodes: Counts,
+    /// What 14 names, by DE0057 and node.
+    missing: BTreeMap<String, u64>,
     /// Accepted messages by their DE0057.
     editions: BTreeMap<String, u64>,
 }
@@ -50,6 +52,9 @@ impl Tally {
             Verdict::Refused { number, node, .. } => {
                 count(&mut self.verdicts, *number as usize);
                 count(&mut self.nodes, *node);
+                if *number == 14 {
+                    *self.missing.entry(format!("{} {node}", edition(&d[at..]))).or_default() += 1;
+                }
             }
         }
     }
@@ -76,6 +81,7 @@ impl Tally {
         println!("judge_at (0 accepted): {}", counted(&self.verdicts));
         println!("judge_at accepted by edition: {}", counted(&self.editions));
         println!("nodes named: {}", counted(&self.nodes));
+        println!("nodes named by 14, with their edition: {}", counted(&self.missing));
         println!("prices (0 given): {}", counted(&self.price_refusals));
         println!("article (0 given): {}", counted(&self.article_refusals));
     }

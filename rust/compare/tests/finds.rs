@@ -12,6 +12,8 @@ enum Wrong {
     NextMessage,
     Verdict,
     Edition,
+    OneTwice,
+    OneAlone,
     Written,
     RowBehind,
     RowOnRefusal,
@@ -43,6 +45,13 @@ impl Library for Altered {
         match Plain.judge_at(d, at) {
             Verdict::Refused { number, segment, place, .. } if self.0 == Wrong::Verdict => {
                 Verdict::Refused { number, segment, place, node: 0 }
+            }
+            Verdict::Refused { number: 25, segment, place, node } if self.0 == Wrong::OneTwice => {
+                Verdict::Refused { number: 15, segment, place, node }
+            }
+            // In 2.0c node 21 is a LIN, which 14 may name as well.
+            Verdict::Refused { number: 14, segment, place, node: 21 } if self.0 == Wrong::OneAlone => {
+                Verdict::Refused { number: 14, segment, place, node: 19 }
             }
             verdict => verdict,
         }
@@ -88,7 +97,7 @@ fn as_20d(d: &[u8]) -> Vec<u8> {
 fn differences(other: &dyn Library) -> usize {
     let mut places = Places::new();
     let mut tally = Tally::default();
-    (0..300)
+    (0..600)
         .filter(|&seed| {
             let d = generator::delivery(seed);
             d.len() < 100_000 && compare_delivery(&Plain, other, &d, &mut Random::new(seed), &mut places, &mut tally).is_err()
@@ -105,7 +114,7 @@ fn a_right_library_shows_none() {
 #[test]
 fn a_wrong_call_is_found() {
     use Wrong::*;
-    for wrong in [Survey, NextMessage, Verdict, Edition, Written, RowBehind, RowOnRefusal, Article, Segments] {
+    for wrong in [Survey, NextMessage, Verdict, Edition, OneTwice, OneAlone, Written, RowBehind, RowOnRefusal, Article, Segments] {
         assert!(differences(&Altered(wrong)) > 10);
     }
 }

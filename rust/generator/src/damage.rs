@@ -2,11 +2,12 @@
 //! the readers decide what the message gets.
 
 use crate::differences::{description, only_in_one, other_edition, second_price, unknown_edition};
+use crate::intervals::wrong_interval;
 use crate::random::Random;
 use crate::sheet::{exact_text, Segment};
 
 /// The numbers a fault can be made for. 12 needs the end of the delivery and 16 cannot come.
-pub const FAULTS: [u32; 13] = [10, 11, 13, 14, 15, 17, 18, 19, 20, 21, 22, 23, 24];
+pub const FAULTS: [u32; 14] = [10, 11, 13, 14, 15, 17, 18, 19, 20, 21, 22, 23, 24, 25];
 
 pub fn damage(random: &mut Random, all: &mut Vec<Segment>, number: u32) {
     match number {
@@ -22,6 +23,7 @@ pub fn damage(random: &mut Random, all: &mut Vec<Segment>, number: u32) {
         21 => wrong_end(random, all),
         22 => wrong_number(random, all),
         23 => agree(random, all),
+        25 => wrong_interval(random, all),
         _ => no_end(random, all),
     }
 }
@@ -107,6 +109,9 @@ fn wrong_place(random: &mut Random, all: &mut Vec<Segment>) {
 }
 
 fn leave_out(random: &mut Random, all: &mut Vec<Segment>) {
+    if random.once_in(2) {
+        return wrong_interval(random, all);
+    }
     let tags: &[&str] = random.pick(&[&["BGM"][..], &["DTM"], &["RFF"], &["NAD"], &["COM"], &["LIN"], &["PRI"], &["PRI", "LIN"]]);
     let Some(at) = one_of(random, all, tags) else {
         drop(all.remove(random.between(1, 5.min(all.len() - 2))));
@@ -252,7 +257,7 @@ fn wrong_code(random: &mut Random, all: &mut [Segment]) {
     }
 }
 
-fn wrong_end(random: &mut Random, all: &mut [Segment]) {
+pub fn wrong_end(random: &mut Random, all: &mut [Segment]) {
     let count = all.len();
     let last = all.last_mut().expect("a message ends with UNT");
     match random.below(8) {

@@ -5,6 +5,7 @@ mod damage;
 mod delivery;
 mod differences;
 mod edition;
+mod intervals;
 mod kinds;
 mod random;
 mod sheet;

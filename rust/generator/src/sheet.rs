@@ -308,11 +308,15 @@ fn price(random: &mut Random, shape: Shape, all: &mut Vec<Segment>) {
         let unit = random.pick(&["H87", "DAY"]);
         all.push(range(random, unit));
     }
-    let intervals = if shape.is_z04 { 2 } else { [0, 0, 0, 1, 2, 2][random.below(6)] * shape.is_rich as usize };
-    for at in 0..intervals {
-        let code: &[u8] = if at == 0 { b"163" } else { b"164" };
-        all.push(Segment::new("DTM", &[&[code, &date(random), b"303"]]));
+    if shape.is_z04 || (shape.is_rich && random.once_in(2)) {
+        let codes = if random.once_in(4) { ["164", "163"] } else { ["163", "164"] };
+        all.extend(codes.map(|code| interval(random, code)));
     }
+}
+
+/// One end of the interval for which a price holds.
+pub fn interval(random: &mut Random, code: &str) -> Segment {
+    Segment::new("DTM", &[&[code.as_bytes(), &date(random), b"303"]])
 }
 
 fn range(random: &mut Random, unit: &str) -> Segment {

@@ -110,6 +110,13 @@ pub fn tag_of(head: u32) -> u32 {
     head & 0x00ff_ffff
 }
 
+/// Three capital letters followed by `+` or `'`.
+#[inline(always)]
+pub fn is_well_begun(head: u32) -> bool {
+    let [a, b, c, fourth] = head.to_le_bytes();
+    a.is_ascii_uppercase() && b.is_ascii_uppercase() && c.is_ascii_uppercase() && (fourth == b'+' || fourth == b'\'')
+}
+
 /// Finds the bytes that mean something, sixty-four at a time: a bit for every byte whose class is not `Text`.
 #[derive(Clone, Copy)]
 pub struct Scanner<'a> {

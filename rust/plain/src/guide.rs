@@ -18,6 +18,9 @@ const PARENT: [usize; NODES] = [0, 0, 0, 0, 0, 0, 0, 0, 0, 0, 0, 10, 10, 12, 0, 
 const COUNTER: [u32; NODES] =
     [0, 10, 20, 30, 30, 30, 60, 60, 60, 90, 90, 110, 150, 170, 220, 590, 1310, 1330, 1340, 1560, 1600, 1610, 590, 1310, 1560, 1600, 2400];
 
+/// DTM/163 or 164 under a price.
+pub const INTERVAL: usize = 21;
+
 const REQUIRED: Set = set(&[1, 2, 4, 8, 9, 10, 13, 16, 23, 24, 26]);
 
 /// For each last node the nodes that can come next, limits and missing nodes ignored.
@@ -192,7 +195,7 @@ fn dates(code: u64) -> Set {
         C492 => bit(3),
         C137 => bit(4),
         C157 => bit(5),
-        C163 | C164 => bit(21),
+        C163 | C164 => bit(INTERVAL),
         _ => 0,
     }
 }

@@ -7,7 +7,7 @@ use crate::agree::{with_component, Position, Positions, FIRST_HASH};
 use crate::answers::{Judged, Price, Prices, Verdict};
 use crate::cut::{self, Class, Part, Scanner, UNH, UNT, UNZ};
 use crate::edition::{Edition, OF_20D};
-use crate::guide::{self, bit, AFTER, BELOW, NEEDED, NODES};
+use crate::guide::{self, bit, AFTER, BELOW, INTERVAL, NEEDED, NODES};
 use crate::pages::Rule;
 use crate::text::{self, key, Number, Room};
 
@@ -32,6 +32,8 @@ struct Sheet<'a, P> {
     seen: guide::Set,
     /// Meant for nodes in `seen` only.
     counts: [u32; NODES],
+    /// The code of the last interval.
+    interval: u64,
     segment: usize,
     reference: Part,
     last_reference: Part,
@@ -81,6 +83,7 @@ impl<'a, P: Prices> Sheet<'a, P> {
             last: 0,
             seen: 0,
             counts: [0; NODES],
+            interval: 0,
             segment: 0,
             reference: NO_PART,
             last_reference: NO_PART,
@@ -119,7 +122,7 @@ impl<'a, P: Prices> Sheet<'a, P> {
     /// Judges one segment and gives the place behind it.
     #[inline(always)]
     fn segment(&mut self, scanner: &mut Scanner, at: usize, head: u32) -> Result<usize, Fault> {
-        if !is_well_begun(head) {
+        if !cut::is_well_begun(head) {
             return Err(Fault { number: 11, node: 0, from: at });
         }
         let first = first_part(scanner, at, head);
@@ -127,7 +130,7 @@ impl<'a, P: Prices> Sheet<'a, P> {
             return Err(Fault { number: 10, node: 0, from: first.to });
         }
         let node = self.choose(cut::tag_of(head), &first)?;
-        self.put(node, first.to)?;
+        self.put(node, &first)?;
         self.before(node);
         let end = self.components(scanner, node, first)?;
         self.after(node, at, end)?;
@@ -144,13 +147,20 @@ impl<'a, P: Prices> Sheet<'a, P> {
         Ok(nodes.trailing_zeros() as usize)
     }
 
-    /// Puts the segment at its node: limits (15, 16), then missing nodes (14).
+    /// Puts the segment at its node: limits (15, 16), an interval's code once (25), then missing nodes (14).
     #[inline(always)]
-    fn put(&mut self, node: usize, from: usize) -> Result<(), Fault> {
+    fn put(&mut self, node: usize, first: &Part) -> Result<(), Fault> {
+        let from = first.to;
         let count = if self.seen & bit(node) != 0 { self.counts[node] + 1 } else { 1 };
         if count > self.edition.limit[node] {
             let number = if node == 16 || node == 23 { 16 } else { 15 };
             return Err(Fault { number, node, from });
+        }
+        if node == INTERVAL {
+            self.interval(count, first)?;
+        } else if self.last == INTERVAL && self.counts[INTERVAL] == 1 {
+            // Only another interval leaves the price open, so here the innermost instance ends with one.
+            return Err(Fault { number: 14, node: INTERVAL, from });
         }
         if NEEDED[self.last][node] & !self.seen != 0 {
             return Err(Fault { number: 14, node: guide::missing(self.last, node, self.seen), from });
@@ -158,6 +168,15 @@ impl<'a, P: Prices> Sheet<'a, P> {
         self.counts[node] = count;
         self.seen = self.seen & !BELOW[node] | bit(node);
         self.last = node;
+        Ok(())
+    }
+
+    /// The first or second interval of a price: not the same code twice.
+    fn interval(&mut self, count: u32, first: &Part) -> Result<(), Fault> {
+        let earlier = std::mem::replace(&mut self.interval, text::key_of(self.d, first));
+        if count > 1 && earlier == self.interval {
+            return Err(Fault { number: 25, node: INTERVAL, from: first.to });
+        }
         Ok(())
     }
 
@@ -377,11 +396,4 @@ fn first_part(scanner: &mut Scanner, at: usize, head: u32) -> Part {
         return Part { from: at + 3, to: at + 3, releases: 0, stop: Class::Terminator };
     }
     scanner.part(at + 4)
-}
-
-/// Three capital letters followed by `+` or `'`.
-#[inline(always)]
-fn is_well_begun(head: u32) -> bool {
-    let [a, b, c, fourth] = head.to_le_bytes();
-    a.is_ascii_uppercase() && b.is_ascii_uppercase() && c.is_ascii_uppercase() && (fourth == b'+' || fourth == b'\'')
 }

@@ -1,5 +1,5 @@
-//! A plain reader of PRICAT 2.0d and 2.0c price sheets, written from document 01, item 1, the settled readings and the
-//! guides' pages.
+//! A plain reader of PRICAT 2.0d and 2.0c price sheets, written from document 01, items 1 and 2, the settled readings
+//! and the guides' pages.
 //!
 //! It is the other side of the comparison: nothing here is taken from the proved library. The layers stand as the
 //! paper has them: `cut` knows separators and messages, `text` reads decoded components, `guide`, `pages` and `edition`

@@ -1,29 +1,9 @@
 //! Item 1: the edition that DE0057 names, on both sides of every difference.
 
+mod sheet;
+
 use plain::{judge_at, prices, Verdict};
-
-const HEAD: &str = "BGM+Z32+A1'DTM+137:1:303'RFF+Z13:27002'NAD+MR+1::9'NAD+MS+2::9'";
-
-/// A message with UNH, `body` and an UNT with the right count.
-fn message(edition: &str, body: &str) -> Vec<u8> {
-    let count = body.matches('\'').count() + 2;
-    format!("UNH+1+PRICAT:D:20B:UN:{edition}'{body}UNT+{count}+1'").into_bytes()
-}
-
-/// Number, segment and node; zeros for an accepted message.
-fn verdict(edition: &str, body: &str) -> (u32, usize, usize) {
-    match judge_at(&message(edition, body), 0) {
-        Verdict::Accepted { .. } => (0, 0, 0),
-        Verdict::Refused { number, segment, node, .. } => (number, segment, node),
-    }
-}
-
-const RIGHT: (u32, usize, usize) = (0, 0, 0);
-
-/// The verdicts of one body as a sheet of 2.0d and of 2.0c.
-fn both(body: &str) -> [(u32, usize, usize); 2] {
-    ["2.0d", "2.0c"].map(|edition| verdict(edition, body))
-}
+use sheet::{both, message, verdict, HEAD, RIGHT};
 
 #[test]
 fn the_edition_is_the_decoded_code() {

@@ -40,10 +40,6 @@ impl Library for Proved {
 
     fn article(&self, d: &[u8], at: usize, k: usize) -> Article {
         let article = schaumtruhe::article(d, at, k);
-        Article {
-            number: article.number,
-            place: article.part.as_ptr() as usize - d.as_ptr() as usize,
-            length: article.part.len(),
-        }
+        Article { number: article.number, place: article.part.as_ptr() as usize - d.as_ptr() as usize, length: article.part.len() }
     }
 }

@@ -130,6 +130,14 @@ impl Guide {
         &self.nodes[node - 1]
     }
 
+    /// The codes of a node that stand under one price together or not at all, each once (item 2).
+    pub fn together(&self, node: usize) -> &[Vec<u8>] {
+        match self.node(node).page.elements[0].rows[0].codes.as_slice() {
+            codes @ [from, to] if from == b"163" && to == b"164" => codes,
+            _ => &[],
+        }
+    }
+
     pub fn tag(&self, node: usize) -> &str {
         &self.node(node).page.tag
     }

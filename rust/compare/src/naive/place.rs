@@ -1,27 +1,35 @@
 //! Which node a segment gets, with the open instances as a stack.
 
-use std::collections::HashMap;
+use std::collections::{HashMap, HashSet};
 
 use super::cut::Segment;
 use super::guide::Guide;
 
-/// An open instance: its first node (0 for the root), the counter it has come to, how often each node occurred.
+/// An open instance: its first node (0 for the root), the counter it has come to, how often each node occurred, and the
+/// first components of the segments right under it.
 struct Instance {
     node: usize,
     counter: u32,
     occurred: HashMap<usize, usize>,
+    codes: HashSet<Vec<u8>>,
 }
 
 impl Instance {
     fn new(node: usize) -> Instance {
-        Instance { node, counter: 0, occurred: HashMap::new() }
+        Instance { node, counter: 0, occurred: HashMap::new(), codes: HashSet::new() }
     }
 
     fn missing(&self, guide: &Guide, before: u32) -> Option<usize> {
         (1..=guide.nodes.len()).find(|number| {
             let node = guide.node(*number);
-            node.required && node.parent == self.node && node.counter < before && !self.occurred.contains_key(number)
+            let is_missing = node.required && !self.occurred.contains_key(number);
+            node.parent == self.node && node.counter < before && (is_missing || self.is_given_in_part(guide.together(*number)))
         })
+    }
+
+    fn is_given_in_part(&self, codes: &[Vec<u8>]) -> bool {
+        let given = codes.iter().filter(|code| self.codes.contains(*code)).count();
+        0 < given && given < codes.len()
     }
 }
 
@@ -48,7 +56,7 @@ impl<'a> Open<'a> {
         (1..=self.guide.nodes.len()).filter(is_one).collect()
     }
 
-    /// Puts a segment at its node: 13, 15 or 16, 14.
+    /// Puts a segment at its node: 13, 15 or 16, 25, 14.
     pub fn place(&mut self, segment: &Segment) -> Result<usize, (u32, usize)> {
         let mut found = None;
         for node in self.candidates(segment) {
@@ -63,6 +71,10 @@ impl<'a> Open<'a> {
         if self.instances[level].occurred.get(&node).copied().unwrap_or(0) >= self.guide.node(node).limit {
             return Err((if self.guide.tag(node) == "LIN" { 16 } else { 15 }, node));
         }
+        let code = segment.part(1, 1).to_vec();
+        if self.guide.together(node).contains(&code) && self.instances[level].codes.contains(&code) {
+            return Err((25, node));
+        }
         for closed in self.instances[level + 1..].iter().rev() {
             if let Some(missing) = closed.missing(self.guide, u32::MAX) {
                 return Err((14, missing));
@@ -74,6 +86,7 @@ impl<'a> Open<'a> {
         self.instances.truncate(level + 1);
         self.instances[level].counter = counter;
         *self.instances[level].occurred.entry(node).or_default() += 1;
+        self.instances[level].codes.insert(code);
         self.instances.push(Instance::new(node));
         Ok(node)
     }

@@ -1,0 +1,3 @@
+fn main() {
+    report::check_input();
+}
