@@ -1,17 +1,9 @@
--- Laws of columns: a column at n is the field of node n.
+-- Laws of columns: a column at n is the function of node n.
 use Prim.Native.Nat.{ℕ, zero, suc, _+_, _<_}
 use mathlib.Core.Path.{_≡_, refl, _∙_}
-use mathlib.Core.List.{List, [], _∷_}
 use native.Mathlib.Omega.{arith}
-use lib.ListN.{length, getD}
-use Rattle.guide.specs.Nodes.{Node, Guide, node}
-use Rattle.guide.specs.Columns.{cells, values}
-
-module _ {B : Type 0} (field : Node → B) (other : B) where
-  pub cell : (g : Guide) (n : ℕ) → n < length g → getD (cells field g) n other ≡ field (node g n)
-  cell [] n h = absurd (omega arith)
-  cell (x ∷ xs) zero h = refl
-  cell (x ∷ xs) (suc n) h = cell xs n (omega arith)
+use lib.ListN.{getD}
+use Rattle.guide.specs.Columns.{values}
 
 value-from : (f : ℕ → ℕ) (i k n : ℕ) → n < k → getD (values f i k) n 0 ≡ f (n + i)
 value-from f i zero n h = absurd (omega arith)

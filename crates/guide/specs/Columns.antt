@@ -1,13 +1,6 @@
--- Columns: a table as the code holds it. Code with constant arrays of numbers is tied to the table by them, cell by cell.
+-- Columns: a table as the code holds it, one number for each node.
 use Prim.Native.Nat.{ℕ, zero, suc}
 use mathlib.Core.List.{List, [], _∷_}
-use Rattle.guide.specs.Nodes.{Node, Guide}
-
--- what one field is, row by row
-module _ {B : Type 0} (field : Node → B) where
-  abbrev pub cells : Guide → List B
-  cells [] = []
-  cells (x ∷ xs) = field x ∷ cells xs
 
 -- what a function of the node's number is, for the k numbers from i on
 abbrev pub values : (ℕ → ℕ) → ℕ → ℕ → List ℕ
