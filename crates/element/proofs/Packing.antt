@@ -1,4 +1,4 @@
--- Laws of rows of bytes as numbers: equal numbers are equal rows, and a word is equal to a code's number exactly if it is the code.
+-- Laws of rows of bytes as numbers: equal numbers are equal rows, and a word has a code's number exactly if it is the code.
 use Prim.Native.Nat.{ℕ, zero, suc, _+_, _*_, _-_, _≤_, _<_}
 use mathlib.Core.Path.{_≡_, refl, sym, _∙_}
 use mathlib.Core.Bool.{Bool, true, false, cond, _&&_, and-false}
@@ -6,7 +6,8 @@ use mathlib.Core.List.{List, [], _∷_}
 use native.Mathlib.Omega.{arith}
 use lib.ListN.{length, getD, take, drop, length-take, List·getD-eq-default}
 use lib.Seq.{getD-drop, getD-take}
-use lib.Dec.{eqb, leb}
+use lib.Dec.{T, eqb, leb, ltb, leb→le, ltb→lt}
+use mir.Facts.{and-yes}
 use borrow.Author.Tests.{eq-eqb, ne-eqb, eqb-true, eqb-false, leb-true, leb-false}
 use Rattle.cut.specs.Bytes.{part}
 use Rattle.cut.specs.Segments.{frees}
@@ -72,14 +73,32 @@ same-longer [] t h = absurd (omega arith)
 same-longer (x ∷ xs) [] h = refl
 same-longer (x ∷ xs) (y ∷ ys) h = rw (same-longer xs ys (omega arith), and-false)
 
--- a word has the number of a code of at most six bytes exactly if it is that code
-pub word-same : (s c : List ℕ) → Bytes s → Bytes c → length c ≤ 6 → eqb (wordOf s) (packed c) ≡ same s c
+-- a code: bytes alone, six at most
+abbrev pub bytesOnly : List ℕ → Bool
+bytesOnly [] = true
+bytesOnly (x ∷ xs) = ltb x 256 && bytesOnly xs
+
+abbrev pub isShort : List ℕ → Bool
+isShort c = leb (length c) 6 && bytesOnly c
+
+abbrev pub allShort : List (List ℕ) → Bool
+allShort [] = true
+allShort (c ∷ cs) = isShort c && allShort cs
+
+pub bytes-only : (s : List ℕ) → T (bytesOnly s) → Bytes s
+bytes-only [] h i = omega arith
+bytes-only (x ∷ xs) h zero = ltb→lt x 256 (and-yes (ltb x 256) (bytesOnly xs) h .0)
+bytes-only (x ∷ xs) h (suc i) = bytes-only xs (and-yes (ltb x 256) (bytesOnly xs) h .1) i
+
+-- a word has the number of a code exactly if it is that code
+pub word-same : (s c : List ℕ) → Bytes s → T (isShort c) → eqb (wordOf s) (packed c) ≡ same s c
 unfolding wordOf
-word-same s c h k l = go (leb (length s) 6) refl
+word-same s c h t = go (leb (length s) 6) refl
   where
     go : (b : Bool) → leb (length s) 6 ≡ b → eqb (cond b (packed s) 0) (packed c) ≡ same s c
-    go true e = packed-same s c h k
+    go true e = packed-same s c h (bytes-only c (and-yes (leb (length c) 6) (bytesOnly c) t .1))
     go false e =
+        let l : length c ≤ 6 = leb→le (length c) 6 (and-yes (leb (length c) 6) (bytesOnly c) t .0) in
         let z : length c < length s = omega (arith, leb-false (length s) 6 e) in
         let n : 1 ≤ packed c = packed-some c in
         ne-eqb 0 (packed c) (λ (q : 0 ≡ packed c). omega arith) ∙ sym (same-longer s c z)

@@ -1,15 +1,14 @@
 -- A component is one of a row's codes exactly if its number is that of one.
 use Prim.Native.Nat.{ℕ, zero, suc, _+_, _-_, _/_, _%_, _≤_, _<_}
-use mathlib.Core.Bool.{Bool, true, false, _&&_}
+use mathlib.Core.Bool.{Bool, true, false}
 use mathlib.Core.Path.{_≡_, refl, sym, _∙_}
 use mathlib.Core.List.{List, [], _∷_}
 use native.Mathlib.Omega.{arith}
-use lib.ListN.{length, getD}
-use lib.Dec.{T, eqb, leb, ltb, leb→le, ltb→lt}
+use lib.ListN.{getD}
+use lib.Dec.{T}
 use borrow.Author.Tests.{eq-eqb, ne-eqb}
-use Rattle.element.specs.Plain.{same}
 use Rattle.element.specs.Words.{Bytes, packed, wordOf}
-use Rattle.element.proofs.Packing.{word-same}
+use Rattle.element.proofs.Packing.{isShort, allShort, word-same}
 use Rattle.guide.specs.Nodes.{among, chosen}
 use Rattle.guide.specs.Pages20d.{pages20d}
 use Rattle.guide.proofs.Basics.{and-left, and-right}
@@ -33,40 +32,20 @@ module _ (key n next : ℕ) where
     unfolding keyAmong
     search-on e = rw (span-next allCodes [] n next h, ne-eqb key _ (λ z. e (p ∙ sym z)))
 
--- codes are bytes, six at most
-abbrev bytesOnly : List ℕ → Bool
-bytesOnly [] = true
-bytesOnly (x ∷ xs) = ltb x 256 && bytesOnly xs
-
-abbrev short : List ℕ → Bool
-short c = leb (length c) 6 && bytesOnly c
-
-abbrev allShort : List (List ℕ) → Bool
-allShort [] = true
-allShort (c ∷ cs) = short c && allShort cs
-
 short-codes : T (allShort allCodes)
 unfolding pages20d joined column codesOf rows20d allCodes
 short-codes = tt
 
-short-at : (cs : List (List ℕ)) (n : ℕ) → T (allShort cs) → T (short (getD cs n []))
+short-at : (cs : List (List ℕ)) (n : ℕ) → T (allShort cs) → T (isShort (getD cs n []))
 short-at [] n h = tt
-short-at (c ∷ cs) zero h = and-left (short c) (allShort cs) h
-short-at (c ∷ cs) (suc n) h = short-at cs n (and-right (short c) (allShort cs) h)
-
-bytes-only : (s : List ℕ) → T (bytesOnly s) → Bytes s
-bytes-only [] h i = omega arith
-bytes-only (x ∷ xs) h zero = ltb→lt x 256 (and-left (ltb x 256) (bytesOnly xs) h)
-bytes-only (x ∷ xs) h (suc i) = bytes-only xs (and-right (ltb x 256) (bytesOnly xs) h) i
+short-at (c ∷ cs) zero h = and-left (isShort c) (allShort cs) h
+short-at (c ∷ cs) (suc n) h = short-at cs n (and-right (isShort c) (allShort cs) h)
 
 module _ (t : List ℕ) (b : Bytes t) where
-  key-same : (c : List ℕ) → T (short c) → eqb (wordOf t) (packed c) ≡ same t c
-  key-same c h = word-same t c b (bytes-only c (and-right (leb (length c) 6) (bytesOnly c) h)) (leb→le (length c) 6 (and-left (leb (length c) 6) (bytesOnly c) h))
-
   key-among : (n m : ℕ) → keyAmong (wordOf t) (span allCodes [] n m) ≡ among t (span allCodes [] n m)
   unfolding span keyAmong among
   key-among n zero = refl
-  key-among n (suc m) = rw (key-same (getD allCodes n []) (short-at allCodes n short-codes), key-among (n + 1) m)
+  key-among n (suc m) = rw (word-same t (getD allCodes n []) b (short-at allCodes n short-codes), key-among (n + 1) m)
 
 -- on the row that has the word w
 module _ (w : ℕ) (t : List ℕ) where
