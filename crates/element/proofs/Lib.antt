@@ -7,6 +7,8 @@ pub mod Numerals
 pub mod Answers
 pub mod Counting
 pub mod Copying
+pub mod Packing
+pub mod Summing
 pub mod Signs
 pub mod Texts
 pub mod TextOnly

@@ -5,6 +5,7 @@ pub mod Number
 pub mod Numeral
 pub mod Plain
 pub mod Text
+pub mod Words
 pub mod Clean
 pub mod Elements
 pub mod Components

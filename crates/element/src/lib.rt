@@ -12,6 +12,7 @@ mod plain;
 mod prices;
 mod scan;
 mod text;
+mod words;
 
 pub use clean::allowed;
 pub use clean::tagged;
@@ -31,3 +32,4 @@ pub use plain::same_plain;
 pub use prices::Number;
 pub use prices::number_of;
 pub use text::decimal_text;
+pub use words::word_of;

@@ -1,24 +1,21 @@
--- Laws of words as numbers: what the readers of a tag and of a code give, and that equal numbers are equal words.
-use Prim.Native.Nat.{ℕ, suc, _+_, _*_, _-_, _≤_, _<_, min}
+-- Laws of words as numbers: what the readers of a tag and of a code give.
+use Prim.Native.Nat.{ℕ, _+_, _*_, _-_, _≤_, _<_, min}
 use mathlib.Core.Path.{_≡_, refl, sym, _∙_, ap}
-use mathlib.Core.Bool.{Bool, true, false, _&&_}
+use mathlib.Core.Bool.{false}
 use mathlib.Core.List.{List, [], _∷_}
 use native.Mathlib.Omega.{arith}
 use lib.ListN.{length, getD, take, drop, length-take}
-use lib.Seq.{take-all, take-take, take-at}
-use lib.Dec.{eqb}
-use borrow.Author.Tests.{eq-eqb, ne-eqb, eqb-true, eqb-false, le-leb, lt-leb}
+use lib.Seq.{take-all, take-take}
 use Rattle.cut.specs.Bytes.{part}
 use Rattle.cut.specs.declared.service.Syntax.{Syntax}
 use Rattle.cut.proofs.Parts.{part-none, part-next}
-use Rattle.element.specs.Plain.{plain, decoded, copied}
+use Rattle.element.specs.Plain.{plain, decoded}
 use Rattle.element.specs.Components.{componentAt}
 use Rattle.element.specs.declared.components.Span.{Span}
 use Rattle.element.proofs.ComponentFace.{component-bytes}
 use Rattle.element.proofs.Limits.{limited}
-use Rattle.element.specs.Plain.{same}
 use Rattle.guide.specs.Views.{viewOf}
-use Rattle.judge.specs.Words.{packed, shortWord, Bytes}
+use Rattle.judge.specs.Words.{packed, wordOf}
 
 -- a part is its first byte and then the rest
 pub pack-none : (d : List ℕ) (a e : ℕ) → e ≤ a → 1 ≡ packed (part a e d)
@@ -74,65 +71,11 @@ module _ (d : List ℕ) (a e z : ℕ) (limit : z ≡ min e (length d)) where
       let t : a + 3 - a ≡ 3 = omega arith in
       k ∙ ap packed (ap (λ (m : ℕ). take m (drop a d)) t ∙ sym (take-take 3 (e - a) (drop a d) n))
 
--- a row of four with the word s at its front, as much as fits: n bytes are written
-module _ (s row : List ℕ) (n : ℕ) (count : n ≡ min (length s) 4) (written : row ≡ copied s (0 ∷ 0 ∷ 0 ∷ 0 ∷ [])) where
-  short-long : 3 < n → 0 ≡ shortWord s
-  unfolding shortWord
-  short-long h =
-      let l : 3 < length s = omega arith in
-      rw (lt-leb (length s) 3 l)
-
-  short-front : n ≤ 3 → part 0 n row ≡ s
-  unfolding part copied
-  short-front h =
-      let l : length s ≤ 4 = omega arith in
-      let m : n - 0 ≡ length s = omega arith in
-      rw (written, m, take-all 4 s l) (take-at s _ (length s) refl)
-
-  short-packed : (r : ℕ) → n ≤ 3 → r ≡ packed (part 0 n row) → r ≡ shortWord s
-  unfolding shortWord
-  short-packed r h k =
-      let l : length s ≤ 3 = omega arith in
-      rw (le-leb (length s) 3 l) (k ∙ ap packed (short-front h))
-
--- the component that stands at the span, and the row that its decoded bytes were written to
+-- the component that stands at the span
 module _ (y : Syntax) (d : List ℕ) (start end e c : ℕ) (span : Span) (found : span ≡ componentAt y d start end e c) where
-  key-bytes : decoded y (span .start) (span .end) d ≡ viewOf y (part start end d) .key e c
+  pub key-decoded : decoded y (span .start) (span .end) d ≡ viewOf y (part start end d) .key e c
   unfolding decoded viewOf
-  key-bytes = rw found (ap (plain y false) (component-bytes y d start end e c))
+  key-decoded = rw found (ap (plain y false) (component-bytes y d start end e c))
 
-  module _
-      (row : List ℕ) (n : ℕ) (count : n ≡ min (length (decoded y (span .start) (span .end) d)) 4)
-      (written : row ≡ copied (decoded y (span .start) (span .end) d) (0 ∷ 0 ∷ 0 ∷ 0 ∷ []))
-    where
-      pub key-long : 3 < n → 0 ≡ shortWord (viewOf y (part start end d) .key e c)
-      key-long h = short-long _ row n count written h ∙ ap shortWord key-bytes
-
-      pub key-short : (r : ℕ) → n ≤ 3 → r ≡ packed (part 0 n row) → r ≡ shortWord (viewOf y (part start end d) .key e c)
-      key-short r h k = short-packed _ row n count written r h k ∙ ap shortWord key-bytes
-
--- equal numbers are equal words
-rest-bytes : (x : ℕ) (xs : List ℕ) → Bytes (x ∷ xs) → Bytes xs
-rest-bytes x xs h i = h (suc i)
-
-pub packed-some : (s : List ℕ) → 1 ≤ packed s
-unfolding packed
-packed-some [] = omega arith
-packed-some (x ∷ xs) = omega (arith, packed-some xs)
-
-pub packed-same : (s t : List ℕ) → Bytes s → Bytes t → eqb (packed s) (packed t) ≡ same s t
-unfolding packed same
-packed-same [] [] h k = refl
-packed-same [] (y ∷ ys) h k = ne-eqb 1 (y + 256 * packed ys) (λ e. omega (arith, packed-some ys))
-packed-same (x ∷ xs) [] h k = ne-eqb (x + 256 * packed xs) 1 (λ e. omega (arith, packed-some xs))
-packed-same (x ∷ xs) (y ∷ ys) h k =
-    go (h 0) (k 0) (packed-same xs ys (rest-bytes x xs h) (rest-bytes y ys k)) (eqb x y) refl (eqb (packed xs) (packed ys)) refl
-  where
-    go
-        : x < 256 → y < 256 → eqb (packed xs) (packed ys) ≡ same xs ys → (p : Bool) → eqb x y ≡ p → (q : Bool) → eqb (packed xs) (packed ys) ≡ q
-        → eqb (x + 256 * packed xs) (y + 256 * packed ys) ≡ p && same xs ys
-    go a b ih true e true f =
-        let z : x + 256 * packed xs ≡ y + 256 * packed ys = omega (arith, eqb-true x y e, eqb-true (packed xs) (packed ys) f) in
-        eq-eqb _ _ z ∙ sym f ∙ ih
-    go a b ih true e false f = ne-eqb _ _ (λ (z : x + 256 * packed xs ≡ y + 256 * packed ys). eqb-false (packed xs) (packed ys) f (omega arith)) ∙ sym f ∙ ih
-    go a b ih false e q f = ne-eqb _ _ (λ (z : x + 256 * packed xs ≡ y + 256 * packed ys). eqb-false x y e (omega arith))
+  pub key-word : (r : ℕ) → r ≡ wordOf (decoded y (span .start) (span .end) d) → r ≡ wordOf (viewOf y (part start end d) .key e c)
+  key-word r k = k ∙ ap wordOf key-decoded

@@ -4,7 +4,7 @@ use mathlib.Core.Bool.{Bool, true, _&&_}
 use mathlib.Core.List.{List, [], _∷_}
 use native.Mathlib.Omega.{arith}
 use lib.ListN.{length}
-use lib.Dec.{T, ltb, leb, ltb→lt}
+use lib.Dec.{T, ltb, ltb→lt}
 use Rattle.guide.specs.Nodes.{Guide, node}
 use Rattle.guide.specs.Pricat.{pricat20d, pricat20c}
 use Rattle.guide.specs.Checks.{every}
@@ -12,21 +12,12 @@ use Rattle.guide.proofs.Basics.{every-at, and-left, and-right}
 use Rattle.guide.specs.declared.edition.Edition.{Edition}
 use Rattle.guide.specs.declared.edition.Edition.the-variants.{D, C}
 use Rattle.guide.specs.Editions.{guideOf}
+use Rattle.element.proofs.Packing.{bytesOnly, allShort, bytes-only}
 use Rattle.judge.specs.Words.{Bytes}
 
--- bytes alone
-abbrev pub bytesOnly : List ℕ → Bool
-bytesOnly [] = true
-bytesOnly (x ∷ xs) = ltb x 256 && bytesOnly xs
-
--- codes of at most three bytes
-abbrev pub shortCodes : List (List ℕ) → Bool
-shortCodes [] = true
-shortCodes (c ∷ cs) = (leb (length c) 3 && bytesOnly c) && shortCodes cs
-
--- a row takes segments, its parent has a lower number, and its tag and codes are bytes
+-- a row takes segments, its parent has a lower number, and its tag and codes are bytes, a code six at most
 abbrev soundRow : Guide → ℕ → Bool
-soundRow g n = ltb 0 (node g n .limit) && (ltb (node g n .parent) n && (bytesOnly (node g n .tag) && shortCodes (node g n .selector .codes)))
+soundRow g n = ltb 0 (node g n .limit) && (ltb (node g n .parent) n && (bytesOnly (node g n .tag) && allShort (node g n .selector .codes)))
 
 unfoldable sound : Guide → Bool
 sound g = every (λ k. soundRow g (suc k)) (length g - 1)
@@ -40,19 +31,14 @@ pub record Sound (g : Guide) (n : ℕ) : Type 0 where
   pub limited : 0 < node g n .limit
   pub lower : node g n .parent < n
   pub tag : Bytes (node g n .tag)
-  pub codes : T (shortCodes (node g n .selector .codes))
-
-pub bytes-only : (s : List ℕ) → T (bytesOnly s) → Bytes s
-bytes-only [] h i = omega arith
-bytes-only (x ∷ xs) h zero = ltb→lt x 256 (and-left (ltb x 256) (bytesOnly xs) h)
-bytes-only (x ∷ xs) h (suc i) = bytes-only xs (and-right (ltb x 256) (bytesOnly xs) h) i
+  pub codes : T (allShort (node g n .selector .codes))
 
 row-sound : (g : Guide) (n : ℕ) → T (soundRow g n) → Sound g n
 row-sound g n h =
     let a = ltb 0 (node g n .limit) in
     let b = ltb (node g n .parent) n in
     let c = bytesOnly (node g n .tag) in
-    let d = shortCodes (node g n .selector .codes) in
+    let d = allShort (node g n .selector .codes) in
     let t = and-right a (b && (c && d)) h in
     let u = and-right b (c && d) t in
     record {

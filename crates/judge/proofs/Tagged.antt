@@ -15,7 +15,7 @@ use Rattle.guide.specs.declared.edition.Edition.the-variants.{D, C}
 use Rattle.guide.specs.Editions.{guideOf}
 use Rattle.judge.specs.Words.{packed, Bytes}
 use Rattle.judge.proofs.Sound.{sound-at}
-use Rattle.judge.proofs.Packing.{packed-same}
+use Rattle.element.proofs.Packing.{packed-same}
 
 -- the message has no tag
 root-bare : (e : Edition) → node (guideOf e) 0 .tag ≡ []

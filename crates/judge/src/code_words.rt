@@ -7,7 +7,7 @@ ghost use Rattle.guide.specs.Pricat.{pricat20d, pricat20c};
 ghost use Rattle.guide.specs.Editions.{guideOf};
 ghost use Rattle.judge.specs.Rows.{codesOf};
 
-fn code_20d(j: usize) -> u32
+fn code_20d(j: usize) -> u64
     requires { ⌜ j < 12 ⌝ }
     ensures { λ r. ⌜ r ≡ getD (codesOf pricat20d) j 0 ⌝ }
 {
@@ -28,7 +28,7 @@ fn code_20d(j: usize) -> u32
     }
 }
 
-fn code_20c(j: usize) -> u32
+fn code_20c(j: usize) -> u64
     requires { ⌜ j < 11 ⌝ }
     ensures { λ r. ⌜ r ≡ getD (codesOf pricat20c) j 0 ⌝ }
 {
@@ -49,7 +49,7 @@ fn code_20c(j: usize) -> u32
 }
 
 // Code j of all codes.
-pub(crate) fn code(edition: Edition, j: usize) -> u32
+pub(crate) fn code(edition: Edition, j: usize) -> u64
     requires { ⌜ j < length (codesOf (guideOf edition)) ⌝ }
     ensures { λ r. ⌜ r ≡ getD (codesOf (guideOf edition)) j 0 ⌝ }
 {

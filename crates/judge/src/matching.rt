@@ -19,7 +19,7 @@ ghost use Rattle.guide.specs.Editions.{guideOf};
 ghost use Rattle.judge.specs.Words.{packed, holds};
 
 // Whether the number is that of one of the node's codes.
-fn has_code(edition: Edition, n: usize, key: u32) -> bool
+fn has_code(edition: Edition, n: usize, key: u64) -> bool
     requires { ⌜ n < length (guideOf edition) ⌝ }
     ensures { λ r. ⌜ r ≡ holds key (map packed (node (guideOf edition) n .selector .codes)) ⌝ }
 {

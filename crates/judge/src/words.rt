@@ -6,7 +6,7 @@ ghost use mathlib.Core.List.{[], _∷_};
 ghost use lib.ListN.{length, take};
 ghost use Rattle.cut.specs.Bytes.{part};
 ghost use Rattle.guide.specs.Views.{viewOf};
-ghost use Rattle.judge.specs.Words.{packed, shortWord};
+ghost use Rattle.judge.specs.Words.{packed, wordOf};
 
 fn wide(x: u8) -> u32
     ensures { λ r. ⌜ (r ≡ x) × (r < 256) ⌝ }
@@ -63,16 +63,9 @@ pub(crate) fn key_number(
     end: usize,
     element: usize,
     component: usize,
-) -> u32
-    ensures { λ r. ⌜ r ≡ shortWord (viewOf y (part start end (now (d .entry))) .key element component) ⌝ }
+) -> u64
+    ensures { λ r. ⌜ r ≡ wordOf (viewOf y (part start end (now (d .entry))) .key element component) ⌝ }
 {
     let span = element::component_at(y, d, start, end, element, component);
-    let a = span.start;
-    let e = span.end;
-    let mut bytes = [0u8; 4];
-    let n = element::copy_plain(y, d, a, e, &mut bytes);
-    if 3 < n {
-        return 0;
-    }
-    pack(&bytes, 0, n)
+    element::word_of(y, d, span.start, span.end)
 }

@@ -2,7 +2,6 @@ pub mod PageTables
 pub mod PageCells
 pub mod PageSpans
 pub mod PageLookup
-pub mod KeyNumbers
 pub mod KeyCodes
 pub mod PageFaults
 pub mod PageMoods

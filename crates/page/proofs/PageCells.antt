@@ -3,7 +3,7 @@ use Prim.Native.Nat.{ℕ, zero, suc, _/_, _%_}
 use mathlib.Core.Path.{_≡_, refl, sym, ap, _∙_}
 use mathlib.Core.List.{List, [], _∷_}
 use lib.ListN.{getD}
-use Rattle.guide.specs.Columns.{packed}
+use Rattle.element.specs.Words.{packed}
 use Rattle.guide.specs.Page.{Row, unused, Composite, Page, beyond}
 use Rattle.guide.specs.Pages20d.{pages20d, pageOf}
 use Rattle.guide.specs.Pages20c.{pages20c, pageOf20c}

@@ -57,7 +57,7 @@ fn filled_fault(y: Syntax, d: &[u8], a: usize, b: usize, n: usize, row: usize) -
         return 18;
     }
     let fitting = is_formed(y, d, a, b, n, row);
-    let known = listed(y, d, a, b, n, row);
+    let known = listed(y, d, a, b, row);
     if !fitting {
         return 19;
     }

@@ -1,7 +1,6 @@
 // The page check: the first fault of a segment against the page of its node.
 mod coded;
 mod formed;
-mod keys;
 mod pages;
 mod rows;
 mod words;

@@ -5,7 +5,7 @@ use guide::Edition;
 ghost use mathlib.Core.Path.{_≡_};
 ghost use mathlib.Core.List.{[]};
 ghost use lib.ListN.{getD};
-ghost use Rattle.guide.specs.Columns.{packed};
+ghost use Rattle.element.specs.Words.{packed};
 ghost use Rattle.guide.specs.Page.{unused, beyond};
 ghost use Rattle.guide.specs.Pages20d.{pageOf};
 ghost use Rattle.guide.specs.Pages20c.{pageOf20c};
@@ -255,7 +255,7 @@ pub(crate) fn row_word(n: usize) -> usize
 }
 
 // Past the last code there are no bytes.
-pub(crate) fn code_word(n: usize) -> usize
+pub(crate) fn code_word(n: usize) -> u64
     ensures { λ r. ⌜ r ≡ packed (getD allCodes n []) ⌝ }
 {
     match n {

@@ -11,7 +11,7 @@ is-formed-requires : tie.Need-is-formed-requires
 is-formed-requires c κs = c .before .before .pre
 
 listed-requires : tie.Need-listed-requires
-listed-requires c κs = c .before .before .before .pre .0
+listed-requires c κs = tt
 
 returns-2 : tie.Need-returns-2
 returns-2 c = filled-format _ _ _ _ (c .before .before .before .before .before .pre) (c .before .before .before .if1 .left) _ (c .before .before .is-formed .ensures) (not-true _ (c .if2 .taken))

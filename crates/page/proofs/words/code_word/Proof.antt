@@ -1,7 +1,7 @@
 -- `page::words::code_word` meets its contract: each arm is a cell of the table.
 use mathlib.Core.List.{[]}
 use Rattle.guide.specs.Pages20d.{pages20d}
-use Rattle.guide.specs.Columns.{packed}
+use Rattle.element.specs.Words.{packed}
 use Rattle.page.specs.PageColumns.{joined, column, codesOf, rows20d, allCodes}
 use Rattle.page.proofs.PageTables.{past-all}
 use Rattle.page.proofs.PageCells.{code-arm}

@@ -1,0 +1,73 @@
+// The bytes of a part without release marks as one number, so that it is compared with a code in one step and no byte is copied.
+use crate::limit::limit_of;
+use crate::literal::literal;
+use cut::Syntax;
+ghost use mathlib.Core.Path.{_≡_};
+ghost use Prim.Native.Nat.{_≤_, _<_};
+ghost use lib.ListN.{length};
+ghost use Rattle.element.specs.Plain.{decoded};
+ghost use Rattle.element.specs.Words.{wordOf};
+ghost use Rattle.element.specs.Inner.{Begun, wordFrom};
+
+fn wide(x: u8) -> u64
+    ensures { λ r. ⌜ (r ≡ x) × (r < 256) ⌝ }
+{
+    x as u64
+}
+
+// The number of the part, decoded; 0 where it has more bytes than any code. Up to the first release mark each byte is literal.
+pub fn word_of(y: Syntax, d: &[u8], a: usize, e: usize) -> u64
+    ensures { λ r. ⌜ r ≡ wordOf (decoded y a e (now (d .entry))) ⌝ }
+{
+    let end = limit_of(d, e);
+    let mut i = a;
+    let mut n = 0;
+    let mut sum = 0;
+    let mut scale = 1;
+    while n < 6 {
+        if end <= i {
+            return sum + scale;
+        }
+        let x = d[i];
+        if cut::releases(y, x) {
+            return word_on(y, d, i, end, n, sum, scale);
+        }
+        sum += scale * wide(x);
+        scale *= 256;
+        n += 1;
+        i += 1;
+    }
+    word_on(y, d, i, end, n, sum, scale)
+}
+
+// The same from the place `from` on, where `count` bytes are read that make `begun`, and the next one counts `weight` times.
+fn word_on(
+    y: Syntax,
+    d: &[u8],
+    from: usize,
+    end: usize,
+    count: usize,
+    begun: u64,
+    weight: u64,
+) -> u64
+    requires { ⌜ (end ≤ length (now d)) × Begun count begun weight ⌝ }
+    ensures { λ r. ⌜ r ≡ wordFrom count begun weight (decoded y from end (now (d .entry))) ⌝ }
+{
+    let mut i = from;
+    let mut n = count;
+    let mut sum = begun;
+    let mut scale = weight;
+    loop {
+        let at = literal(y, d, i, end);
+        if end <= at {
+            return sum + scale;
+        }
+        if n == 6 {
+            return 0;
+        }
+        sum += scale * wide(d[at]);
+        scale *= 256;
+        n += 1;
+        i = at + 1;
+    }
+}
