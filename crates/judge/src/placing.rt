@@ -13,7 +13,7 @@ ghost use Rattle.guide.specs.Views.{viewOf};
 ghost use Rattle.guide.specs.Editions.{guideOf};
 ghost use Rattle.judge.specs.Answers.{answerOf};
 
-// The segment's node, or a refusal with its number and node.
+// The row of the segment's node, or a refusal with its number and row.
 pub enum Placed {
     At(usize),
     Refused { number: u32, node: usize },

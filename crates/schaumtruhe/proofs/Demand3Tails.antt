@@ -22,7 +22,7 @@ use Rattle.element.specs.Plain.{unlessMark, plain, same}
 use Rattle.guide.specs.Composites.{S009, C002, C106, C507, C506, C082, C212, services, C509, basis}
 use Rattle.guide.specs.Content.{text}
 use Rattle.guide.specs.Judging.{Verdict, accepts, refuses, bytesFault, endFault, lineFault, ruleFault, contentFault, segmentAnswer, judgeFrom}
-use Rattle.guide.specs.Nodes.{among, chosen, matches, required}
+use Rattle.guide.specs.Nodes.{among, chosen, matches, paired, required, numberOf as nodeNumber}
 use Rattle.guide.specs.Page.{codes, simple, elementOf, rowOf}
 use Rattle.guide.specs.PageFault.{firstOf, notUsed, missing, wrongFormat, wrongCode, textFault, componentFault, anyFilled, elementFault, pageFault}
 use Rattle.guide.specs.Pages20d.{coded, UNH, BGM, DTM, RFF, NAD, PGI, LIN, PRI, UNT, pages20d, pageOf}
@@ -50,7 +50,7 @@ unfolding
     some none isDigit digitsAhead behindDigits minus unsigned whole fraction digits isTail isNumber decimal unlessMark plain same
     S009 C002 C106 C507 C506 C082 C212 services C509 basis text
     bytesFault endFault lineFault ruleFault contentFault segmentAnswer judgeFrom
-    among chosen matches required codes simple elementOf rowOf
+    among chosen matches paired required nodeNumber codes simple elementOf rowOf
     firstOf notUsed missing wrongFormat wrongCode textFault componentFault anyFilled elementFault pageFault
     coded UNH BGM DTM RFF NAD PGI LIN PRI UNT pages20d pageOf
     lowest levels fitsIn seek lacking place indexed recounted countsAfter lastAfter given missingIn pricat20d isTag viewOf
