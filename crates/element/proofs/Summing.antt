@@ -1,6 +1,6 @@
 -- How the number of a word is summed: what holds on the way, and what that gives at its end.
 use Prim.Native.Nat.{ℕ, suc, _+_, _*_, _^_, _≤_, _<_}
-use mathlib.Core.Path.{_≡_, refl, sym, ap, _∙_}
+use mathlib.Core.Path.{_≡_, refl, ap}
 use mathlib.Core.List.{List, [], _∷_}
 use native.Mathlib.Nat.{pow-suc, pow-le-pow-right, mul-le-mul-left, mul-add, mul-assoc}
 use native.Mathlib.Numerals.{add-one}
@@ -22,7 +22,7 @@ word-start s =
     rw (l, v)
 
 module _ {n sum scale : ℕ} (b : Begun n sum scale) where
-  -- the number of six bytes, the 1 above them counted, is small
+  -- the next byte counts at most as much as the 1 above six bytes
   pub begun-small : scale ≤ 256 ^ 6
   begun-small = rw (b .scaled) (pow-le-pow-right (lit< tt) (b .few))
 

@@ -116,6 +116,14 @@ fn copy_line(d: &[u8]) {
     put(b"\n");
 }
 
+fn word_line(d: &[u8]) {
+    put(b"word ");
+    put(d);
+    put(b" ");
+    put_count(element::word_of(base(), d, 0, d.len()));
+    put(b"\n");
+}
+
 fn text_line(n: i64) {
     put(b"text ");
     put_amount(n);
@@ -187,6 +195,15 @@ fn copies() {
     copy_line(b"A?+BCDEFG");
 }
 
+fn words() {
+    word_line(b"A?");
+    word_line(b"Z?32");
+    word_line(b"PRICAT");
+    word_line(b"P?RICAT?");
+    word_line(b"PRICATS");
+    word_line(b"PRICAT?S");
+}
+
 fn texts() {
     text_line(0);
     text_line(-1);
@@ -204,6 +221,7 @@ fn main() {
     counts();
     codes();
     copies();
+    words();
     texts();
     components::lines();
 }
