@@ -83,7 +83,8 @@ unfoldable pub ends : Guide → ℕ → Bool
 ends g z =
     eqb (node g z .parent) 0 && (node g z .must && every (λ n. not (eqb (node g n .parent) z) && earlier g z n) (length g))
 
--- one of two rows that come in pairs: the other is another row of its place, whose partner it is; it comes once, and is not required by itself
+-- one of two rows that come in pairs: the other, q, is another row of the table and of its place, whose partner it is; it comes once, and is not required
+-- by itself
 abbrev pub mated : Guide → ℕ → ℕ → Bool
 mated g n q =
     (paired g q && eqb (node g q .partner) n)

@@ -33,7 +33,7 @@ pub record Node : Type 0 where
   pub refusal : ℕ
   pub partner : ℕ
 
--- row n is node n; row 0 is the message itself
+-- row n is node n, but for the second row of a pair, which stands behind all nodes; row 0 is the message itself
 abbrev pub Guide : Type 0
 Guide = List Node
 

@@ -91,7 +91,7 @@ intervals n next =
     -- a segment that itself gets 13 or 15 gives that number
     ∷ sheet (interval ("163" ∷ []) (bare "PRI" ∷ with "DTM" "164" ∷ [])) next
     ∷ sheet (interval ("164" ∷ []) (bare "CUX" ∷ [])) (refusal 13 11 0)
-    -- "25 at the second DTM of one code, after 15": a third is 15
+    -- "25 at the second DTM of one code, after 15 and 16": a third is 15
     ∷ sheet (interval ("163" ∷ "163" ∷ []) []) (refusal 25 11 n)
     ∷ sheet (interval ("164" ∷ "164" ∷ []) []) (refusal 25 11 n)
     ∷ sheet (interval ("163" ∷ "164" ∷ "163" ∷ []) []) (refusal 15 12 n)
