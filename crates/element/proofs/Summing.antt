@@ -1,15 +1,25 @@
 -- How the number of a word is summed: what holds on the way, and what that gives at its end.
 use Prim.Native.Nat.{ℕ, suc, _+_, _*_, _^_, _≤_, _<_}
 use mathlib.Core.Path.{_≡_, refl, ap}
+use mathlib.Core.Bool.{cond}
 use mathlib.Core.List.{List, [], _∷_}
 use native.Mathlib.Nat.{pow-suc, pow-le-pow-right, mul-le-mul-left, mul-add, mul-assoc}
 use native.Mathlib.Numerals.{add-one}
 use native.Mathlib.Omega.{arith}
 use lib.ListN.{length}
-use lib.Dec.{lit<}
+use lib.Dec.{leb, lit<}
 use borrow.Author.Tests.{le-leb, lt-leb}
 use Rattle.element.specs.Words.{packed, wordOf}
-use Rattle.element.specs.Inner.{Begun, wordFrom}
+
+-- n bytes of a word are read, their number is sum, and the next one counts scale times
+pub record Begun (n sum scale : ℕ) : Type 0 where
+  pub few : n ≤ 6
+  pub below : sum < scale
+  pub scaled : scale ≡ 256 ^ n
+
+-- the word that is begun so and goes on with the bytes s
+unfoldable pub wordFrom : ℕ → ℕ → ℕ → List ℕ → ℕ
+wordFrom n sum scale s = cond (leb (n + length s) 6) (sum + scale * packed s) 0
 
 pub begun-none : Begun 0 0 1
 begun-none = record { few = omega arith; below = omega arith; scaled = refl }

@@ -1,16 +1,15 @@
 -- What the crate's own readers promise each other; no public call cites these.
 use Prim.Native.Nat.{ℕ, _+_, _-_, _*_, _^_, _≤_, _<_}
-use mathlib.Core.Bool.{Bool, true, false, cond, _&&_}
+use mathlib.Core.Bool.{Bool, true, false, _&&_}
 use mathlib.Core.Path.{_≡_}
 use mathlib.Core.List.{List, [], _∷_, _++_}
 use lib.ListN.{length, getD, drop}
-use lib.Dec.{ltb, leb}
+use lib.Dec.{ltb}
 use Rattle.cut.specs.declared.service.Syntax.{Syntax}
 use Rattle.element.specs.declared.numeral.Run.{Run}
 use Rattle.element.specs.declared.numeral.Numeral.{Numeral}
 use Rattle.element.specs.declared.numeral.Numeral.the-variants.{Short, Long, Other}
 use Rattle.element.specs.Plain.{decoded}
-use Rattle.element.specs.Words.{packed}
 use Rattle.element.specs.Numeral.{some, digitsAhead, behindDigits, minus, unsigned, isTail, decimal}
 
 -- r is where the first decoded byte of the part from i up to e stands; it is not before e where there is none
@@ -63,13 +62,3 @@ abbrev pub judged : (ℕ → Bool) → Numeral → Bool
 judged h (Short m v n k) = h n
 judged h (Long n) = h n
 judged h Other = false
-
--- n bytes of a word are read, their number is sum, and the next one counts scale times
-pub record Begun (n sum scale : ℕ) : Type 0 where
-  pub few : n ≤ 6
-  pub below : sum < scale
-  pub scaled : scale ≡ 256 ^ n
-
--- the word that is begun so and goes on with the bytes s
-unfoldable pub wordFrom : ℕ → ℕ → ℕ → List ℕ → ℕ
-wordFrom n sum scale s = cond (leb (n + length s) 6) (sum + scale * packed s) 0

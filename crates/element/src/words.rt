@@ -7,7 +7,6 @@ ghost use Prim.Native.Nat.{_≤_, _<_};
 ghost use lib.ListN.{length};
 ghost use Rattle.element.specs.Plain.{decoded};
 ghost use Rattle.element.specs.Words.{wordOf};
-ghost use Rattle.element.specs.Inner.{Begun, wordFrom};
 
 fn wide(x: u8) -> u64
     ensures { λ r. ⌜ (r ≡ x) × (r < 256) ⌝ }
@@ -21,7 +20,7 @@ pub fn word_of(y: Syntax, d: &[u8], a: usize, e: usize) -> u64
 {
     let end = limit_of(d, e);
     let mut i = a;
-    let mut n = 0;
+    let mut n = 0usize;
     let mut sum = 0;
     let mut scale = 1;
     while n < 6 {
@@ -30,33 +29,25 @@ pub fn word_of(y: Syntax, d: &[u8], a: usize, e: usize) -> u64
         }
         let x = d[i];
         if cut::releases(y, x) {
-            return word_on(y, d, i, end, n, sum, scale);
+            return released_word(y, d, a, end);
         }
         sum += scale * wide(x);
         scale *= 256;
         n += 1;
         i += 1;
     }
-    word_on(y, d, i, end, n, sum, scale)
+    released_word(y, d, a, end)
 }
 
-// The same from the place `from` on, where `count` bytes are read that make `begun`, and the next one counts `weight` times.
-fn word_on(
-    y: Syntax,
-    d: &[u8],
-    from: usize,
-    end: usize,
-    count: usize,
-    begun: u64,
-    weight: u64,
-) -> u64
-    requires { ⌜ (end ≤ length (now d)) × Begun count begun weight ⌝ }
-    ensures { λ r. ⌜ r ≡ wordFrom count begun weight (decoded y from end (now (d .entry))) ⌝ }
+// The same where any byte may be a release mark. It reads from the start again: seven decoded bytes at most, and rarely.
+fn released_word(y: Syntax, d: &[u8], a: usize, end: usize) -> u64
+    requires { ⌜ end ≤ length (now d) ⌝ }
+    ensures { λ r. ⌜ r ≡ wordOf (decoded y a end (now (d .entry))) ⌝ }
 {
-    let mut i = from;
-    let mut n = count;
-    let mut sum = begun;
-    let mut scale = weight;
+    let mut i = a;
+    let mut n = 0usize;
+    let mut sum = 0;
+    let mut scale = 1;
     loop {
         let at = literal(y, d, i, end);
         if end <= at {

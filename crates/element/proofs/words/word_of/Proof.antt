@@ -5,9 +5,8 @@ use mathlib.Core.Path.{_≡_, sym, ap, _∙_}
 use lib.ListN.{length}
 use Rattle.element.specs.Plain.{decoded}
 use Rattle.element.specs.Words.{wordOf}
-use Rattle.element.specs.Inner.{Begun, wordFrom}
 use Rattle.element.proofs.Decoding.{decoded-limited, decoded-none, decoded-byte}
-use Rattle.element.proofs.Summing.{begun-none, begun-small, begun-fits, begun-more, word-start, word-end, word-more}
+use Rattle.element.proofs.Summing.{Begun, wordFrom, begun-none, begun-small, begun-fits, begun-more, word-start, word-end, word-more}
 use Rattle.element.proofs.words.word_of.Statement.{statement}
 use Rattle.element.proofs.words.word_of.Tie as tie
 
@@ -36,13 +35,11 @@ shared-slice-read-x c = omega arith
 releases-requires : tie.Need-releases-requires Inv-loop μ-loop
 releases-requires c κs = tt
 
-word-on-requires : tie.Need-word-on-requires Inv-loop μ-loop
-word-on-requires c κs =
-    let inv = c .before .before .before .before .before .loop .inv in
-    (inv .0, inv .1)
+released-word-requires : tie.Need-released-word-requires Inv-loop μ-loop
+released-word-requires c κs = c .before .before .before .before .before .loop .inv .0
 
 returns-2 : tie.Need-returns-2 Inv-loop μ-loop
-returns-2 c = c .word-on .ensures ∙ c .before .before .before .before .before .before .loop .inv .2
+returns-2 c = c .released-word .ensures ∙ ap wordOf (decoded-limited _ _ _ _ _ (c .before .before .before .before .before .before .before .limit-of .ensures))
 
 wide-requires : tie.Need-wide-requires Inv-loop μ-loop
 wide-requires c κs = tt
@@ -78,11 +75,11 @@ loop-again c =
           ∙ inv .2,
     )
 
-word-on-requires-2 : tie.Need-word-on-requires-2 Inv-loop μ-loop
-word-on-requires-2 c κs = (c .before .loop .inv .0, c .before .loop .inv .1)
+released-word-requires-2 : tie.Need-released-word-requires-2 Inv-loop μ-loop
+released-word-requires-2 c κs = c .before .loop .inv .0
 
 returns-3 : tie.Need-returns-3 Inv-loop μ-loop
-returns-3 c = c .word-on2 .ensures ∙ c .before .before .loop .inv .2
+returns-3 c = c .released-word2 .ensures ∙ ap wordOf (decoded-limited _ _ _ _ _ (c .before .before .before .limit-of .ensures))
 
 pub word-of-spec : {M : Type 1} → statement M
 word-of-spec =
@@ -96,7 +93,7 @@ word-of-spec =
     returns
     shared-slice-read-x
     releases-requires
-    word-on-requires
+    released-word-requires
     returns-2
     wide-requires
     mul-sum
@@ -106,5 +103,5 @@ word-of-spec =
     add-i
     loop-less
     loop-again
-    word-on-requires-2
+    released-word-requires-2
     returns-3)

@@ -1,22 +1,22 @@
--- `element::words::word_on` meets its contract. The loop's invariant: the word that is begun so goes on with what is left.
+-- `element::words::released_word` meets its contract. The loop's invariant: the word that is begun so goes on with what is left.
 use Prim.Native.Nat.{_-_}
 use native.Mathlib.Omega.{arith}
-use mathlib.Core.Path.{_≡_, refl, sym, _∙_}
+use mathlib.Core.Path.{_≡_, sym, _∙_}
 use Rattle.element.specs.Plain.{decoded}
-use Rattle.element.specs.Inner.{Begun, wordFrom}
-use Rattle.element.proofs.Summing.{begun-small, begun-fits, begun-more, word-end, word-long, word-more}
-use Rattle.element.proofs.words.word_on.Statement.{statement}
-use Rattle.element.proofs.words.word_on.Tie as tie
+use Rattle.element.specs.Words.{wordOf}
+use Rattle.element.proofs.Summing.{Begun, wordFrom, begun-none, begun-small, begun-fits, begun-more, word-start, word-end, word-long, word-more}
+use Rattle.element.proofs.words.released_word.Statement.{statement}
+use Rattle.element.proofs.words.released_word.Tie as tie
 
 abbrev Inv-loop : tie.InvT-loop
-Inv-loop y d from end count begun weight i₀ n₀ sum₀ scale₀ i n sum scale =
-    Begun n sum scale × (wordFrom n sum scale (decoded y i end d) ≡ wordFrom count begun weight (decoded y from end d))
+Inv-loop y d a end i₀ n₀ sum₀ scale₀ i n sum scale =
+    Begun n sum scale × (wordFrom n sum scale (decoded y i end d) ≡ wordOf (decoded y a end d))
 
 abbrev μ-loop : tie.MeasureT-loop
-μ-loop y d from end count begun weight i₀ n₀ sum₀ scale₀ i n sum scale = end - i
+μ-loop y d a end i₀ n₀ sum₀ scale₀ i n sum scale = end - i
 
 loop-holds : tie.Need-loop-holds Inv-loop μ-loop
-loop-holds c = (c .before .pre .1, refl)
+loop-holds c = (begun-none, word-start _)
 
 literal-requires : tie.Need-literal-requires Inv-loop μ-loop
 literal-requires c κs = omega arith
@@ -68,8 +68,8 @@ loop-again c =
           ∙ loop .loop .inv .1,
     )
 
-pub word-on-spec : {M : Type 1} → statement M
-word-on-spec =
+pub released-word-spec : {M : Type 1} → statement M
+released-word-spec =
     tie.close
     (tie.spec
     Inv-loop
