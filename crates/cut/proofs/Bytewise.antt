@@ -119,14 +119,18 @@ flags-of p t h = p .worth ∙ λ i. number 8 (λ k. h k i)
 pub flags-or : (s t : ℕ → Bool) → bitOr (flags s) (flags t) ≡ flags (λ k. s k || t k)
 flags-or s t = flags-of (eight-or (eight-flags s) (eight-flags t)) (λ k. s k || t k) (λ k. flag-or (s k) (t k))
 
-pub flags-same : (s t : ℕ → Bool) → flags s ≡ flags t → (k : ℕ) → k < 8 → s k ≡ t k
+flags-same : (s t : ℕ → Bool) → flags s ≡ flags t → (k : ℕ) → k < 8 → s k ≡ t k
 unfolding flags
 flags-same s t e k h =
     flag-eq (s k) (t k) (number-same 8 (λ k. flag (s k)) (λ k. flag (t k)) (λ k. flag-byte (s k)) (λ k. flag-byte (t k)) e k h)
 
 pub flags-none : (t : ℕ → Bool) → flags t ≡ 0 → (k : ℕ) → k < 8 → t k ≡ false
 unfolding flags number
-flags-none t e k h = flags-same t (λ k. false) e k h
+flags-none t e = flags-same t (λ k. false) e
+
+pub flags-all : (t : ℕ → Bool) → flags t ≡ 0x8080_8080_8080_8080 → (k : ℕ) → k < 8 → t k ≡ true
+unfolding flags number
+flags-all t e = flags-same t (λ k. true) e
 
 -- ---- bytes that are alike
 
@@ -147,11 +151,11 @@ xor-none a b = go (eqb a b) refl
         eq-eqb (bitXor a b) 0 (rw q (xor-self b))
     go false e = ne-eqb (bitXor a b) 0 (λ (z : bitXor a b ≡ 0). eqb-false a b e (omega (arith, xor-add-and a b, and-le-l a b, and-le-r a b)))
 
-low : Eight 0x7f7f_7f7f_7f7f_7f7f (λ k. 127)
+pub low : Eight 0x7f7f_7f7f_7f7f_7f7f (λ k. 127)
 unfolding number
 low = record { worth = refl; bytes = λ k. omega arith }
 
-high : Eight 0x8080_8080_8080_8080 (λ k. 128)
+pub high : Eight 0x8080_8080_8080_8080 (λ k. 128)
 unfolding number
 high = record { worth = refl; bytes = λ k. omega arith }
 
