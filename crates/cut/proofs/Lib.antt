@@ -26,3 +26,5 @@ pub mod Holding
 pub mod Passing
 pub mod Face
 pub mod Kept
+pub mod Every
+pub mod Bytewise

@@ -1,20 +1,23 @@
 -- Laws for the loop over bytes: the answer for the segment that is open, seen from the byte that is read next.
-use Prim.Native.Nat.{ℕ, suc, _+_, _≤_, _<_}
-use mathlib.Core.Path.{_≡_, refl, _∙_}
-use mathlib.Core.Bool.{Bool, true, false}
+use Prim.Native.Nat.{ℕ, zero, suc, _+_, _≤_, _<_}
+use mathlib.Core.Path.{_≡_, refl, sym, _∙_}
+use mathlib.Core.Bool.{Bool, true, false, false≢true, or-true}
 use mathlib.Core.List.{List, [], _∷_}
+use native.Mathlib.Nat.{add-zero}
 use native.Mathlib.Numerals.{add-one}
 use native.Mathlib.Omega.{arith}
 use lib.ListN.{length, getD, drop, drop-of-length-le}
 use lib.Seq.{drop-cons}
 use lib.Dec.{eqb}
-use borrow.Author.Tests.{eq-eqb, ne-eqb}
+use borrow.Author.Tests.{eq-eqb, ne-eqb, eqb-true}
 use Rattle.cut.specs.declared.service.Syntax.{Syntax}
 use Rattle.cut.specs.declared.scan.Cut.{Cut}
 use Rattle.cut.specs.declared.scan.Cut.the-variants as cut
 use Rattle.cut.specs.Segments.{Segment, ends, frees, join, segmentsFrom}
 use Rattle.cut.specs.Calls.{headCut, cutFrom}
-use Rattle.cut.specs.Workers.{openCut, Onward, Marked}
+use Rattle.cut.specs.Eights.{onFrom, flags, First}
+use Rattle.cut.specs.Workers.{openCut, isMark, Onward, Marked}
+use Rattle.cut.proofs.Bytewise.{flags-none}
 
 open-more : (at i x : ℕ) (ss : List Segment) → openCut at i (join false i x ss) ≡ openCut at (i + 1) ss
 unfolding openCut join
@@ -91,6 +94,29 @@ module _ (y : Syntax) (d : List ℕ) where
       let o = q .onward in
       record { onward = omega arith; inside = omega arith; seen = λ at. q .seen at ∙ open-on at j false h n (ne-eqb _ _ f) }
 
+  onward-other : (i j : ℕ) → Onward y d i false j → j < length d → isMark y (getD d j 0) ≡ false → Onward y d i false (j + 1)
+  unfolding isMark
+  onward-other i j q h e = onward-plain i j q h (λ t. absurd (false≢true (sym e ∙ rw (eq-eqb _ _ t)))) (λ t. absurd (false≢true (sym e ∙ rw (eq-eqb _ _ t, or-true))))
+
+  -- nor is any of n bytes
+  onward-run
+      : (i j n : ℕ) → Onward y d i false j → j + n ≤ length d → ((k : ℕ) → k < n → isMark y (getD d (j + k) 0) ≡ false)
+      → Onward y d i false (j + n)
+  onward-run i j zero q h t = rw (add-zero j) q
+  onward-run i j (suc n) q h t =
+      let z : j + suc n ≡ j + n + 1 = omega arith in
+      rw z (onward-other i (j + n) (onward-run i j n q (omega arith) (λ k l. t k (omega arith))) (omega arith) (t n (omega arith)))
+
+  -- a place from which the next mark is seen
+  pub onward-marked : (i j k : ℕ) → Onward y d i false j → Marked y d j k → Marked y d i k
+  onward-marked i j k q m =
+      let o = q .onward in
+      let p = m .passed .onward in
+      record {
+        passed = record { onward = omega arith; inside = m .passed .inside; seen = λ at. q .seen at ∙ m .passed .seen at };
+        mark = m .mark;
+      }
+
   -- a mark, or the end, where no byte before it is one
   module _ (i j : ℕ) (q : Onward y d i false j) where
     pub marked-end : getD d j 0 ≡ y .terminator → Marked y d i j
@@ -99,8 +125,22 @@ module _ (y : Syntax) (d : List ℕ) where
     pub marked-release : getD d j 0 ≡ y .release → Marked y d i j
     marked-release e = record { passed = q; mark = λ h n. e }
 
+    marked-at : isMark y (getD d j 0) ≡ true → Marked y d i j
+    unfolding isMark
+    marked-at e = record { passed = q; mark = λ h n. eqb-true _ _ (rw (ne-eqb _ _ n) at e) }
+
     pub marked-out : length d ≤ j → Marked y d i j
     marked-out k = record { passed = q; mark = λ h n. absurd (omega arith) }
+
+  -- eight bytes at once: m flags those that are a mark
+  module _ (i j m : ℕ) (q : Onward y d i false j) (h : j + 8 ≤ length d) (e : m ≡ flags (λ k. isMark y (onFrom d j k))) where
+    pub eight-passed : m ≡ 0 → Onward y d i false (j + 8)
+    eight-passed z = onward-run i j 8 q h (flags-none (λ k. isMark y (onFrom d j k)) (sym e ∙ z))
+
+    pub eight-marked : (f : ℕ) → First m f → (m ≡ 0 → ⊥) → Marked y d i (j + f)
+    eight-marked f r n =
+        let p = r (λ k. isMark y (onFrom d j k)) e n in
+        marked-at i (j + f) (onward-run i j f q (omega (arith, p .within)) (p .before)) (p .passes)
 
   -- the answer for the open segment, at the next mark and past a release mark there
   pub open-marked

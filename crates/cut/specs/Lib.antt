@@ -1,4 +1,6 @@
 pub mod Bytes
+pub mod Every
+pub mod Eights
 pub mod Segments
 pub mod Admission
 pub mod Messages

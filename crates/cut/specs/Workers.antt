@@ -1,10 +1,10 @@
 -- What the private workers of the walks answer. The public answers are those of Calls; laws in proofs/ tie the two.
 use Prim.Native.Nat.{ℕ, _+_, _≤_, _<_}
 use mathlib.Core.Path.{_≡_}
-use mathlib.Core.Bool.{Bool, true, false}
+use mathlib.Core.Bool.{Bool, true, false, _||_}
 use mathlib.Core.List.{List, [], _∷_}
 use lib.ListN.{length, getD, drop}
-use lib.Dec.{leb}
+use lib.Dec.{leb, eqb}
 use Rattle.cut.specs.declared.service.Syntax.{Syntax}
 use Rattle.cut.specs.declared.scan.Cut.{Cut}
 use Rattle.cut.specs.declared.scan.Cut.the-variants as cut
@@ -32,6 +32,10 @@ pub record Onward (y : Syntax) (d : List ℕ) (i : ℕ) (r : Bool) (j : ℕ) : T
 -- the same for any service characters: j is past the byte at i if that is released
 abbrev pub Released : List ℕ → ℕ → Bool → ℕ → Type 0
 Released d i r j = (y : Syntax) → Onward y d i r j
+
+-- whether x is the terminator or the release character
+unfoldable pub isMark : Syntax → ℕ → Bool
+isMark y x = eqb x (y .terminator) || eqb x (y .release)
 
 -- from i up to j no byte is the terminator or the release character; the one at j is
 pub record Marked (y : Syntax) (d : List ℕ) (i j : ℕ) : Type 0 where

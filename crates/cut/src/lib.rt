@@ -3,6 +3,7 @@
 mod admit;
 pub mod base;
 mod begins;
+mod eights;
 mod member;
 mod message;
 mod outer;
@@ -16,6 +17,7 @@ pub use admit::admission;
 pub use admit::opening;
 pub use begins::begins_segment;
 pub use begins::releases;
+pub use eights::eight_at;
 pub use member::Member;
 pub use member::member_at;
 pub use message::Found;

@@ -1,10 +1,14 @@
 // The loop over bytes: where a segment ends.
+use crate::eights::alike;
+use crate::eights::eight_at;
+use crate::eights::first_of;
 use crate::service::Syntax;
 ghost use mathlib.Core.Path.{_≡_};
 ghost use Prim.Native.Nat.{_≤_};
 ghost use lib.ListN.{length};
 ghost use Rattle.cut.specs.Calls.{cutFrom, segmentAt};
-ghost use Rattle.cut.specs.Workers.{Marked, Released};
+ghost use Rattle.cut.specs.Eights.{Flagged};
+ghost use Rattle.cut.specs.Workers.{isMark, Marked, Released};
 
 // A segment's first byte, the byte after its last, and whether it is an unterminated piece; or nothing.
 pub enum Cut {
@@ -52,8 +56,31 @@ pub(crate) fn cut_from(y: Syntax, d: &[u8], at: usize, released: bool) -> Cut
 }
 
 // The place of the next byte from `from` on that is the terminator or the release character; the delivery's end, if there is none.
-// A loop of its own, since it goes on by one byte whatever it has read: the step to the next place waits for no byte.
+// Eight bytes are tested at once, and one by one those that are left at the delivery's end.
 fn next_mark(y: Syntax, d: &[u8], from: usize) -> usize
+    requires { ⌜ from ≤ length (now d) ⌝ }
+    ensures { λ r. ⌜ Marked y (now (d .entry)) from r ⌝ }
+{
+    let mut i = from;
+    while 8 <= d.len() - i {
+        let m = marks_in(y, eight_at(d, i));
+        if m != 0 {
+            return i + first_of(m);
+        }
+        i += 8;
+    }
+    rest_mark(y, d, i)
+}
+
+// Which of eight bytes are the terminator or the release character.
+fn marks_in(y: Syntax, w: u64) -> u64
+    ensures { λ r. ⌜ Flagged w (isMark y) r ⌝ }
+{
+    alike(w, y.terminator) | alike(w, y.release)
+}
+
+// The same as `next_mark`, a byte at a time.
+fn rest_mark(y: Syntax, d: &[u8], from: usize) -> usize
     requires { ⌜ from ≤ length (now d) ⌝ }
     ensures { λ r. ⌜ Marked y (now (d .entry)) from r ⌝ }
 {

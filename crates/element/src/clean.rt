@@ -3,7 +3,10 @@ use crate::limit::limit_of;
 use cut::Syntax;
 ghost use mathlib.Core.Path.{_≡_};
 ghost use mathlib.Core.Bool.{_&&_};
+ghost use Prim.Native.Nat.{_≤_};
+ghost use lib.ListN.{length};
 ghost use Rattle.cut.specs.Bytes.{part};
+ghost use Rattle.cut.specs.Eights.{Flagged};
 ghost use Rattle.element.specs.Clean.{allowedByte, allowedBytes, capital, endsTag, taggedBytes};
 
 fn allowed_byte(x: u8) -> bool
@@ -18,11 +21,40 @@ fn allowed_byte(x: u8) -> bool
     160 <= x
 }
 
-// Whether the part holds no byte that refusal 10 is given for.
+// The flags of eight bytes that are all allowed.
+const ALL: u64 = 0x8080_8080_8080_8080;
+
+// Whether the part holds no byte that refusal 10 is given for. Eight bytes are tested at once while all eight are allowed: the byte that
+// is not, or the delivery's end, may stand behind the part.
 pub fn allowed(d: &[u8], a: usize, e: usize) -> bool
     ensures { λ r. ⌜ r ≡ allowedBytes (part a e (now (d .entry))) ⌝ }
 {
     let end = limit_of(d, e);
+    let mut i = a;
+    while i < end {
+        if allowed_in(cut::eight_at(d, i)) != ALL {
+            return rest_allowed(d, i, end);
+        }
+        i += 8;
+    }
+    true
+}
+
+// Which of eight bytes are allowed: a byte without its high bit is 32 or more, and 127 only with that bit. No sum reaches the next byte.
+fn allowed_in(w: u64) -> u64
+    ensures { λ r. ⌜ Flagged w allowedByte r ⌝ }
+{
+    let low = w & 0x7f7f_7f7f_7f7f_7f7f;
+    let text = low + 0x6060_6060_6060_6060;
+    let delete = low + 0x0101_0101_0101_0101;
+    text & ((delete ^ ALL) | w) & ALL
+}
+
+// The same as `allowed`, a byte at a time.
+fn rest_allowed(d: &[u8], a: usize, end: usize) -> bool
+    requires { ⌜ end ≤ length (now d) ⌝ }
+    ensures { λ r. ⌜ r ≡ allowedBytes (part a end (now (d .entry))) ⌝ }
+{
     let mut i = a;
     let mut clean = true;
     while i < end {

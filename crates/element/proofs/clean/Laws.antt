@@ -1,14 +1,20 @@
--- The tests of refusals 10 and 11, a byte at a time.
+-- The tests of refusals 10 and 11, a byte at a time, and that of refusal 10 eight bytes at once.
 use Prim.Native.Nat.{ℕ, zero, suc, _+_, _-_, _≤_, _<_, min}
-use mathlib.Core.Path.{_≡_, refl, sym}
+use mathlib.Core.Path.{_≡_, refl, sym, _∙_}
 use mathlib.Core.Bool.{Bool, true, false, _&&_, and-true, and-false}
 use mathlib.Core.List.{List, [], _∷_}
+use native.Mathlib.Nat.{add-zero}
 use native.Mathlib.Omega.{arith}
-use borrow.Author.Tests.{eq-eqb, ne-eqb, le-leb, lt-leb}
+use borrow.Author.Tests.{eq-eqb, ne-eqb, le-leb, lt-leb, leb-true, leb-false}
 use lib.ListN.{length, getD}
-use lib.Dec.{eqb, leb}
+use lib.Dec.{eqb, leb, eqb→eq}
+use lib.Bits.{bitAnd, bitOr, bitXor, and-le-r}
 use Rattle.cut.specs.Bytes.{part}
+use Rattle.cut.specs.Every.{every}
+use Rattle.cut.specs.Eights.{number, onFrom, eightAt, Eight, flag, flags, Flagged}
 use Rattle.cut.specs.declared.service.Syntax.{Syntax}
+use Rattle.cut.proofs.Every.{every-at}
+use Rattle.cut.proofs.Bytewise.{eight-and, eight-or, eight-xor, eight-add, eight-each, eight-short, eight-from, low, high, flags-of, flags-all}
 use Rattle.cut.proofs.Parts.{part-none, part-next, length-part}
 use Rattle.element.proofs.Limits.{limited}
 use Rattle.element.specs.Clean.{between, allowedByte, allowedBytes, capital, endsTag, lettered, taggedBytes}
@@ -32,9 +38,12 @@ module _ (x : ℕ) where
 
 -- whether all bytes are allowed, where b says it of those before the place i
 module _ (d : List ℕ) (i e : ℕ) where
-  pub allowed-end : (b : Bool) → e ≤ i → b && allowedBytes (part i e d) ≡ b
+  pub allowed-none : e ≤ i → allowedBytes (part i e d) ≡ true
   unfolding allowedBytes
-  allowed-end b h = rw (part-none d i e h) (and-true b)
+  allowed-none h = rw (part-none d i e h)
+
+  pub allowed-end : (b : Bool) → e ≤ i → b && allowedBytes (part i e d) ≡ b
+  allowed-end b h = rw (allowed-none h) (and-true b)
 
   pub allowed-next
       : (b c : Bool) → i < e → e ≤ length d → c ≡ allowedByte (getD d i 0)
@@ -42,6 +51,66 @@ module _ (d : List ℕ) (i e : ℕ) where
   unfolding allowedBytes
   allowed-next true c h k f = rw (part-next d i e h k, f)
   allowed-next false c h k f = refl
+
+-- ---- eight bytes at once
+
+-- what is computed from one byte
+allowedIn : ℕ → ℕ
+allowedIn x = bitAnd (bitAnd (bitAnd x 127 + 96) (bitOr (bitXor (bitAnd x 127 + 1) 128) x)) 128
+
+allowed-in-byte : (x : ℕ) → x < 256 → allowedIn x ≡ flag (allowedByte x)
+unfolding allowedIn allowedByte between every
+allowed-in-byte x h = eqb→eq (allowedIn x) (flag (allowedByte x)) (every-at (λ x. eqb (allowedIn x) (flag (allowedByte x))) 256 x tt h)
+
+pub allowed-flags
+    : (w : ℕ) (x : ℕ → ℕ) → Eight w x
+    → bitAnd
+    (bitAnd (bitAnd w 0x7f7f_7f7f_7f7f_7f7f + 0x6060_6060_6060_6060)
+    (bitOr (bitXor (bitAnd w 0x7f7f_7f7f_7f7f_7f7f + 0x0101_0101_0101_0101) 0x8080_8080_8080_8080) w)) 0x8080_8080_8080_8080
+    ≡ flags (λ k. allowedByte (x k))
+unfolding allowedIn
+allowed-flags w x p =
+    let q = eight-and p low in
+    let s = eight-add q (eight-each 96 (omega arith)) (λ k. omega (arith, and-le-r (x k) 127)) in
+    let t = eight-add q (eight-each 1 (omega arith)) (λ k. omega (arith, and-le-r (x k) 127)) in
+    flags-of (eight-and (eight-and s (eight-or (eight-xor t high) p)) high) (λ k. allowedByte (x k)) (λ k. allowed-in-byte (x k) (p .bytes k))
+
+module _ (d : List ℕ) (e : ℕ) (h : e ≤ length d) where
+  -- an allowed byte, which may stand behind the part
+  allowed-pass : (i : ℕ) → allowedByte (getD d i 0) ≡ true → allowedBytes (part i e d) ≡ allowedBytes (part (i + 1) e d)
+  unfolding allowedBytes
+  allowed-pass i t = go (leb e i) refl
+    where
+      go : (b : Bool) → leb e i ≡ b → allowedBytes (part i e d) ≡ allowedBytes (part (i + 1) e d)
+      go true q =
+          let l : e ≤ i = leb-true e i q in
+          let k : e ≤ i + 1 = omega arith in
+          rw (part-none d i e l, part-none d (i + 1) e k)
+      go false q = rw (part-next d i e (leb-false e i q) h, t)
+
+  allowed-run
+      : (i n : ℕ) → ((k : ℕ) → k < n → allowedByte (getD d (i + k) 0) ≡ true) → allowedBytes (part i e d) ≡ allowedBytes (part (i + n) e d)
+  allowed-run i zero t = rw (add-zero i)
+  allowed-run i (suc n) t =
+      let z : i + suc n ≡ i + n + 1 = omega arith in
+      rw z (allowed-run i n (λ k l. t k (omega arith)) ∙ allowed-pass (i + n) (t n (omega arith)))
+
+-- m flags all eight bytes from i on as allowed
+module _ (d : List ℕ) (i w m : ℕ) (r : w ≡ eightAt d i) (f : Flagged w allowedByte m) (all : m ≡ 0x8080_8080_8080_8080) where
+  pub eight-inside : i + 8 ≤ length d
+  unfolding number flags allowedByte between
+  eight-inside = go (leb (i + 8) (length d)) refl
+    where
+      go : (b : Bool) → leb (i + 8) (length d) ≡ b → i + 8 ≤ length d
+      go true q = leb-true (i + 8) (length d) q
+      go false q =
+          let none : Eight w (λ k. 0) = record { worth = r ∙ eight-short d i (leb-false (i + 8) (length d) q); bytes = λ k. omega arith } in
+          let z : _≡_ {A = ℕ} 0x8080_8080_8080_8080 0 = sym all ∙ f (λ k. 0) none in
+          absurd (omega arith)
+
+  pub eight-allowed : (e : ℕ) → e ≤ length d → ((k : ℕ) → getD d k 0 < 256) → allowedBytes (part i e d) ≡ allowedBytes (part (i + 8) e d)
+  eight-allowed e h b =
+      allowed-run d e h i 8 (flags-all (λ k. allowedByte (onFrom d i k)) (sym (f (onFrom d i) (rw r (eight-from d i eight-inside b))) ∙ all))
 
 module _ (y : Syntax) (x : ℕ) where
   pub ends-element : x ≡ y .element → true ≡ endsTag y x

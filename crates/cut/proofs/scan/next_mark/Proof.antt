@@ -1,11 +1,14 @@
 -- `cut::scan::next_mark` meets its contract. The loop's invariant: the bytes up to here are passed.
 use Prim.Native.Nat.{_-_}
 use mathlib.Core.Bool.{false}
-use mathlib.Core.Path.{refl}
+use mathlib.Core.Path.{_≡_, refl}
+use native.Mathlib.Omega.{arith}
 use borrow.Author.Needs.{needs}
 use lib.ListN.{length}
-use Rattle.cut.specs.Workers.{Onward}
-use Rattle.cut.proofs.Scanning.{onward-none, onward-plain, marked-end, marked-release, marked-out}
+use Rattle.cut.specs.Eights.{onFrom, flags}
+use Rattle.cut.specs.Workers.{isMark, Onward}
+use Rattle.cut.proofs.Bytewise.{eight-from}
+use Rattle.cut.proofs.Scanning.{onward-none, onward-marked, eight-passed, eight-marked}
 use Rattle.cut.proofs.scan.next_mark.Statement.{statement}
 use Rattle.cut.proofs.scan.next_mark.Tie as tie
 
@@ -16,16 +19,39 @@ abbrev μ-loop : tie.MeasureT-loop
 μ-loop y d from i₀ i = length d - i
 
 loop-holds : tie.Need-loop-holds Inv-loop μ-loop
-loop-holds c = onward-none _ _ _ _ refl (c .pre)
+loop-holds c = onward-none _ _ _ _ refl (c .before .pre)
 
-shared-slice-read-x : tie.Need-shared-slice-read-x Inv-loop μ-loop
-shared-slice-read-x c = search needs
+sub-loop : tie.Need-sub-loop Inv-loop μ-loop
+sub-loop c = search needs
+
+eight-at-requires : tie.Need-eight-at-requires Inv-loop μ-loop
+eight-at-requires c κs = search needs
+
+marks-in-requires : tie.Need-marks-in-requires Inv-loop μ-loop
+marks-in-requires c κs = search needs
+
+-- those of the eight bytes from here on that are flagged
+flagged
+    : (c : tie.After-marks-in Inv-loop μ-loop)
+    → let known = c .before .before .before .before in
+    c .marks-in .result ≡ flags (λ k. isMark (known .before .args .y) (onFrom (known .before .args .d .now) (c .before .before .before .loop .i) k))
+flagged c =
+    let known = c .before .before .before .before in
+    let bytes = eight-from (known .before .args .d .now) (c .before .before .before .loop .i) (omega arith) (λ k. omega (arith, known .shared-slice-known .given k)) in
+    c .marks-in .ensures _ (rw (c .before .eight-at .ensures) bytes)
+
+first-of-requires : tie.Need-first-of-requires Inv-loop μ-loop
+first-of-requires c κs = search needs
+
+add-result : tie.Need-add-result Inv-loop μ-loop
+add-result c =
+    let f = c .first-of .ensures _ (flagged (c .before .before)) (c .before .if1 .taken) in
+    omega (arith, f .within)
 
 returns : tie.Need-returns Inv-loop μ-loop
-returns c = marked-end _ _ _ _ (c .before .before .before .before .loop .inv) (c .if1 .taken)
-
-returns-2 : tie.Need-returns-2 Inv-loop μ-loop
-returns-2 c = marked-release _ _ _ _ (c .before .before .before .before .before .before .loop .inv) (c .if2 .taken)
+returns c =
+    let b = c .before .before in
+    eight-marked _ _ _ _ _ (b .before .before .before .loop .inv) (omega arith) (flagged b) _ (c .first-of .ensures) (c .before .if1 .taken)
 
 add-i : tie.Need-add-i Inv-loop μ-loop
 add-i c = search needs
@@ -34,12 +60,13 @@ loop-less : tie.Need-loop-less Inv-loop μ-loop
 loop-less c = search needs
 
 loop-again : tie.Need-loop-again Inv-loop μ-loop
-loop-again c =
-    let b = c .before .before in
-    onward-plain _ _ _ _ (b .before .before .before .before .loop .inv) (b .before .before .before .loop-test .taken) (b .if1 .left) (c .if2 .left)
+loop-again c = eight-passed _ _ _ _ _ (c .before .before .before .before .loop .inv) (omega arith) (flagged (c .before)) (c .if1 .left)
 
-returns-3 : tie.Need-returns-3 Inv-loop μ-loop
-returns-3 c = marked-out _ _ _ _ (c .before .loop .inv) (c .loop-test .left)
+rest-mark-requires : tie.Need-rest-mark-requires Inv-loop μ-loop
+rest-mark-requires c κs = search needs
+
+returns-2 : tie.Need-returns-2 Inv-loop μ-loop
+returns-2 c = onward-marked _ _ _ _ _ (c .before .before .loop .inv) (c .rest-mark .ensures)
 
 pub next-mark-spec : {M : Type 1} → statement M
 next-mark-spec =
@@ -48,10 +75,14 @@ next-mark-spec =
     Inv-loop
     μ-loop
     loop-holds
-    shared-slice-read-x
+    sub-loop
+    eight-at-requires
+    marks-in-requires
+    first-of-requires
+    add-result
     returns
-    returns-2
     add-i
     loop-less
     loop-again
-    returns-3)
+    rest-mark-requires
+    returns-2)

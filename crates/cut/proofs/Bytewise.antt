@@ -1,0 +1,233 @@
+-- Operations on eight bytes at once work on each byte apart, so that a fact about one byte, computed for each of the 256, is one about all eight.
+use Prim.Native.Nat.{ℕ, zero, suc, _+_, _*_, _/_, _%_, _^_, _≤_, _<_}
+use mathlib.Core.Path.{_≡_, refl, sym, ap, _∙_}
+use mathlib.Core.Bool.{Bool, true, false, _||_}
+use mathlib.Core.List.{List}
+use native.Mathlib.Nat.{suc-add, suc-mul, add-comm}
+use native.Mathlib.Omega.{arith}
+use lib.ListN.{length, getD}
+use lib.Dec.{T, eqb, eqb→eq}
+use lib.Bits.{bitAnd, bitOr, bitXor, and-block, or-block, xor-block, and-lt, or-lt, xor-lt, and-le-l, and-le-r, xor-self, xor-add-and, shifted-half, shifted-even}
+use lib.Count.{trailingZeros, under}
+use borrow.Author.Tests.{le-leb, lt-leb, eq-eqb, ne-eqb, eqb-true, eqb-false}
+use Rattle.cut.specs.Every.{every}
+use Rattle.cut.specs.Eights.{number, onFrom, eightAt, Eight, flag, flags, FirstOf, First}
+use Rattle.cut.proofs.Every.{every-at}
+
+-- ---- rows of digits
+
+module _
+    (op : ℕ → ℕ → ℕ)
+    (none : op 0 0 ≡ 0)
+    (block : (k a b r s : ℕ) → r < 2 ^ k → s < 2 ^ k → op (a * 2 ^ k + r) (b * 2 ^ k + s) ≡ op a b * 2 ^ k + op r s)
+    (bound : (k a b : ℕ) → a < 2 ^ k → b < 2 ^ k → op a b < 2 ^ k) where
+  number-op
+      : (n : ℕ) (x y : ℕ → ℕ) → ((k : ℕ) → x k < 256) → ((k : ℕ) → y k < 256)
+      → op (number n x) (number n y) ≡ number n (λ k. op (x k) (y k))
+  unfolding number
+  number-op zero x y h l = none
+  number-op (suc n) x y h l =
+      block 8 (number n (λ k. x (suc k))) (number n (λ k. y (suc k))) (x 0) (y 0) (h 0) (l 0)
+      ∙ ap (λ (m : ℕ). m * 256 + op (x 0) (y 0)) (number-op n (λ k. x (suc k)) (λ k. y (suc k)) (λ k. h (suc k)) (λ k. l (suc k)))
+
+  eight-op : {v w : ℕ} {x y : ℕ → ℕ} → Eight v x → Eight w y → Eight (op v w) (λ k. op (x k) (y k))
+  eight-op {v} {w} {x} {y} p q = record {
+    worth = rw (p .worth, q .worth) (number-op 8 x y (p .bytes) (q .bytes));
+    bytes = λ k. bound 8 (x k) (y k) (p .bytes k) (q .bytes k);
+  }
+
+number-add : (n : ℕ) (x y : ℕ → ℕ) → number n x + number n y ≡ number n (λ k. x k + y k)
+unfolding number
+number-add zero x y = refl
+number-add (suc n) x y = omega (arith, number-add n (λ k. x (suc k)) (λ k. y (suc k)))
+
+-- equal numbers have equal digits
+number-same
+    : (n : ℕ) (x y : ℕ → ℕ) → ((k : ℕ) → x k < 256) → ((k : ℕ) → y k < 256) → number n x ≡ number n y → (k : ℕ) → k < n → x k ≡ y k
+unfolding number
+number-same zero x y h l e k b = absurd (omega arith)
+number-same (suc n) x y h l e zero b = omega (arith, h 0, l 0)
+number-same (suc n) x y h l e (suc k) b =
+    number-same n (λ k. x (suc k)) (λ k. y (suc k)) (λ k. h (suc k)) (λ k. l (suc k)) (omega (arith, h 0, l 0)) k (omega arith)
+
+-- ---- operations on eight bytes
+
+pub eight-and : {v w : ℕ} {x y : ℕ → ℕ} → Eight v x → Eight w y → Eight (bitAnd v w) (λ k. bitAnd (x k) (y k))
+eight-and = eight-op bitAnd refl and-block and-lt
+
+pub eight-or : {v w : ℕ} {x y : ℕ → ℕ} → Eight v x → Eight w y → Eight (bitOr v w) (λ k. bitOr (x k) (y k))
+eight-or = eight-op bitOr refl or-block or-lt
+
+pub eight-xor : {v w : ℕ} {x y : ℕ → ℕ} → Eight v x → Eight w y → Eight (bitXor v w) (λ k. bitXor (x k) (y k))
+eight-xor = eight-op bitXor refl xor-block xor-lt
+
+-- where no sum of two bytes reaches the next one
+pub eight-add : {v w : ℕ} {x y : ℕ → ℕ} → Eight v x → Eight w y → ((k : ℕ) → x k + y k < 256) → Eight (v + w) (λ k. x k + y k)
+eight-add {v} {w} {x} {y} p q h = record { worth = rw (p .worth, q .worth) (number-add 8 x y); bytes = h }
+
+-- the same byte eight times
+pub eight-each : (b : ℕ) → b < 256 → Eight (0x0101_0101_0101_0101 * b) (λ k. b)
+unfolding number
+eight-each b h = record { worth = omega arith; bytes = λ k. h }
+
+-- ---- the bytes of a delivery
+
+pub eight-short : (d : List ℕ) (i : ℕ) → length d < i + 8 → eightAt d i ≡ 0
+unfolding eightAt
+eight-short d i h = rw (lt-leb (i + 8) (length d) h)
+
+pub eight-long
+    : (d : List ℕ) (i : ℕ) → i + 8 ≤ length d
+    → getD d i 0 + 0x100 * getD d (i + 1) 0 + 0x1_0000 * getD d (i + 2) 0 + 0x100_0000 * getD d (i + 3) 0 + 0x1_0000_0000 * getD d (i + 4) 0
+    + 0x100_0000_0000 * getD d (i + 5) 0 + 0x1_0000_0000_0000 * getD d (i + 6) 0 + 0x100_0000_0000_0000 * getD d (i + 7) 0
+    ≡ eightAt d i
+unfolding eightAt number
+eight-long d i h =
+    let z : i + 0 ≡ i = omega arith in
+    rw (le-leb (i + 8) (length d) h, z) (omega arith)
+
+pub eight-from : (d : List ℕ) (i : ℕ) → i + 8 ≤ length d → ((k : ℕ) → getD d k 0 < 256) → Eight (eightAt d i) (onFrom d i)
+unfolding eightAt
+eight-from d i h b = record { worth = rw (le-leb (i + 8) (length d) h); bytes = λ k. b (i + k) }
+
+-- ---- flags
+
+flag-byte : (b : Bool) → flag b < 256
+flag-byte true = omega arith
+flag-byte false = omega arith
+
+flag-or : (a b : Bool) → bitOr (flag a) (flag b) ≡ flag (a || b)
+flag-or true true = refl
+flag-or true false = refl
+flag-or false b = refl
+
+flag-eq : (a b : Bool) → flag a ≡ flag b → a ≡ b
+flag-eq true true e = refl
+flag-eq true false e = absurd (omega arith)
+flag-eq false true e = absurd (omega arith)
+flag-eq false false e = refl
+
+eight-flags : (t : ℕ → Bool) → Eight (flags t) (λ k. flag (t k))
+unfolding flags
+eight-flags t = record { worth = refl; bytes = λ k. flag-byte (t k) }
+
+-- a byte that is computed from each of eight is the flag of a test of it
+pub flags-of : {w : ℕ} {x : ℕ → ℕ} → Eight w x → (t : ℕ → Bool) → ((k : ℕ) → x k ≡ flag (t k)) → w ≡ flags t
+unfolding flags
+flags-of p t h = p .worth ∙ λ i. number 8 (λ k. h k i)
+
+pub flags-or : (s t : ℕ → Bool) → bitOr (flags s) (flags t) ≡ flags (λ k. s k || t k)
+flags-or s t = flags-of (eight-or (eight-flags s) (eight-flags t)) (λ k. s k || t k) (λ k. flag-or (s k) (t k))
+
+flags-same : (s t : ℕ → Bool) → flags s ≡ flags t → (k : ℕ) → k < 8 → s k ≡ t k
+unfolding flags
+flags-same s t e k h =
+    flag-eq (s k) (t k) (number-same 8 (λ k. flag (s k)) (λ k. flag (t k)) (λ k. flag-byte (s k)) (λ k. flag-byte (t k)) e k h)
+
+pub flags-none : (t : ℕ → Bool) → flags t ≡ 0 → (k : ℕ) → k < 8 → t k ≡ false
+unfolding flags number
+flags-none t e = flags-same t (λ k. false) e
+
+pub flags-all : (t : ℕ → Bool) → flags t ≡ 0x8080_8080_8080_8080 → (k : ℕ) → k < 8 → t k ≡ true
+unfolding flags number
+flags-all t e = flags-same t (λ k. true) e
+
+-- ---- bytes that are alike
+
+-- what is computed from a byte's difference
+alikeByte : ℕ → ℕ
+alikeByte v = bitXor (bitAnd (bitOr (bitAnd v 127 + 127) v) 128) 128
+
+alike-byte : (v : ℕ) → v < 256 → alikeByte v ≡ flag (eqb v 0)
+unfolding alikeByte every
+alike-byte v h = eqb→eq (alikeByte v) (flag (eqb v 0)) (every-at (λ v. eqb (alikeByte v) (flag (eqb v 0))) 256 v tt h)
+
+xor-none : (a b : ℕ) → eqb (bitXor a b) 0 ≡ eqb a b
+xor-none a b = go (eqb a b) refl
+  where
+    go : (t : Bool) → eqb a b ≡ t → eqb (bitXor a b) 0 ≡ t
+    go true e =
+        let q : a ≡ b = eqb-true a b e in
+        eq-eqb (bitXor a b) 0 (rw q (xor-self b))
+    go false e = ne-eqb (bitXor a b) 0 (λ (z : bitXor a b ≡ 0). eqb-false a b e (omega (arith, xor-add-and a b, and-le-l a b, and-le-r a b)))
+
+pub low : Eight 0x7f7f_7f7f_7f7f_7f7f (λ k. 127)
+unfolding number
+low = record { worth = refl; bytes = λ k. omega arith }
+
+pub high : Eight 0x8080_8080_8080_8080 (λ k. 128)
+unfolding number
+high = record { worth = refl; bytes = λ k. omega arith }
+
+-- the differences of eight bytes from the byte b
+abbrev apartBy : ℕ → ℕ → ℕ
+apartBy w b = bitXor w (0x0101_0101_0101_0101 * b)
+
+pub alike-fits : (w b : ℕ) → bitAnd (apartBy w b) 0x7f7f_7f7f_7f7f_7f7f + 0x7f7f_7f7f_7f7f_7f7f < 2 ^ 64
+alike-fits w b = omega (arith, and-le-r (apartBy w b) 0x7f7f_7f7f_7f7f_7f7f)
+
+pub alike-flags
+    : (w b : ℕ) (x : ℕ → ℕ) → b < 256 → Eight w x
+    → bitXor (bitAnd (bitOr (bitAnd (apartBy w b) 0x7f7f_7f7f_7f7f_7f7f + 0x7f7f_7f7f_7f7f_7f7f) (apartBy w b)) 0x8080_8080_8080_8080) 0x8080_8080_8080_8080
+    ≡ flags (λ k. eqb (x k) b)
+unfolding alikeByte
+alike-flags w b x h p =
+    let q = eight-xor p (eight-each b h) in
+    let s = eight-add (eight-and q low) low (λ k. omega (arith, and-le-r (bitXor (x k) b) 127)) in
+    flags-of (eight-xor (eight-and (eight-or s q) high) high) (λ k. eqb (x k) b)
+    (λ k. alike-byte (bitXor (x k) b) (q .bytes k) ∙ ap flag (xor-none (x k) b))
+
+-- ---- the first flag
+
+trailing-shift : (k m a : ℕ) → trailingZeros (k + m) (a * 2 ^ k) ≡ k + trailingZeros m a
+unfolding trailingZeros
+trailing-shift zero m a =
+    let z : 0 + m ≡ m = omega arith in
+    let o : a * 1 ≡ a = omega arith in
+    rw (z, o) (omega arith)
+trailing-shift (suc k) m a = rw (suc-add k m, shifted-even a k, shifted-half a k, trailing-shift k m a) (omega arith)
+
+-- the lowest byte is flagged, or it is not
+trailing-flag : (m a : ℕ) → trailingZeros (8 + m) (a * 256 + 128) ≡ 7
+unfolding trailingZeros
+trailing-flag m a =
+    let n : 8 + m ≡ 7 + suc m = omega arith in
+    let w : a * 256 + 128 ≡ (a * 2 + 1) * 128 = omega arith in
+    let z : (a * 2 + 1) % 2 ≡ 1 = omega arith in
+    rw (n, w) (trailing-shift 7 (suc m) (a * 2 + 1) ∙ rw z)
+
+trailing-none : (m a : ℕ) → trailingZeros (8 + m) (a * 256 + 0) ≡ 8 + trailingZeros m a
+trailing-none m a =
+    let w : a * 256 + 0 ≡ a * 256 = omega arith in
+    rw w (trailing-shift 8 m a)
+
+first-later : (n : ℕ) (t : ℕ → Bool) (j : ℕ) → t 0 ≡ false → FirstOf n (λ k. t (suc k)) j → FirstOf (suc n) t (suc j)
+first-later n t j e r = record { within = omega (arith, r .within); passes = r .passes; before = go }
+  where
+    go : (k : ℕ) → k < suc j → t k ≡ false
+    go zero l = e
+    go (suc k) l = r .before k (omega arith)
+
+first-flag
+    : (n : ℕ) (t : ℕ → Bool) → (number n (λ k. flag (t k)) ≡ 0 → ⊥)
+    → FirstOf n t (trailingZeros (n * 8) (number n (λ k. flag (t k))) / 8)
+unfolding number
+first-flag zero t h = absurd (h refl)
+first-flag (suc n) t h = rw (suc-mul n 8, add-comm (n * 8) 8) (go (t 0) refl (first-flag n (λ k. t (suc k))))
+  where
+    a : ℕ
+    a = number n (λ k. flag (t (suc k)))
+
+    go
+        : (b : Bool) → t 0 ≡ b → ((a ≡ 0 → ⊥) → FirstOf n (λ k. t (suc k)) (trailingZeros (n * 8) a / 8))
+        → FirstOf (suc n) t (trailingZeros (8 + n * 8) (a * 256 + flag b) / 8)
+    go true e f =
+        rw (trailing-flag (n * 8) a) (record { within = omega arith; passes = e; before = λ k l. absurd (omega arith) })
+    go false e f =
+        let r = f (λ q. h (rw (q, e))) in
+        let z : (8 + trailingZeros (n * 8) a) / 8 ≡ suc (trailingZeros (n * 8) a / 8) = omega arith in
+        rw (trailing-none (n * 8) a, z) (first-later n t _ e r)
+
+pub first-of : (m : ℕ) → First m (trailingZeros 64 m / 8)
+unfolding flags
+first-of m t e h = rw e (first-flag 8 t (λ z. h (e ∙ z)))
