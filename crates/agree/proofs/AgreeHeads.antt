@@ -19,7 +19,8 @@ use Rattle.cut.proofs.Words.{begins-short}
 use Rattle.element.specs.declared.components.Span.{Span}
 use Rattle.agree.specs.Agreement.{agreeBut, agreeIn, agree}
 use Rattle.agree.specs.AgreePositions.{nextIf, behindIf, headingFrom}
-use Rattle.agree.specs.AgreeParts.{segmentsAt, partIn, headingIn, Optional}
+use Rattle.cut.specs.Segments.{segmentsAt}
+use Rattle.agree.specs.AgreeParts.{partIn, headingIn, Optional}
 use Rattle.agree.specs.declared.agree_headings.Head.{Head}
 
 -- the first three bytes of the segment from s to e

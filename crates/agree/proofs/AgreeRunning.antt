@@ -10,11 +10,11 @@ use lib.Seq.{drop-drop}
 use borrow.Author.Tests.{not-true}
 use Rattle.cut.specs.declared.service.Syntax.{Syntax}
 use Rattle.cut.specs.Bytes.{part}
-use Rattle.cut.specs.Segments.{Segment}
+use Rattle.cut.specs.Segments.{Segment, segmentsAt}
 use Rattle.cut.proofs.First.{Cutting}
 use Rattle.agree.specs.Agreement.{Heading, agree}
 use Rattle.agree.specs.AgreePositions.{headingFrom, positionsFrom, agreesAny, firstAfter}
-use Rattle.agree.specs.AgreeParts.{segmentsAt, headingsIn}
+use Rattle.agree.specs.AgreeParts.{headingsIn}
 use Rattle.agree.specs.AgreePrints.{printOf}
 use Rattle.agree.specs.AgreeMarks.{markIn, allMarked}
 use Rattle.agree.specs.AgreeRuns.{fresh, meets, notedIn, Running, Searched}

@@ -9,13 +9,13 @@ use lib.ListN.{length, take, drop, drop-of-length-le}
 use lib.Seq.{drop-drop}
 use Rattle.cut.specs.declared.service.Syntax.{Syntax}
 use Rattle.cut.specs.Bytes.{part, begins}
-use Rattle.cut.specs.Segments.{Segment, segmentsFrom}
+use Rattle.cut.specs.Segments.{Segment, segmentsFrom, segmentsAt}
 use Rattle.cut.proofs.First.{Cutting}
 use Rattle.element.proofs.Limits.{part-out, part-front}
 use Rattle.cut.specs.Bytes.{bytesOf}
 use Rattle.agree.specs.Agreement.{Heading, agree}
 use Rattle.agree.specs.AgreePositions.{headingFrom, positionsFrom, positionsOf, agreesAny, firstAfter, firstAgreeing}
-use Rattle.agree.specs.AgreeParts.{segmentsAt, headingsIn}
+use Rattle.agree.specs.AgreeParts.{headingsIn}
 use Rattle.agree.specs.AgreeRuns.{meets, Searched}
 use Rattle.agree.specs.declared.agree_first.Agreeing.{Agreeing}
 use Rattle.agree.specs.declared.agree_first.Agreeing.the-variants.{At, Nothing}

@@ -1,22 +1,17 @@
 -- What the workers of the search for a position promise each other; no public call cites these.
 use Prim.Native.Nat.{ℕ, zero, suc}
 use mathlib.Core.Path.{_≡_}
-use mathlib.Core.Bool.{false, cond}
+use mathlib.Core.Bool.{cond}
 use mathlib.Core.List.{List, [], _∷_}
-use lib.ListN.{drop}
 use lib.Dec.{leb}
 use Rattle.cut.specs.declared.service.Syntax.{Syntax}
 use Rattle.cut.specs.Bytes.{part, begins}
-use Rattle.cut.specs.Segments.{Segment, segmentsFrom}
+use Rattle.cut.specs.Segments.{Segment, segmentsAt}
 use Rattle.element.specs.declared.components.Span.{Span}
 use Rattle.cut.specs.Bytes.{bytesOf}
 use Rattle.agree.specs.Agreement.{Heading}
 use Rattle.agree.specs.AgreePositions.{nextIf, behindIf, headingFrom}
 use Rattle.agree.specs.declared.agree_headings.Head.{Head}
-
--- the segments from a place on
-abbrev pub segmentsAt : Syntax → List ℕ → ℕ → List Segment
-segmentsAt y d at = segmentsFrom y at false (drop at d)
 
 -- a segment that may be missing: an empty part is none
 unfoldable pub partIn : Span → List ℕ → List (List ℕ)

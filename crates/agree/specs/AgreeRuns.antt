@@ -8,7 +8,8 @@ use Rattle.cut.specs.declared.service.Syntax.{Syntax}
 use Rattle.cut.specs.Bytes.{bytesOf, begins}
 use Rattle.agree.specs.Agreement.{Heading}
 use Rattle.agree.specs.AgreePositions.{headingFrom, positionsFrom, positionsOf, agreesAny, firstAfter, firstAgreeing}
-use Rattle.agree.specs.AgreeParts.{segmentsAt, headingsIn}
+use Rattle.cut.specs.Segments.{segmentsAt}
+use Rattle.agree.specs.AgreeParts.{headingsIn}
 use Rattle.agree.specs.AgreePrints.{printOf}
 use Rattle.agree.specs.AgreeMarks.{markIn, allMarked}
 use Rattle.agree.specs.declared.agree_runs.Run.{Run}

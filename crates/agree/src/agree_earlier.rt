@@ -13,7 +13,8 @@ ghost use lib.ListN.{length};
 ghost use Rattle.cut.specs.Bytes.{part, begins, bytesOf};
 ghost use Rattle.agree.specs.Agreement.{agree};
 ghost use Rattle.agree.specs.AgreePositions.{headingFrom, agreesAny};
-ghost use Rattle.agree.specs.AgreeParts.{segmentsAt, headingIn, headingsIn};
+ghost use Rattle.cut.specs.Segments.{segmentsAt};
+ghost use Rattle.agree.specs.AgreeParts.{headingIn, headingsIn};
 
 // Whether a position agrees with one that begins within the first n segments from `start` on.
 pub(crate) fn agrees_earlier(y: Syntax, d: &[u8], start: usize, n: usize, h: Head) -> bool

@@ -7,9 +7,8 @@ use cut::segment_at;
 ghost use mathlib.Core.Bool.{false};
 ghost use mathlib.Core.Path.{_≡_};
 ghost use Rattle.cut.specs.Bytes.{part};
-ghost use Rattle.cut.specs.Segments.{segmentsFrom};
+ghost use Rattle.cut.specs.Segments.{segmentsFrom, segmentsAt};
 ghost use Rattle.agree.specs.AgreePositions.{positionsOf, firstAgreeing};
-ghost use Rattle.agree.specs.AgreeParts.{segmentsAt};
 ghost use Rattle.agree.specs.AgreeRuns.{Searched};
 
 // The number of a LIN among the message's segments, from 1, and the place of its first byte; or that no position agrees with an earlier one.

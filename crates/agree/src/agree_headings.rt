@@ -11,7 +11,8 @@ ghost use lib.ListN.{length};
 ghost use Rattle.cut.specs.Bytes.{part, begins};
 ghost use Rattle.agree.specs.Agreement.{agree, agreeIn};
 ghost use Rattle.agree.specs.AgreePositions.{headingFrom};
-ghost use Rattle.agree.specs.AgreeParts.{segmentsAt, partIn, headingIn, Optional};
+ghost use Rattle.cut.specs.Segments.{segmentsAt};
+ghost use Rattle.agree.specs.AgreeParts.{partIn, headingIn, Optional};
 
 // An empty part is a missing segment.
 pub struct Head {

@@ -2,7 +2,7 @@
 use Prim.Native.Nat.{ℕ, suc, _+_}
 use mathlib.Core.Bool.{Bool, true, false, not, _&&_}
 use mathlib.Core.List.{List, [], _∷_, _++_}
-use lib.ListN.{length}
+use lib.ListN.{length, drop}
 use lib.Dec.{eqb}
 use Rattle.cut.specs.declared.service.Syntax.{Syntax}
 
@@ -36,6 +36,10 @@ join false p x (s ∷ ss) = record { start = p; bytes = x ∷ s .bytes; piece = 
 unfoldable pub segmentsFrom : Syntax → ℕ → Bool → List ℕ → List Segment
 segmentsFrom y p r [] = []
 segmentsFrom y p r (x ∷ xs) = join (ends y r x) p x (segmentsFrom y (suc p) (frees y r x) xs)
+
+-- the segments from a place on
+abbrev pub segmentsAt : Syntax → List ℕ → ℕ → List Segment
+segmentsAt y d at = segmentsFrom y at false (drop at d)
 
 -- their bytes, one segment's after the other's
 unfoldable pub joined : List Segment → List ℕ

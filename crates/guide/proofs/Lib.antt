@@ -16,8 +16,6 @@ pub mod Ending
 pub mod Faults
 pub mod Editions
 pub mod Columns
-pub mod Links
-pub mod Clearing
 pub mod Face
 pub mod Sheets
 pub mod IntervalSheets

@@ -9,7 +9,6 @@ pub mod Meaning
 pub mod Checks
 pub mod Sheets
 pub mod Columns
-pub mod Links
 pub mod Page
 pub mod Composites
 pub mod PageMakers

@@ -10,7 +10,7 @@ use lib.Seq.{drop-nil}
 use lib.Dec.{eqb}
 use borrow.Author.Tests.{eqb-true, eqb-false}
 use Rattle.cut.specs.declared.service.Syntax.{Syntax}
-use Rattle.cut.specs.Segments.{Segment}
+use Rattle.cut.specs.Segments.{Segment, segmentsAt}
 use Rattle.price.specs.declared.kinds.Kind.{Kind}
 use Rattle.price.specs.declared.kinds.Kind.the-variants.{Lin, Pri, Rng, Other}
 use Rattle.price.specs.declared.spots.Spot.{Spot}
@@ -18,7 +18,7 @@ use Rattle.price.specs.declared.spots.Spot.the-variants.{At, Nothing}
 use Rattle.price.specs.declared.spots.Held.{Held}
 use Rattle.price.specs.PriceNumbers.{Listed}
 use Rattle.price.specs.PriceList.{linBy, priceBy, pricesFrom, noLin, pricesOf}
-use Rattle.price.specs.PriceParts.{segmentsAt, headSpot, addBy, movedBy, reachedBy, HeldFirst, HeldAt}
+use Rattle.price.specs.PriceParts.{headSpot, addBy, movedBy, reachedBy, HeldFirst, HeldAt}
 use Rattle.price.proofs.PriceSpots.{Spotted, spotted, spot-nothing}
 use Rattle.price.proofs.PriceSteps.{Standing, firstHeld, standing-first, standing-on, this, price, behind, step}
 

@@ -11,7 +11,7 @@ use lib.Dec.{ltb}
 use borrow.Author.Tests.{lt-ltb, le-ltb}
 use Rattle.cut.specs.declared.service.Syntax.{Syntax}
 use Rattle.cut.specs.Bytes.{part}
-use Rattle.cut.specs.Segments.{segmentsFrom}
+use Rattle.cut.specs.Segments.{segmentsFrom, segmentsAt}
 use Rattle.cut.proofs.Parts.{part-part, length-part}
 use Rattle.element.specs.Components.{componentAt, spanIn}
 use Rattle.element.specs.declared.components.Span.{Span}
@@ -23,7 +23,7 @@ use Rattle.price.specs.declared.filling.Filled.{Filled}
 use Rattle.price.specs.PriceNumbers.{Listed, articleIn}
 use Rattle.price.specs.PriceList.{pricesFrom, pricesOf}
 use Rattle.price.specs.PriceCalls.{pricesIn, filledOf, rowAfter, firstArticle, articleAt}
-use Rattle.price.specs.PriceParts.{segmentsAt, HeldFirst, HeldAt}
+use Rattle.price.specs.PriceParts.{HeldFirst, HeldAt}
 use Rattle.price.proofs.PriceAnswers.{component-bounds}
 use Rattle.price.proofs.PriceLies.{PriceLies, prices-in-lie, article-lies}
 

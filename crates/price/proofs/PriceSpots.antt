@@ -8,14 +8,14 @@ use lib.ListN.{length}
 use Rattle.cut.specs.declared.service.Syntax.{Syntax}
 use Rattle.cut.specs.declared.scan.Cut.the-variants as cut
 use Rattle.cut.specs.Bytes.{part}
-use Rattle.cut.specs.Segments.{Segment, endOf}
+use Rattle.cut.specs.Segments.{Segment, endOf, segmentsAt}
 use Rattle.cut.specs.Calls.{segmentAt, headCut, cutFrom}
 use Rattle.cut.proofs.First.{Cutting, cutting, nothing}
 use Rattle.cut.proofs.Parts.{length-part}
 use Rattle.price.specs.declared.kinds.Kind.{Kind}
 use Rattle.price.specs.declared.spots.Spot.the-variants.{At, Nothing}
 use Rattle.price.specs.PriceList.{kindOf}
-use Rattle.price.specs.PriceParts.{segmentsAt, headSpot}
+use Rattle.price.specs.PriceParts.{headSpot}
 
 module _ (y : Syntax) (d : List ℕ) (at : ℕ) where
   pub spot-none : segmentAt y d at ≡ cut.Nothing → Nothing ≡ headSpot (segmentsAt y d at)

@@ -5,14 +5,14 @@ use mathlib.Core.List.{List, _∷_}
 use native.Mathlib.Omega.{arith}
 use Rattle.cut.specs.declared.service.Syntax.{Syntax}
 use Rattle.cut.specs.Bytes.{part}
-use Rattle.cut.specs.Segments.{Segment}
+use Rattle.cut.specs.Segments.{Segment, segmentsAt}
 use Rattle.cut.proofs.Parts.{part-none}
 use Rattle.price.specs.declared.kinds.Kind.{Kind}
 use Rattle.price.specs.declared.kinds.Kind.the-variants.{Lin, Pri, Rng, Other}
 use Rattle.price.specs.declared.spots.Held.{Held}
 use Rattle.price.specs.PriceNumbers.{Listed}
 use Rattle.price.specs.PriceList.{kindOf, rngNext, numberBy, linBy, priceBy, pricesFrom, noLin}
-use Rattle.price.specs.PriceParts.{segmentsAt, movedBy, Within, Holding}
+use Rattle.price.specs.PriceParts.{movedBy, Within, Holding}
 use Rattle.price.proofs.PriceSpots.{Spotted}
 
 -- the prices from a segment on, by its kind

@@ -11,7 +11,7 @@ use lib.IntN.{ℤ}
 use borrow.Author.Tests.{le-leb, lt-leb}
 use Rattle.cut.specs.declared.service.Syntax.{Syntax}
 use Rattle.cut.specs.Bytes.{part}
-use Rattle.cut.specs.Segments.{Segment, endOf}
+use Rattle.cut.specs.Segments.{Segment, endOf, segmentsAt}
 use Rattle.price.specs.declared.kinds.Kind.{Kind}
 use Rattle.price.specs.declared.kinds.Kind.the-variants.{Lin, Pri, Rng, Other}
 use Rattle.price.specs.declared.spots.Spot.{Spot}
@@ -23,7 +23,7 @@ use Rattle.price.specs.PriceNumbers.{Listed, placeOfFirst, numbersOf}
 use Rattle.price.specs.PriceList.{kindOf, rngBy, rngNext, linBy, priceBy, pricesFrom, noLin, pricesOf}
 use Rattle.price.specs.PriceRows.{fitting}
 use Rattle.price.specs.PriceCalls.{numbersFrom, filledOf, rowAfter}
-use Rattle.price.specs.PriceParts.{segmentsAt, segmentIn, headSpot, addBy, movedBy, rngIn, listedIn, putFound, countedOf, Within, NextWithin, Holding}
+use Rattle.price.specs.PriceParts.{segmentIn, headSpot, addBy, movedBy, rngIn, listedIn, putFound, countedOf, Within, NextWithin, Holding}
 use Rattle.price.proofs.PriceSpots.{Spotted, spotted, spot-nothing}
 use Rattle.price.proofs.PriceRuns.{putAll, put-all}
 use Rattle.price.proofs.PriceSteps.{Standing, firstHeld, standing-first, standing-on, standing-within, this, this-starts, this-bytes, price, behind, step}

@@ -8,7 +8,7 @@ use lib.ListN.{length, take, drop}
 use lib.IntN.{ℤ}
 use Rattle.cut.specs.declared.service.Syntax.{Syntax}
 use Rattle.cut.specs.Bytes.{part}
-use Rattle.cut.specs.Segments.{Segment, segmentsFrom, endOf}
+use Rattle.cut.specs.Segments.{Segment, endOf, segmentsAt}
 use Rattle.price.specs.declared.kinds.Kind.{Kind}
 use Rattle.price.specs.declared.kinds.Kind.the-variants.{Lin, Pri, Rng, Other}
 use Rattle.price.specs.declared.spots.Spot.{Spot}
@@ -19,10 +19,6 @@ use Rattle.price.specs.declared.filling.Filled.{Filled}
 use Rattle.price.specs.PriceNumbers.{Listed}
 use Rattle.price.specs.PriceList.{kindOf, rngBy}
 use Rattle.price.specs.PriceRows.{eight}
-
--- the segments from a place on
-abbrev pub segmentsAt : Syntax → List ℕ → ℕ → List Segment
-segmentsAt y d at = segmentsFrom y at false (drop at d)
 
 -- the first of some segments, with its kind
 unfoldable pub headSpot : List Segment → Spot

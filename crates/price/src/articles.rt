@@ -11,7 +11,8 @@ use element::component_at;
 ghost use mathlib.Core.Path.{_≡_};
 ghost use Rattle.price.specs.PriceCalls.{articleAt, IsPart, pricesIn};
 ghost use Rattle.price.specs.PriceList.{pricesOf};
-ghost use Rattle.price.specs.PriceParts.{segmentsAt, HeldAt, reachedBy};
+ghost use Rattle.cut.specs.Segments.{segmentsAt};
+ghost use Rattle.price.specs.PriceParts.{HeldAt, reachedBy};
 
 // The article of the k-th price of the message from `start` to `end`; an absent one, and that of a price that is not there, is the empty
 // part at `start`.

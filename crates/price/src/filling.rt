@@ -15,7 +15,8 @@ ghost use lib.ListN.{length};
 ghost use Rattle.price.specs.PriceNumbers.{numbersOf};
 ghost use Rattle.price.specs.PriceList.{pricesOf};
 ghost use Rattle.price.specs.PriceCalls.{pricesIn, filledOf, rowAfter};
-ghost use Rattle.price.specs.PriceParts.{segmentsAt, listedIn, putFound, countedOf, Within, NextWithin};
+ghost use Rattle.cut.specs.Segments.{segmentsAt};
+ghost use Rattle.price.specs.PriceParts.{listedIn, putFound, countedOf, Within, NextWithin};
 
 // How many prices were written, and how many the message has.
 pub struct Filled {

@@ -6,7 +6,8 @@ use cut::Syntax;
 use cut::segment_at;
 ghost use Prim.Native.Nat.{_<_, _^_};
 ghost use mathlib.Core.Path.{_≡_};
-ghost use Rattle.price.specs.PriceParts.{segmentsAt, headSpot, addBy, movedBy};
+ghost use Rattle.cut.specs.Segments.{segmentsAt};
+ghost use Rattle.price.specs.PriceParts.{headSpot, addBy, movedBy};
 
 // A segment's first byte, its kind and the byte after its last; or that there is none.
 pub enum Spot {

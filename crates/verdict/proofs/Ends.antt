@@ -7,7 +7,7 @@ use native.Mathlib.Omega.{arith}
 use lib.ListN.{length, take, drop}
 use Rattle.cut.specs.declared.service.Syntax.{Syntax}
 use Rattle.cut.specs.Bytes.{bytesOf, part}
-use Rattle.cut.specs.Segments.{Segment, segmentsFrom}
+use Rattle.cut.specs.Segments.{Segment, segmentsFrom, segmentsAt}
 use Rattle.cut.specs.Held.{unless}
 use Rattle.cut.specs.Messages.{lastEnd}
 use Rattle.element.proofs.Limits.{part-out, part-front}
@@ -22,7 +22,7 @@ use Rattle.verdict.specs.declared.answers.Verdict.the-variants.{Accepted
 use Rattle.verdict.specs.declared.kept.Kept.{Kept}
 use Rattle.verdict.specs.Answers.{declared}
 use Rattle.verdict.specs.Verdicts.{nodeOf, unlessAgreeing}
-use Rattle.verdict.specs.Workers.{segmentsAt, agreementAt, endedWith}
+use Rattle.verdict.specs.Workers.{agreementAt, endedWith}
 
 module _ (ed : Edition) (y : Syntax) (d : List ℕ) (start n at : ℕ) where
   abbrev ss : List Segment

@@ -7,7 +7,7 @@ use native.Mathlib.Omega.{arith}
 use lib.ListN.{length, replicate}
 use Rattle.cut.specs.declared.service.Syntax.{Syntax}
 use Rattle.cut.specs.Bytes.{bytesOf, part}
-use Rattle.cut.specs.Segments.{Segment, endOf, segmentsFrom}
+use Rattle.cut.specs.Segments.{Segment, endOf, segmentsFrom, segmentsAt}
 use Rattle.cut.specs.Held.{unless, held}
 use Rattle.cut.specs.Messages.{lastEnd}
 use Rattle.cut.proofs.First.{Cutting}
@@ -37,7 +37,7 @@ use Rattle.verdict.specs.declared.answers.Verdict.the-variants.{Refused}
 use Rattle.verdict.specs.declared.kept.Kept.{Kept}
 use Rattle.verdict.specs.Answers.{declared, judgedAs}
 use Rattle.verdict.specs.Verdicts.{nodesOf, forIntervals, settled, verdictFrom}
-use Rattle.verdict.specs.Workers.{segmentsAt, segmentIn, spanned, noted, KeptAfter, countsLeft, agreementAt, endedWith}
+use Rattle.verdict.specs.Workers.{segmentIn, spanned, noted, KeptAfter, countsLeft, agreementAt, endedWith}
 
 or-more : (a b c : Bool) → a || (b || c) ≡ (a || b) || c
 or-more true b c = refl

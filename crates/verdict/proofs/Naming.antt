@@ -6,7 +6,7 @@ use mathlib.Core.List.{List, [], _∷_}
 use Rattle.cut.specs.declared.service.Syntax.{Syntax}
 use Rattle.cut.specs.Bytes.{bytesOf, part}
 use Rattle.cut.specs.Held.{held}
-use Rattle.cut.specs.Segments.{Segment}
+use Rattle.cut.specs.Segments.{Segment, segmentsAt}
 use Rattle.cut.proofs.First.{Cutting}
 use Rattle.element.specs.Plain.{same}
 use Rattle.guide.specs.Content.{text}
@@ -17,7 +17,6 @@ use Rattle.verdict.specs.declared.answers.Judged.{Judged}
 use Rattle.verdict.specs.Answers.{declared, judgedAs}
 use Rattle.verdict.specs.Named.{editionIn, editionOf, verdictNamed}
 use Rattle.verdict.specs.Verdicts.{verdictFrom}
-use Rattle.verdict.specs.Workers.{segmentsAt}
 
 module _ (y : Syntax) (bs word : List ℕ) (is : word ≡ text y bs 2 4) (b : Bool) (test : b ≡ same word (bytesOf "2.0c")) where
   pub names-c : b ≡ true → C ≡ editionIn y bs

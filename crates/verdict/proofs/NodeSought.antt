@@ -7,7 +7,7 @@ use native.Mathlib.Omega.{arith}
 use lib.ListN.{getD, replicate}
 use Rattle.cut.specs.declared.service.Syntax.{Syntax}
 use Rattle.cut.specs.Bytes.{part}
-use Rattle.cut.specs.Segments.{Segment}
+use Rattle.cut.specs.Segments.{Segment, segmentsAt}
 use Rattle.cut.proofs.First.{Cutting}
 use Rattle.guide.specs.Accepted.{seen}
 use Rattle.guide.specs.Answers.{Answer, placed, refused}
@@ -20,7 +20,6 @@ use Rattle.judge.specs.declared.placing.Placed.{Placed}
 use Rattle.judge.specs.declared.placing.Placed.the-variants.{At, Refused}
 use Rattle.judge.proofs.Face.{answer-at, answer-refused}
 use Rattle.verdict.specs.Verdicts.{nodesOf, nodeOf}
-use Rattle.verdict.specs.Workers.{segmentsAt}
 
 -- what the first of a row and the rest give for a number
 more : (last : ℕ) (ns : List ℕ) (left : ℕ) → 0 < left → getD (last ∷ ns) left 0 ≡ getD ns (left - 1) 0

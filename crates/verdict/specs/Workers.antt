@@ -3,10 +3,9 @@ use Prim.Native.Nat.{ℕ, zero, suc, _+_}
 use mathlib.Core.Path.{_≡_}
 use mathlib.Core.Bool.{Bool, false, _&&_, _||_}
 use mathlib.Core.List.{List}
-use lib.ListN.{drop}
 use Rattle.cut.specs.declared.service.Syntax.{Syntax}
 use Rattle.cut.specs.Bytes.{bytesOf, part}
-use Rattle.cut.specs.Segments.{Segment, segmentsFrom}
+use Rattle.cut.specs.Segments.{Segment, segmentsFrom, segmentsAt}
 use Rattle.element.specs.Plain.{decoded, same}
 use Rattle.element.specs.declared.components.Span.{Span}
 use Rattle.guide.specs.Answers.{Answer}
@@ -20,10 +19,6 @@ use Rattle.guide.specs.Tree.{one}
 use Rattle.agree.specs.AgreePositions.{positionsOf, firstAgreeing}
 use Rattle.verdict.specs.declared.kept.Kept.{Kept}
 use Rattle.verdict.specs.Verdicts.{unlessAgreeing}
-
--- the segments from a place on
-abbrev pub segmentsAt : Syntax → List ℕ → ℕ → List Segment
-segmentsAt y d at = segmentsFrom y at false (drop at d)
 
 -- the segment from a place up to another
 abbrev pub segmentIn : ℕ → ℕ → Bool → List ℕ → Segment

@@ -10,7 +10,7 @@ ghost use mathlib.Core.Path.{_≡_};
 ghost use Rattle.cut.specs.Bytes.{part};
 ghost use Rattle.cut.specs.Held.{held};
 ghost use Rattle.verdict.specs.Named.{editionIn, editionOf};
-ghost use Rattle.verdict.specs.Workers.{segmentsAt};
+ghost use Rattle.cut.specs.Segments.{segmentsAt};
 
 // The edition that a segment from `start` to `end` names in DE0057.
 fn edition_in(y: Syntax, d: &[u8], start: usize, end: usize) -> Edition

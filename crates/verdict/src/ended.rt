@@ -14,11 +14,11 @@ ghost use Prim.Native.Nat.{suc, _<_, _^_};
 ghost use mathlib.Core.Bool.{false};
 ghost use mathlib.Core.Path.{_≡_};
 ghost use Rattle.cut.specs.Bytes.{part};
-ghost use Rattle.cut.specs.Segments.{segmentsFrom};
+ghost use Rattle.cut.specs.Segments.{segmentsFrom, segmentsAt};
 ghost use Rattle.guide.specs.Editions.{guideOf};
 ghost use Rattle.verdict.specs.Answers.{declared};
 ghost use Rattle.verdict.specs.Verdicts.{nodeOf};
-ghost use Rattle.verdict.specs.Workers.{segmentsAt, agreementAt, endedWith};
+ghost use Rattle.verdict.specs.Workers.{agreementAt, endedWith};
 
 // The verdict of n segments without a fault, which end at `at`: 24, 23 or accepted.
 pub(crate) fn ended(

@@ -19,14 +19,13 @@ ghost use mathlib.Core.Path.{_≡_};
 ghost use lib.ListN.{drop};
 ghost use Rattle.cut.specs.Held.{unless, held};
 ghost use Rattle.cut.specs.Messages.{lastEnd, body};
-ghost use Rattle.cut.specs.Segments.{segmentsFrom};
+ghost use Rattle.cut.specs.Segments.{segmentsFrom, segmentsAt};
 ghost use Rattle.guide.specs.Nodes.{numberOf};
 ghost use Rattle.guide.specs.Judging.{refuses};
 ghost use Rattle.guide.specs.Editions.{guideOf, pagesOf};
 ghost use Rattle.verdict.specs.Answers.{declared, judgedAs};
 ghost use Rattle.verdict.specs.Named.{verdictNamed};
 ghost use Rattle.verdict.specs.Verdicts.{verdictFrom};
-ghost use Rattle.verdict.specs.Workers.{segmentsAt};
 
 fn with_end(verdict: Verdict, end: usize) -> Judged
     ensures { λ r. ⌜ r ≡ judgedAs verdict end ⌝ }

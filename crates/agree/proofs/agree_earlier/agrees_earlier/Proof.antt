@@ -3,7 +3,8 @@ use mathlib.Core.Path.{_≡_, refl, sym, _∙_}
 use mathlib.Core.Bool.{false}
 use Rattle.cut.proofs.First.{Cutting, cutting, nothing}
 use Rattle.agree.specs.AgreePositions.{agreesAny}
-use Rattle.agree.specs.AgreeParts.{segmentsAt, headingIn, headingsIn}
+use Rattle.cut.specs.Segments.{segmentsAt}
+use Rattle.agree.specs.AgreeParts.{headingIn, headingsIn}
 use Rattle.agree.proofs.AgreeSearch.{seeks-agree, any-none, any-found, any-on, any-out}
 use borrow.Author.Needs.{needs}
 use Rattle.agree.proofs.agree_earlier.agrees_earlier.Statement.{statement}

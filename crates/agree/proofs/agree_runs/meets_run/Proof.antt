@@ -4,7 +4,8 @@ use mathlib.Core.Path.{_≡_, refl, sym, _∙_}
 use mathlib.Core.Bool.{false}
 use native.Mathlib.Omega.{arith}
 use Rattle.cut.proofs.First.{Cutting, cutting, nothing}
-use Rattle.agree.specs.AgreeParts.{segmentsAt, headingsIn}
+use Rattle.cut.specs.Segments.{segmentsAt}
+use Rattle.agree.specs.AgreeParts.{headingsIn}
 use Rattle.agree.specs.AgreeRuns.{meets}
 use Rattle.agree.proofs.AgreeSearch.{seeks-meet, any-none, any-found, any-on, any-out}
 use Rattle.agree.proofs.agree_runs.meets_run.Statement.{statement}

@@ -7,7 +7,7 @@ use native.Mathlib.Omega.{arith}
 use lib.ListN.{length}
 use Rattle.cut.specs.Held.{unless, members}
 use Rattle.cut.proofs.Holding.{Taken, taken, no-member}
-use Rattle.verdict.specs.Workers.{segmentsAt}
+use Rattle.cut.specs.Segments.{segmentsAt}
 use Rattle.verdict.proofs.Judging.{Passed, passed-first, all-ended, passed-refused, passed-on, none-left, passed-more}
 use borrow.Author.Needs.{needs}
 use Rattle.verdict.proofs.message.judged_by.Statement.{statement}
