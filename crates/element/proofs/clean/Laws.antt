@@ -14,7 +14,7 @@ use Rattle.cut.specs.Every.{every}
 use Rattle.cut.specs.Eights.{number, onFrom, eightAt, Eight, flag, flags, Flagged}
 use Rattle.cut.specs.declared.service.Syntax.{Syntax}
 use Rattle.cut.proofs.Every.{every-at}
-use Rattle.cut.proofs.Bytewise.{eight-and, eight-or, eight-xor, eight-add, eight-each, eight-short, eight-from, low, high, flags-of, flags-all}
+use Rattle.cut.proofs.Bytewise.{eight-and, eight-or, eight-xor, eight-add, eight-each, eight-short, eight-there, low, high, flags-of, flags-all}
 use Rattle.cut.proofs.Parts.{part-none, part-next, length-part}
 use Rattle.element.proofs.Limits.{limited}
 use Rattle.element.specs.Clean.{between, allowedByte, allowedBytes, capital, endsTag, lettered, taggedBytes}
@@ -110,7 +110,7 @@ module _ (d : List ℕ) (i w m : ℕ) (r : w ≡ eightAt d i) (f : Flagged w all
 
   pub eight-allowed : (e : ℕ) → e ≤ length d → ((k : ℕ) → getD d k 0 < 256) → allowedBytes (part i e d) ≡ allowedBytes (part (i + 8) e d)
   eight-allowed e h b =
-      allowed-run d e h i 8 (flags-all (λ k. allowedByte (onFrom d i k)) (sym (f (onFrom d i) (rw r (eight-from d i eight-inside b))) ∙ all))
+      allowed-run d e h i 8 (flags-all (λ k. allowedByte (onFrom d i k)) (sym (f (onFrom d i) (rw r (eight-there d i eight-inside b))) ∙ all))
 
 module _ (y : Syntax) (x : ℕ) where
   pub ends-element : x ≡ y .element → true ≡ endsTag y x
