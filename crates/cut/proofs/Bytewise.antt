@@ -86,9 +86,9 @@ eight-long d i h =
     let z : i + 0 ≡ i = omega arith in
     rw (le-leb (i + 8) (length d) h, z) (omega arith)
 
-pub eight-from : (d : List ℕ) (i : ℕ) → i + 8 ≤ length d → ((k : ℕ) → getD d k 0 < 256) → Eight (eightAt d i) (onFrom d i)
+pub eight-there : (d : List ℕ) (i : ℕ) → i + 8 ≤ length d → ((k : ℕ) → getD d k 0 < 256) → Eight (eightAt d i) (onFrom d i)
 unfolding eightAt
-eight-from d i h b = record { worth = rw (le-leb (i + 8) (length d) h); bytes = λ k. b (i + k) }
+eight-there d i h b = record { worth = rw (le-leb (i + 8) (length d) h); bytes = λ k. b (i + k) }
 
 -- ---- flags
 

@@ -1,6 +1,7 @@
 // Eight bytes as one number, so that a test of all eight is a few operations.
 ghost use mathlib.Core.Path.{_≡_};
-ghost use Prim.Native.Nat.{_+_, _*_};
+ghost use Prim.Native.Nat.{_+_, _*_, _≤_};
+ghost use lib.ListN.{length};
 ghost use lib.Dec.{eqb};
 ghost use Rattle.cut.specs.Eights.{eightAt, Flagged, First};
 
@@ -26,12 +27,20 @@ fn eight(a: u8, b: u8, c: u8, e: u8, f: u8, g: u8, h: u8, k: u8) -> u64
 pub fn eight_at(d: &[u8], at: usize) -> u64
     ensures { λ r. ⌜ r ≡ eightAt (now (d .entry)) at ⌝ }
 {
-    if d.len() < at {
+    if d.len() < 8 {
         return 0;
     }
-    if d.len() - at < 8 {
+    if d.len() - 8 < at {
         return 0;
     }
+    eight_from(d, at)
+}
+
+// The same where eight bytes stand there.
+pub(crate) fn eight_from(d: &[u8], at: usize) -> u64
+    requires { ⌜ at + 8 ≤ length (now d) ⌝ }
+    ensures { λ r. ⌜ r ≡ eightAt (now (d .entry)) at ⌝ }
+{
     eight(
         d[at],
         d[at + 1],

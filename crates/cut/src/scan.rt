@@ -1,6 +1,6 @@
 // The loop over bytes: where a segment ends.
 use crate::eights::alike;
-use crate::eights::eight_at;
+use crate::eights::eight_from;
 use crate::eights::first_of;
 use crate::service::Syntax;
 ghost use mathlib.Core.Path.{_≡_};
@@ -63,7 +63,7 @@ fn next_mark(y: Syntax, d: &[u8], from: usize) -> usize
 {
     let mut i = from;
     while 8 <= d.len() - i {
-        let m = marks_in(y, eight_at(d, i));
+        let m = marks_in(y, eight_from(d, i));
         if m != 0 {
             return i + first_of(m);
         }

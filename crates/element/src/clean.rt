@@ -24,14 +24,21 @@ fn allowed_byte(x: u8) -> bool
 // The flags of eight bytes that are all allowed.
 const ALL: u64 = 0x8080_8080_8080_8080;
 
-// Whether the part holds no byte that refusal 10 is given for. Eight bytes are tested at once while all eight are allowed: the byte that
-// is not, or the delivery's end, may stand behind the part.
+// Whether the part holds no byte that refusal 10 is given for. Eight bytes are tested at once while eight stand there and all are allowed:
+// the byte that is not may stand behind the part.
 pub fn allowed(d: &[u8], a: usize, e: usize) -> bool
     ensures { λ r. ⌜ r ≡ allowedBytes (part a e (now (d .entry))) ⌝ }
 {
     let end = limit_of(d, e);
+    if d.len() < 8 {
+        return rest_allowed(d, a, end);
+    }
+    let last = d.len() - 8;
     let mut i = a;
     while i < end {
+        if last < i {
+            return rest_allowed(d, i, end);
+        }
         if allowed_in(cut::eight_at(d, i)) != ALL {
             return rest_allowed(d, i, end);
         }

@@ -10,7 +10,8 @@ use Rattle.element.specs.Plain.{same}
 use Rattle.guide.specs.Tree.{one}
 use Rattle.guide.specs.Placing.{lowest}
 use Rattle.guide.specs.Choices.{pickℕ, orElse}
-use Rattle.guide.specs.Checks.{every, implies}
+use Rattle.guide.specs.Checks.{implies}
+pub use Rattle.cut.proofs.Every.{every-at}
 
 pub T-true : {b : Bool} → b ≡ true → T b
 T-true e = rw e tt
@@ -81,20 +82,6 @@ pub same-refl : (xs : List ℕ) → T (same xs xs)
 unfolding same
 same-refl [] = tt
 same-refl (x ∷ xs) = and-both (eqb x x) (same xs xs) (eq-T x x refl) (same-refl xs)
-
--- what holds of every number below k holds of n
-pub every-at : (test : ℕ → Bool) (k n : ℕ) → T (every test k) → n < k → T (test n)
-unfolding every
-every-at test zero n h l = absurd (omega arith)
-every-at test (suc k) n h l = go (eqb n k) refl (every-at test k n (and-right (test k) (every test k) h))
-  where
-    go : (b : Bool) → eqb n k ≡ b → (n < k → T (test n)) → T (test n)
-    go true e ih =
-        let q : n ≡ k = eqb-true n k e in
-        rw q (and-left (test k) (every test k) h)
-    go false e ih =
-        let q = eqb-false n k e in
-        ih (omega arith)
 
 -- what a search from i on finds, 0 being none
 pub data Search (test : ℕ → Bool) (i k : ℕ) : ℕ → Type 0 where

@@ -7,11 +7,7 @@ use lib.ListN.{length}
 use lib.Dec.{T, eqb, ltb, leb}
 use Rattle.guide.specs.Nodes.{View, Selector, Node, Guide, capacity, node, among, samePlace, takes, paired, required}
 use Rattle.element.specs.Plain.{same}
-
--- the test holds of every number below k
-unfoldable pub every : (ℕ → Bool) → ℕ → Bool
-every test zero = true
-every test (suc k) = test k && every test k
+unfoldable pub use Rattle.cut.specs.Every.{every}
 
 -- "if a then b"
 abbrev pub implies : Bool → Bool → Bool

@@ -11,10 +11,10 @@ use lib.Dec.{eqb, leb, eqb→eq}
 use lib.Bits.{bitAnd, bitOr, bitXor, and-le-r}
 use Rattle.cut.specs.Bytes.{part}
 use Rattle.cut.specs.Every.{every}
-use Rattle.cut.specs.Eights.{number, onFrom, eightAt, Eight, flag, flags, Flagged}
+use Rattle.cut.specs.Eights.{onFrom, eightAt, Eight, flag, flags, Flagged}
 use Rattle.cut.specs.declared.service.Syntax.{Syntax}
 use Rattle.cut.proofs.Every.{every-at}
-use Rattle.cut.proofs.Bytewise.{eight-and, eight-or, eight-xor, eight-add, eight-each, eight-short, eight-from, low, high, flags-of, flags-all}
+use Rattle.cut.proofs.Bytewise.{eight-and, eight-or, eight-xor, eight-add, eight-each, eight-there, low, high, flags-of, flags-all}
 use Rattle.cut.proofs.Parts.{part-none, part-next, length-part}
 use Rattle.element.proofs.Limits.{limited}
 use Rattle.element.specs.Clean.{between, allowedByte, allowedBytes, capital, endsTag, lettered, taggedBytes}
@@ -95,22 +95,12 @@ module _ (d : List ℕ) (e : ℕ) (h : e ≤ length d) where
       let z : i + suc n ≡ i + n + 1 = omega arith in
       rw z (allowed-run i n (λ k l. t k (omega arith)) ∙ allowed-pass (i + n) (t n (omega arith)))
 
--- m flags all eight bytes from i on as allowed
-module _ (d : List ℕ) (i w m : ℕ) (r : w ≡ eightAt d i) (f : Flagged w allowedByte m) (all : m ≡ 0x8080_8080_8080_8080) where
-  pub eight-inside : i + 8 ≤ length d
-  unfolding number flags allowedByte between
-  eight-inside = go (leb (i + 8) (length d)) refl
-    where
-      go : (b : Bool) → leb (i + 8) (length d) ≡ b → i + 8 ≤ length d
-      go true q = leb-true (i + 8) (length d) q
-      go false q =
-          let none : Eight w (λ k. 0) = record { worth = r ∙ eight-short d i (leb-false (i + 8) (length d) q); bytes = λ k. omega arith } in
-          let z : _≡_ {A = ℕ} 0x8080_8080_8080_8080 0 = sym all ∙ f (λ k. 0) none in
-          absurd (omega arith)
-
-  pub eight-allowed : (e : ℕ) → e ≤ length d → ((k : ℕ) → getD d k 0 < 256) → allowedBytes (part i e d) ≡ allowedBytes (part (i + 8) e d)
-  eight-allowed e h b =
-      allowed-run d e h i 8 (flags-all (λ k. allowedByte (onFrom d i k)) (sym (f (onFrom d i) (rw r (eight-from d i eight-inside b))) ∙ all))
+  -- eight bytes that are all flagged
+  pub eight-allowed
+      : (i w m : ℕ) → i + 8 ≤ length d → ((k : ℕ) → getD d k 0 < 256) → w ≡ eightAt d i → Flagged w allowedByte m → m ≡ 0x8080_8080_8080_8080
+      → allowedBytes (part i e d) ≡ allowedBytes (part (i + 8) e d)
+  eight-allowed i w m l b r f all =
+      allowed-run i 8 (flags-all (λ k. allowedByte (onFrom d i k)) (sym (f (onFrom d i) (rw r (eight-there d i l b))) ∙ all))
 
 module _ (y : Syntax) (x : ℕ) where
   pub ends-element : x ≡ y .element → true ≡ endsTag y x

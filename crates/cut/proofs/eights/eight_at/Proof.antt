@@ -1,8 +1,8 @@
--- `cut::eights::eight_at` meets its contract: fewer than eight bytes stand there, or the sum is their number.
-use mathlib.Core.Path.{sym, _∙_}
+-- `cut::eights::eight_at` meets its contract: fewer than eight bytes stand there, or those are read.
+use mathlib.Core.Path.{sym}
 use native.Mathlib.Omega.{arith}
-use Rattle.cut.proofs.Bytewise.{eight-short, eight-long}
 use borrow.Author.Needs.{needs}
+use Rattle.cut.proofs.Bytewise.{eight-short}
 use Rattle.cut.proofs.eights.eight_at.Statement.{statement}
 use Rattle.cut.proofs.eights.eight_at.Tie as tie
 
@@ -15,78 +15,11 @@ sub-if2 c = search needs
 returns-2 : tie.Need-returns-2
 returns-2 c = sym (eight-short _ _ (omega arith))
 
-shared-slice-read-eight : tie.Need-shared-slice-read-eight
-shared-slice-read-eight c = search needs
-
-add-eight : tie.Need-add-eight
-add-eight c = search needs
-
-shared-slice-read-eight-2 : tie.Need-shared-slice-read-eight-2
-shared-slice-read-eight-2 c = search needs
-
-add-eight-2 : tie.Need-add-eight-2
-add-eight-2 c = search needs
-
-shared-slice-read-eight-3 : tie.Need-shared-slice-read-eight-3
-shared-slice-read-eight-3 c = search needs
-
-add-eight-3 : tie.Need-add-eight-3
-add-eight-3 c = search needs
-
-shared-slice-read-eight-4 : tie.Need-shared-slice-read-eight-4
-shared-slice-read-eight-4 c = search needs
-
-add-eight-4 : tie.Need-add-eight-4
-add-eight-4 c = search needs
-
-shared-slice-read-eight-5 : tie.Need-shared-slice-read-eight-5
-shared-slice-read-eight-5 c = search needs
-
-add-eight-5 : tie.Need-add-eight-5
-add-eight-5 c = search needs
-
-shared-slice-read-eight-6 : tie.Need-shared-slice-read-eight-6
-shared-slice-read-eight-6 c = search needs
-
-add-eight-6 : tie.Need-add-eight-6
-add-eight-6 c = search needs
-
-shared-slice-read-eight-7 : tie.Need-shared-slice-read-eight-7
-shared-slice-read-eight-7 c = search needs
-
-add-eight-7 : tie.Need-add-eight-7
-add-eight-7 c = search needs
-
-shared-slice-read-eight-8 : tie.Need-shared-slice-read-eight-8
-shared-slice-read-eight-8 c = search needs
-
-eight-requires : tie.Need-eight-requires
-eight-requires c κs = search needs
+eight-from-requires : tie.Need-eight-from-requires
+eight-from-requires c κs = search needs
 
 returns-3 : tie.Need-returns-3
-returns-3 c = c .eight .ensures ∙ eight-long _ _ (omega arith)
+returns-3 c = c .eight-from .ensures
 
 pub eight-at-spec : {M : Type 1} → statement M
-eight-at-spec =
-    tie.close
-    (tie.spec
-    returns
-    sub-if2
-    returns-2
-    shared-slice-read-eight
-    add-eight
-    shared-slice-read-eight-2
-    add-eight-2
-    shared-slice-read-eight-3
-    add-eight-3
-    shared-slice-read-eight-4
-    add-eight-4
-    shared-slice-read-eight-5
-    add-eight-5
-    shared-slice-read-eight-6
-    add-eight-6
-    shared-slice-read-eight-7
-    add-eight-7
-    shared-slice-read-eight-8
-    eight-requires
-    returns-3)
+eight-at-spec = tie.close (tie.spec returns sub-if2 returns-2 eight-from-requires returns-3)

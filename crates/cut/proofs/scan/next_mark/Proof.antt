@@ -7,7 +7,7 @@ use borrow.Author.Needs.{needs}
 use lib.ListN.{length}
 use Rattle.cut.specs.Eights.{onFrom, flags}
 use Rattle.cut.specs.Workers.{isMark, Onward}
-use Rattle.cut.proofs.Bytewise.{eight-from}
+use Rattle.cut.proofs.Bytewise.{eight-there}
 use Rattle.cut.proofs.Scanning.{onward-none, onward-marked, eight-passed, eight-marked}
 use Rattle.cut.proofs.scan.next_mark.Statement.{statement}
 use Rattle.cut.proofs.scan.next_mark.Tie as tie
@@ -24,8 +24,8 @@ loop-holds c = onward-none _ _ _ _ refl (c .before .pre)
 sub-loop : tie.Need-sub-loop Inv-loop μ-loop
 sub-loop c = search needs
 
-eight-at-requires : tie.Need-eight-at-requires Inv-loop μ-loop
-eight-at-requires c κs = search needs
+eight-from-requires : tie.Need-eight-from-requires Inv-loop μ-loop
+eight-from-requires c κs = search needs
 
 marks-in-requires : tie.Need-marks-in-requires Inv-loop μ-loop
 marks-in-requires c κs = search needs
@@ -37,8 +37,8 @@ flagged
     c .marks-in .result ≡ flags (λ k. isMark (known .before .args .y) (onFrom (known .before .args .d .now) (c .before .before .before .loop .i) k))
 flagged c =
     let known = c .before .before .before .before in
-    let bytes = eight-from (known .before .args .d .now) (c .before .before .before .loop .i) (omega arith) (λ k. omega (arith, known .shared-slice-known .given k)) in
-    c .marks-in .ensures _ (rw (c .before .eight-at .ensures) bytes)
+    let bytes = eight-there (known .before .args .d .now) (c .before .before .before .loop .i) (omega arith) (λ k. omega (arith, known .shared-slice-known .given k)) in
+    c .marks-in .ensures _ (rw (c .before .eight-from .ensures) bytes)
 
 first-of-requires : tie.Need-first-of-requires Inv-loop μ-loop
 first-of-requires c κs = search needs
@@ -76,7 +76,7 @@ next-mark-spec =
     μ-loop
     loop-holds
     sub-loop
-    eight-at-requires
+    eight-from-requires
     marks-in-requires
     first-of-requires
     add-result
