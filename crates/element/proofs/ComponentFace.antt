@@ -30,7 +30,7 @@ pub use Rattle.element.proofs.scan.Extents.{extent-ended, extent-length
 pub use Rattle.element.proofs.scan.Stopping.{from, Ended}
 pub use Rattle.element.proofs.scan.Splits.{Last, Stop}
 -- what a byte ends, by the tests on it
-pub use Rattle.element.proofs.scan.Endings.{ending-segment, ending-element, stays-nothing}
+pub use Rattle.element.proofs.scan.Endings.{ending-segment, ending-element}
 -- a segment has at most one component more than it has bytes: a count of them fits
 pub use Rattle.element.proofs.components.Counts.{components-count}
 pub use Rattle.element.proofs.Limits.{part-fits}

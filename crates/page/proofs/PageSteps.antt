@@ -17,7 +17,7 @@ use Rattle.element.proofs.Limits.{limited}
 use Rattle.element.proofs.ComponentFace.{from, Ended, Stop, ending-segment, ending-element}
 use Rattle.guide.specs.Page.{Row, unused, Page, elementOf, rowOf}
 use Rattle.guide.specs.PageFault.{pageFault}
-use Rattle.guide.specs.Choices.{pickℕ, orElse}
+use Rattle.guide.specs.Choices.{orElse}
 use Rattle.guide.proofs.PageFace.{opened, moodAfter, moodFault, passFault, absentFault, behindFault, segment-pass, pass-component, pass-element, pass-absent, empty-pass}
 use Rattle.page.specs.PageWalk.{Stand, tag, inside, standOf, standFault, standAfter, standEnd, MoodAfter, EndFault, stopBy, stopOf}
 use Rattle.page.specs.PageWords.{rowIn, elementIn, ElementWord, pageIn, NodeWord}

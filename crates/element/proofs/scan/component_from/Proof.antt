@@ -44,7 +44,8 @@ sub-length-on c = c .before .before .before .before .before .before .before .loo
 length-on-requires : tie.Need-length-on-requires Inv-loop μ-loop
 length-on-requires c κs =
     let l = c .before .before .before .before .before .before .before in
-    (mark-within _ _ _ _ _ _ (l .loop .inv) (c .before .before .before .before .before .before .loop-test .taken) _ (c .released-end .ensures), omega arith)
+    let m = mark-within _ _ _ _ _ _ (l .loop .inv) (c .before .before .before .before .before .before .loop-test .taken) _ (c .released-end .ensures) in
+    (omega (arith, l .loop .inv .within), omega arith)
 
 returns-2 : tie.Need-returns-2 Inv-loop μ-loop
 returns-2 c =

@@ -45,7 +45,7 @@ known-fault-requires c κs = counted (c .before)
 returns : tie.Need-returns Inv-loop μ-loop
 returns c =
     let f = c .before .before .before in
-    pass-told _ _ _ _ _ _ _ _ _ _ (f .before .loop .inv) _ (ended f) _ (c .before .before .row-at .ensures) _ (c .before .known-fault .ensures) (c .if1 .taken)
+    pass-told _ _ _ _ _ _ _ _ _ _ (f .before .loop .inv) _ (ended f) _ (c .before .before .row-at .ensures) _ (c .before .known-fault .ensures) (omega (arith, c .if1 .taken))
 
 mood-after-requires : tie.Need-mood-after-requires Inv-loop μ-loop
 mood-after-requires c κs = search needs
@@ -95,7 +95,7 @@ returns-2 : tie.Need-returns-2 Inv-loop μ-loop
 returns-2 c =
     let t = c .before .before .before in
     let f = t .before .before .before .before .before .before in
-    pass-left _ _ _ _ _ _ _ _ _ _ (f .before .loop .inv) _ (ended f) _ (behind (t .before .before)) _ (t .stop-at .ensures) (c .before .before .if2 .left) _ (c .before .ending .ensures) (c .if3 .taken)
+    pass-left _ _ _ _ _ _ _ _ _ _ (f .before .loop .inv) _ (ended f) _ (behind (t .before .before)) _ (t .stop-at .ensures) (c .before .before .if2 .left) _ (c .before .ending .ensures) (omega (arith, c .if3 .taken))
 
 absent-requires : tie.Need-absent-requires Inv-loop μ-loop
 absent-requires c κs = c .before .before .before .before .before .before .before .before .before .before .before .before .before .pre .2
