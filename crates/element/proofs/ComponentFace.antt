@@ -25,6 +25,12 @@ pub use Rattle.element.proofs.components.Searching.{step-less}
 -- a walk of enough steps gives all `components` of the segment, in their order
 pub use Rattle.element.proofs.cursor.Walks.{walk-components}
 unfoldable pub use Rattle.element.proofs.cursor.Walks.{walk, given}
+-- the component that `component_from` finds: where it ends, what stands there, and what comes after it; and its bytes without release marks
+pub use Rattle.element.proofs.scan.Extents.{extent-ended, extent-length}
+pub use Rattle.element.proofs.scan.Stopping.{from, Ended}
+pub use Rattle.element.proofs.scan.Splits.{Last, Stop}
+-- what a byte ends, by the tests on it
+pub use Rattle.element.proofs.scan.Endings.{ending-segment, ending-element}
 -- a segment has at most one component more than it has bytes: a count of them fits
 pub use Rattle.element.proofs.components.Counts.{components-count}
 pub use Rattle.element.proofs.Limits.{part-fits}

@@ -1,3 +1,5 @@
 pub mod Endings
 pub mod Scanning
 pub mod Splits
+pub mod Stopping
+pub mod Extents

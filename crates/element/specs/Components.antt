@@ -1,13 +1,15 @@
 -- The components of a segment from left to right, with their numbers and places.
 use Prim.Native.Nat.{ℕ, _+_}
-use mathlib.Core.Bool.{cond, _&&_}
+use mathlib.Core.Bool.{false, cond, _&&_}
 use mathlib.Core.List.{List, [], _∷_, _++_}
 use lib.ListN.{length}
 use lib.Dec.{eqb}
 use Rattle.cut.specs.Bytes.{part}
 use Rattle.cut.specs.declared.service.Syntax.{Syntax}
-use Rattle.element.specs.Elements.{elements}
+use Rattle.element.specs.Elements.{elements, component}
+use Rattle.element.specs.Plain.{plain}
 use Rattle.element.specs.declared.components.Span.{Span}
+use Rattle.element.specs.declared.scan.Extent.{Extent}
 
 -- its element's number, its own number in the element, both from 0, the place of its first byte, and its raw bytes
 pub record Component : Type 0 where
@@ -47,3 +49,9 @@ spanIn a e c (k ∷ ks) = cond (eqb (k .element) e && eqb (k .component) c) (rec
 -- where component c of element e of the segment stands that runs from start to end in the delivery; a missing one is the empty part at its start
 unfoldable pub componentAt : Syntax → List ℕ → ℕ → ℕ → ℕ → ℕ → Span
 componentAt y d start end e c = spanIn start e c (components y start (part start end d))
+
+-- the component that begins at the place a of a part up to e: the place after its last byte, and how many bytes it has, "releases removed"
+unfoldable pub extentOf : Syntax → List ℕ → ℕ → ℕ → Extent
+extentOf y d a e =
+    let b = component y (part a e d) 0 0 in
+    record { end = a + length b; length = length (plain y false b) }

@@ -1,6 +1,6 @@
 // A cursor by value that goes through the components of a segment once, from left to right.
 use crate::limit::limit_of;
-use crate::scan::component_end;
+use crate::scan::component_from;
 use cut::Syntax;
 ghost use mathlib.Core.Path.{_≡_};
 ghost use lib.ListN.{drop};
@@ -96,7 +96,7 @@ impl Cursor {
         if start < self.component {
             return Visit::Nothing;
         }
-        let end = component_end(y, d, start, limit);
+        let end = component_from(y, d, start, limit).end;
         let next = self.after(y, d, end, limit);
         Visit::At {
             element: self.element,

@@ -31,5 +31,7 @@ pub use plain::plain_length;
 pub use plain::same_plain;
 pub use prices::Number;
 pub use prices::number_of;
+pub use scan::Extent;
+pub use scan::component_from;
 pub use text::decimal_text;
 pub use words::word_of;

@@ -23,7 +23,7 @@ pub fn plain_length(y: Syntax, d: &[u8], a: usize, e: usize) -> usize
 }
 
 // The same from the place `from` on, where `count` bytes are counted before it.
-fn length_on(y: Syntax, d: &[u8], from: usize, end: usize, count: usize) -> usize
+pub(crate) fn length_on(y: Syntax, d: &[u8], from: usize, end: usize, count: usize) -> usize
     requires { ⌜ (end ≤ length (now d)) × (count ≤ from) ⌝ }
     ensures { λ r. ⌜ r ≡ count + length (decoded y from end (now (d .entry))) ⌝ }
 {

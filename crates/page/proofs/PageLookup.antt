@@ -1,11 +1,11 @@
 -- The words of elements and rows: the one that is looked up belongs to the element or the row that the page has.
-use Prim.Native.Nat.{ℕ, zero, suc, _+_, _-_, _/_, _%_, _≤_, _<_}
-use mathlib.Core.Path.{_≡_, refl, sym, ap, _∙_}
-use native.Mathlib.Omega.{arith}
+use Prim.Native.Nat.{ℕ, _+_, _/_, _%_, _≤_, _<_}
+use mathlib.Core.Path.{_≡_, refl, sym, _∙_}
+use native.Mathlib.Numerals.{add-one}
 use lib.ListN.{getD}
 use Rattle.guide.specs.Page.{unused, Composite, Page, beyond, elementOf}
 use Rattle.page.specs.PageColumns.{allElements, allRows}
-use Rattle.page.specs.PageWords.{span, reach, codesIn, formatIn, rowIn, elementIn, ElementWord, pageIn, NodeWord}
+use Rattle.page.specs.PageWords.{span, reach, codesIn, formatIn, rowIn, elementIn, ElementWord, pageIn}
 use Rattle.page.proofs.PageSpans.{span-at, span-past}
 
 -- 0 is the word of an element without rows
@@ -13,30 +13,22 @@ nothing : (k : Composite) → beyond ≡ k → ElementWord 0 k
 unfolding elementIn span reach
 nothing k e = rw (← e) (record { element = refl; reach = refl })
 
-pub element-tag : (page : Page) (e : ℕ) → e ≡ 0 → ElementWord 0 (elementOf page e)
+pub element-tag : (page : Page) → ElementWord 0 (elementOf page 0)
 unfolding elementOf
-element-tag page e h = rw h (nothing beyond refl)
+element-tag page = nothing beyond refl
 
-module _ (w : ℕ) (page : Page) (n : NodeWord w page) (e : ℕ) (h : e ≡ 0 → ⊥) where
-  behind-tag : elementOf page e ≡ getD page (e - 1) beyond
+module _ (w e : ℕ) where
+  behind : elementOf (pageIn w) (e + 1) ≡ getD (pageIn w) e beyond
   unfolding elementOf
-  behind-tag = go e h
-    where
-      go : (i : ℕ) → (i ≡ 0 → ⊥) → elementOf page i ≡ getD page (i - 1) beyond
-      go zero z = absurd (z refl)
-      go (suc i) z = ap (λ (k : ℕ). getD page k beyond) (omega arith)
+  behind = rw (add-one e)
 
-  pub element-past : w / 1024 % 32 < e → ElementWord 0 (elementOf page e)
+  pub element-past : w / 1024 % 32 ≤ e → ElementWord 0 (elementOf (pageIn w) (e + 1))
   unfolding pageIn
-  element-past l =
-      let q = span-past allElements beyond (w % 1024) (w / 1024 % 32) (e - 1) (omega arith) in
-      nothing (elementOf page e) (sym (behind-tag ∙ rw (← n .page) q))
+  element-past l = nothing (elementOf (pageIn w) (e + 1)) (sym (behind ∙ span-past allElements beyond (w % 1024) (w / 1024 % 32) e l))
 
-  pub element-here : (v : ℕ) → e ≤ w / 1024 % 32 → ElementWord v (getD allElements (w % 1024 + (e - 1)) beyond) → ElementWord v (elementOf page e)
+  pub element-here : (v : ℕ) → e < w / 1024 % 32 → ElementWord v (getD allElements (w % 1024 + e) beyond) → ElementWord v (elementOf (pageIn w) (e + 1))
   unfolding pageIn
-  element-here v l p =
-      let q = span-at allElements beyond (w % 1024) (w / 1024 % 32) (e - 1) (omega arith) in
-      rw (behind-tag, ← n .page, q) p
+  element-here v l p = rw (behind, span-at allElements beyond (w % 1024) (w / 1024 % 32) e l) p
 
 module _ (w c : ℕ) where
   pub row-past : w / 1024 % 32 ≤ c → rowIn 0 ≡ getD (elementIn w .rows) c unused

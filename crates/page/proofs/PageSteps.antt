@@ -1,141 +1,256 @@
 -- The pass over a segment's components, one step further.
-use Prim.Native.Nat.{ℕ, zero, suc, _+_, _≤_, _<_}
-use mathlib.Core.Bool.{false}
+use Prim.Native.Nat.{ℕ, zero, suc, _+_, _≤_, _<_, min}
+use mathlib.Core.Bool.{Bool, true, false, cond, true≢false}
 use mathlib.Core.Path.{_≡_, refl, sym, ap, _∙_}
 use mathlib.Core.List.{List, [], _∷_}
+use native.Mathlib.Decide.{decLe}
 use native.Mathlib.Omega.{arith}
 use lib.ListN.{length, getD, drop}
+use lib.Dec.{eqb}
+use borrow.Author.Tests.{le-leb, lt-leb, ne-eqb}
 use Rattle.cut.specs.Bytes.{part}
 use Rattle.cut.specs.declared.service.Syntax.{Syntax}
-use Rattle.element.specs.Components.{Component, components}
+use Rattle.cut.proofs.Parts.{part-none, length-part}
+use Rattle.element.specs.Elements.{Ending, ends-segment, ends-element, ends-component, ends-nothing, endingOf, stays, Split, before}
 use Rattle.element.specs.Plain.{plain, decoded}
-use Rattle.guide.specs.Page.{Row, unused, Composite, Page, elementOf, rowOf}
+use Rattle.element.proofs.Limits.{limited}
+use Rattle.element.proofs.ComponentFace.{from, Ended, Stop, ending-segment, ending-element}
+use Rattle.guide.specs.Page.{Row, unused, Page, elementOf, rowOf}
 use Rattle.guide.specs.PageFault.{pageFault}
 use Rattle.guide.specs.Choices.{orElse}
-use Rattle.guide.proofs.PageFace.{Mood, opened, moodAfter, moodFault, endFault, absentFault, absent-pass, walkFault, walk-done, walk-tag, walk-further, walk-enter, segment-pass}
-use Rattle.page.specs.PageWalk.{moodOf, MoodAfter, leftFault, entered, Passed, PassedRow}
-use Rattle.page.specs.PageWords.{elementIn, ElementWord}
+use Rattle.guide.proofs.PageFace.{opened, moodAfter, moodFault, passFault, absentFault, behindFault, segment-pass, pass-component, pass-element, pass-absent, empty-pass}
+use Rattle.page.specs.PageWalk.{Stand, tag, inside, standOf, standFault, standAfter, standEnd, MoodAfter, EndFault, stopBy, stopOf}
+use Rattle.page.specs.PageWords.{rowIn, elementIn, ElementWord, pageIn, NodeWord}
+use Rattle.page.proofs.PageLookup.{element-tag}
 
-pub or-first : (f x : ℕ) → 0 < f → f ≡ orElse f x
+or-first : (f x : ℕ) → 0 < f → f ≡ orElse f x
 or-first zero x h = absurd (omega arith)
 or-first (suc f) x h = refl
 
-pub or-second : (f x : ℕ) → f ≤ 0 → x ≡ orElse f x
+or-second : (f x : ℕ) → f ≤ 0 → orElse f x ≡ x
 or-second zero x h = refl
 or-second (suc f) x h = absurd (omega arith)
 
-pub no-fault : (f : ℕ) → f ≤ 0 → f ≡ 0
-no-fault f h = omega arith
+or-assoc : (a b c : ℕ) → orElse (orElse a b) c ≡ orElse a (orElse b c)
+or-assoc zero b c = refl
+or-assoc (suc a) b c = refl
 
--- the first of two faults, by the test of the first
-pub first-told : (f g x : ℕ) → f ≡ g → 0 < f → f ≡ orElse g x
-first-told f g x e h = or-first f x h ∙ rw e
+component-alone : (b : Bool) → stopBy (cond b ends-component ends-nothing) ≡ 2
+component-alone true = refl
+component-alone false = refl
 
-pub second-told : (f g r x : ℕ) → f ≡ g → f ≤ 0 → r ≡ x → r ≡ orElse g x
-second-told f g r x e h p = p ∙ or-second f x h ∙ rw e
+-- what ends at a place, by the tests on it
+module _ (y : Syntax) (d : List ℕ) (n e : ℕ) where
+  pub stop-end : e ≤ n → 0 ≡ stopOf y d n e
+  unfolding stopOf
+  stop-end h = rw (le-leb e n h)
 
--- the row of a component, by its word
-pub row-passed
-    : (y : Syntax) (w e c m : ℕ) (t : List ℕ) (r : Row) (n fault m′ : ℕ) → r ≡ getD (elementIn w .rows) c unused → fault ≡ moodFault y (moodOf m) r t
-    → MoodAfter n m r m′ → n ≡ length t → PassedRow y w e c m t fault e c w m′
-row-passed y w e c m t r n fault m′ p f a l = record { told = f ∙ rw p; mood = a t l ∙ rw p; element = refl; component = refl; word = refl }
+  module _ (h : n < e) where
+    stop-before : stopOf y d n e ≡ stopBy (endingOf y false (getD d n 0))
+    unfolding stopOf
+    stop-before = rw (lt-leb e n h)
 
--- before a component, by the test of its number
-module _ (c fault : ℕ) where
-  pub left-further : 0 < c → 0 ≡ leftFault c fault
-  left-further h = go c h
-    where
-      go : (i : ℕ) → 0 < i → 0 ≡ leftFault i fault
-      go zero h = absurd (omega arith)
-      go (suc i) h = refl
+    pub stop-segment : getD d n 0 ≡ y .terminator → 0 ≡ stopOf y d n e
+    stop-segment t = sym (stop-before ∙ ap stopBy (ending-segment y _ t))
 
-  pub left-first : c ≤ 0 → fault ≡ leftFault c fault
-  left-first h =
-      let z : c ≡ 0 = omega arith in
-      rw z
+    pub stop-element : (getD d n 0 ≡ y .terminator → ⊥) → getD d n 0 ≡ y .element → 1 ≡ stopOf y d n e
+    stop-element t g = sym (stop-before ∙ ap stopBy (ending-element y _ t g))
 
-module _ (c : ℕ) (m : Mood) (k : Composite) where
-  pub entered-further : 0 < c → m ≡ entered c m k
-  entered-further h = go c h
-    where
-      go : (i : ℕ) → 0 < i → m ≡ entered i m k
-      go zero h = absurd (omega arith)
-      go (suc i) h = refl
-
-  pub entered-first : c ≤ 0 → opened k ≡ entered c m k
-  entered-first h =
-      let z : c ≡ 0 = omega arith in
-      rw z
-
--- the pass stands in the element, so that its word is known
-pub known-word : (page : Page) (w e i : ℕ) → ElementWord w (elementOf page i) → e ≡ i → ElementWord w (elementOf page e)
-known-word page w e i v h = rw h v
+    pub stop-component : (getD d n 0 ≡ y .terminator → ⊥) → (getD d n 0 ≡ y .element → ⊥) → 2 ≡ stopOf y d n e
+    unfolding endingOf
+    stop-component t g = sym (stop-before ∙ rw (ne-eqb (getD d n 0) (y .terminator) t, ne-eqb (getD d n 0) (y .element) g) (component-alone (eqb (getD d n 0) (y .component))))
 
 module _ (y : Syntax) (page : Page) where
-  module _ (d : List ℕ) (e₀ c₀ m₀ e c a b : ℕ) where
-    abbrev here : Component
-    here = record { element = e; component = c; start = a; bytes = part a b d }
+  -- what is found in the components bs, of which the first is on the first of the rows rs
+  unfoldable pub standPass : Stand → List Row → List (List ℕ) → ℕ
+  standPass tag rs bs = 0
+  standPass (inside m) rs bs = passFault y m rs bs
 
-    pub passed-tag : e ≡ 0 → (fault : ℕ) → fault ≡ 0 → Passed y page e₀ c₀ m₀ here fault e₀ c₀ m₀
-    passed-tag h fault z ks = walk-tag y page e₀ (c₀ + 1) (moodOf m₀) here ks h ∙ or-second fault _ (omega arith)
+  -- what is found in what is left of the segment, from component c of element e on
+  unfoldable pub leftFault : ℕ → ℕ → Stand → List (List ℕ) → List (List (List ℕ)) → ℕ
+  leftFault e c s bs es = orElse (standPass s (drop c (elementOf page e .rows)) bs) (behindFault y page e es)
 
-    module _ (z : e ≡ 0 → ⊥) (f : ℕ) (p : f ≡ leftFault c (endFault (moodOf m₀) (drop (c₀ + 1) (elementOf page e₀ .rows)))) where
-      ended : c ≡ 0 → f ≡ endFault (moodOf m₀) (drop (c₀ + 1) (elementOf page e₀ .rows))
-      ended h = p ∙ ap (λ (n : ℕ). leftFault n (endFault (moodOf m₀) (drop (c₀ + 1) (elementOf page e₀ .rows)))) h
+  -- one component further
+  left-step
+      : (e c : ℕ) (s : Stand) (b : List ℕ) (bs : List (List ℕ)) (es : List (List (List ℕ)))
+      → leftFault e c s (b ∷ bs) es
+      ≡ orElse (standFault y s (rowOf page e c) (plain y false b)) (leftFault e (c + 1) (standAfter s (rowOf page e c) (plain y false b)) bs es)
+  unfolding leftFault standPass standFault standAfter
+  left-step e c tag b bs es = refl
+  left-step e c (inside m) b bs es =
+      let r = rowOf page e c in
+      let t = plain y false b in
+      rw (pass-component y page e c m b bs)
+      (or-assoc (moodFault y m r t) (passFault y (moodAfter m r t) (drop (c + 1) (elementOf page e .rows)) bs) (behindFault y page e es))
 
-      pub passed-ended : (e′ c′ m′ : ℕ) → 0 < f → Passed y page e₀ c₀ m₀ here f e′ c′ m′
-      passed-ended e′ c′ m′ l ks = go c refl
-        where
-          go : (i : ℕ) → c ≡ i → walkFault y page e₀ (c₀ + 1) (moodOf m₀) (here ∷ ks) ≡ orElse f (walkFault y page e′ (c′ + 1) (moodOf m′) ks)
-          go zero h =
-              let k = opened (elementOf page e) in
-              let t = plain y false (part a b d) in
-              let x = orElse (moodFault y k (rowOf page e c) t) (walkFault y page e (c + 1) (moodAfter k (rowOf page e c) t) ks) in
-              walk-enter y page e₀ (c₀ + 1) (moodOf m₀) here ks z h
-              ∙ ap (λ (g : ℕ). orElse g x) (sym (ended h))
-              ∙ sym (or-first f x l)
-              ∙ or-first f (walkFault y page e′ (c′ + 1) (moodOf m′) ks) l
-          go (suc i) h = absurd (omega (arith, p ∙ ap (λ (n : ℕ). leftFault n (endFault (moodOf m₀) (drop (c₀ + 1) (elementOf page e₀ .rows)))) h))
+  -- where the element has no component left
+  left-end : (e c : ℕ) (s : Stand) (es : List (List (List ℕ))) → leftFault e c s [] es ≡ orElse (standEnd s (drop c (elementOf page e .rows))) (behindFault y page e es)
+  unfolding leftFault standPass standEnd passFault
+  left-end e c tag es = refl
+  left-end e c (inside m) es = refl
 
-      -- its element has the word w
-      module _ (w : ℕ) (v : ElementWord w (elementOf page e)) (m fault e′ c′ w′ m′ : ℕ) (r : PassedRow y w e c m (decoded y a b d) fault e′ c′ w′ m′) where
-        -- and so has the one where the pass stands then
-        pub word-after : ElementWord w′ (elementOf page e′)
-        word-after = rw (r .word, r .element) v
+  -- the pass stands before component c of element e, which has the word w, at the place a
+  pub record Before (d : List ℕ) (limit ans a e c w m : ℕ) : Type 0 where
+    pub ahead : a ≤ limit
+    pub element : e ≤ a
+    pub component : c ≤ a
+    pub word : ElementWord w (elementOf page e)
+    pub answer : leftFault e c (standOf m) (from y d a limit .bytes ∷ from y d a limit .components) (from y d a limit .elements) ≡ ans
 
-        row-here : getD (elementIn w .rows) c unused ≡ rowOf page e c
-        unfolding rowOf
-        row-here = rw (v .element)
+  -- and behind it
+  pub record Behind (d : List ℕ) (limit ans a e c m : ℕ) : Type 0 where
+    pub answer : leftFault e (c + 1) (standOf m) (from y d a limit .components) (from y d a limit .elements) ≡ ans
 
-        pub passed-on : f ≤ 0 → moodOf m ≡ entered c (moodOf m₀) (elementIn w) → Passed y page e₀ c₀ m₀ here fault e′ c′ m′
-        unfolding decoded
-        passed-on l o ks = go c refl
-          where
-            go : (i : ℕ) → c ≡ i → walkFault y page e₀ (c₀ + 1) (moodOf m₀) (here ∷ ks) ≡ orElse fault (walkFault y page e′ (c′ + 1) (moodOf m′) ks)
-            go zero h =
-                let q : endFault (moodOf m₀) (drop (c₀ + 1) (elementOf page e₀ .rows)) ≡ 0 = sym (ended h) ∙ omega arith in
-                let u : opened (elementOf page e) ≡ moodOf m = ap opened (sym (v .element)) ∙ sym (o ∙ rw h) in
-                walk-enter y page e₀ (c₀ + 1) (moodOf m₀) here ks z h
-                ∙ rw (q, u, ← row-here, r .told, r .mood, r .element, r .component)
-            go (suc i) h =
-                let u : moodOf m₀ ≡ moodOf m = sym (o ∙ rw h) in
-                walk-further y page e₀ (c₀ + 1) (moodOf m₀) here ks z (λ q. omega arith)
-                ∙ rw (u, ← row-here, r .told, r .mood, r .element, r .component)
+  pub pass-begins : (d : List ℕ) (limit start : ℕ) → start < limit → limit ≤ length d → Before d limit (pageFault y page (part start limit d)) start 0 0 0 3
+  unfolding leftFault standPass
+  pass-begins d limit start h fits =
+      let l : 0 < length (part start limit d) = rw (length-part d start limit fits) (omega arith) in
+      record { ahead = omega arith; element = omega arith; component = omega arith; word = element-tag page; answer = segment-pass y page (part start limit d) l }
 
-  -- no component is left
-  pub passed-all
-      : (e c m : ℕ) (ks : List Component) → ks ≡ []
-      → walkFault y page e (c + 1) (moodOf m) ks ≡ orElse (endFault (moodOf m) (drop (c + 1) (elementOf page e .rows))) (absentFault (drop e page))
-  passed-all e c m ks h = rw (h, walk-done y page e (c + 1) (moodOf m), absent-pass y (drop e page))
+  module _ (d : List ℕ) (limit ans a e c w m : ℕ) (q : Before d limit ans a e c w m) (stop : ℕ) (z : Ended y d a limit stop) where
+    -- what stands from the component on, and behind the byte that ends it
+    abbrev S : Split
+    S = from y d a limit
 
-  -- before the first
-  pub passed-none : (p : ℕ) (s : List ℕ) (ks : List Component) → ks ≡ components y p s → walkFault y page 0 (0 + 1) (moodOf 0) ks ≡ pageFault y page s
-  passed-none p s ks h = rw h (segment-pass y page (0 + 1) p s)
+    abbrev T : Split
+    T = from y d (stop + 1) limit
 
-  -- a component was passed: its fault decides, or the pass goes on
-  module _ (e c m fault e′ c′ m′ : ℕ) (k : Component) (all rest : List Component) (w : Passed y page e c m k fault e′ c′ m′) (l : all ≡ k ∷ rest) where
-    pub pass-stops : 0 < fault → walkFault y page e (c + 1) (moodOf m) all ≡ fault
-    pass-stops h = rw l (w rest ∙ sym (or-first fault _ h))
+    -- its row and its fault are known
+    module _ (row : ℕ) (p : rowIn row ≡ getD (elementIn w .rows) c unused) (fault : ℕ) (f : fault ≡ standFault y (standOf m) (rowIn row) (decoded y a stop d)) where
+      row-here : rowIn row ≡ rowOf page e c
+      unfolding rowOf
+      row-here = p ∙ rw (q .word .element)
 
-    pub pass-goes : fault ≤ 0 → walkFault y page e (c + 1) (moodOf m) all ≡ walkFault y page e′ (c′ + 1) (moodOf m′) rest
-    pass-goes h = rw l (w rest ∙ sym (or-second fault _ h))
+      text : decoded y a stop d ≡ plain y false (S .bytes)
+      unfolding decoded
+      text = ap (plain y false) (sym (z .bytes))
+
+      stepped : orElse fault (leftFault e (c + 1) (standAfter (standOf m) (rowIn row) (decoded y a stop d)) (S .components) (S .elements)) ≡ ans
+      stepped = rw (f, row-here, text) (sym (left-step e c (standOf m) (S .bytes) (S .components) (S .elements)) ∙ q .answer)
+
+      pub pass-told : 0 < fault → fault ≡ ans
+      pass-told h = or-first fault _ h ∙ stepped
+
+      pub pass-on : fault ≤ 0 → (n m′ : ℕ) → n ≡ length (decoded y a stop d) → MoodAfter n m (rowIn row) m′ → Behind d limit ans a e c m′
+      pass-on h n m′ l k = record { answer = rw (k (decoded y a stop d) l) (sym (or-second fault _ h) ∙ stepped) }
+
+    -- what ends where it ends is known
+    module _ (m′ : ℕ) (b : Behind d limit ans a e c m′) (k : ℕ) (s : k ≡ stopOf y d stop limit) where
+      abbrev x : Ending
+      x = endingOf y false (getD d stop 0)
+
+      module _ (h : stop < limit) where
+        kind : k ≡ stopBy x
+        kind = s ∙ stop-before y d stop limit h
+
+        more : Stop y S (getD d stop 0) (part (stop + 1) limit d)
+        more = z .more h
+
+        stuck : {A : Type 0} → x ≡ ends-nothing → A
+        unfolding stays
+        stuck n = absurd (true≢false (sym (ap stays n) ∙ more .ends))
+
+        -- a component follows, or an element, or nothing
+        component-by : (g : Ending) → x ≡ g → stopBy g ≡ 2 → (S .components ≡ T .bytes ∷ T .components) × (S .elements ≡ T .elements)
+        unfolding before
+        component-by ends-segment n i = absurd (omega arith)
+        component-by ends-element n i = absurd (omega arith)
+        component-by ends-component n i = (rw n at (more .components), rw n at (more .elements))
+        component-by ends-nothing n i = stuck n
+
+        element-by : (g : Ending) → x ≡ g → (stopBy g ≡ 0 → ⊥) → (stopBy g ≡ 2 → ⊥) → S .elements ≡ (T .bytes ∷ T .components) ∷ T .elements
+        unfolding before
+        element-by ends-segment n i j = absurd (i refl)
+        element-by ends-element n i j = rw n at (more .elements)
+        element-by ends-component n i j = absurd (j refl)
+        element-by ends-nothing n i j = stuck n
+
+        none-by : (g : Ending) → x ≡ g → (stopBy g ≡ 2 → ⊥) → S .components ≡ []
+        unfolding before
+        none-by ends-segment n j = rw n at (more .components)
+        none-by ends-element n j = rw n at (more .components)
+        none-by ends-component n j = absurd (j refl)
+        none-by ends-nothing n j = stuck n
+
+        done-by : (g : Ending) → x ≡ g → stopBy g ≡ 0 → S .elements ≡ []
+        unfolding before
+        done-by ends-segment n j = rw n at (more .elements)
+        done-by ends-element n j = absurd (omega arith)
+        done-by ends-component n j = absurd (omega arith)
+        done-by ends-nothing n j = stuck n
+
+      inner-by : Dec (limit ≤ stop) → (k ≡ 0 → ⊥) → stop < limit
+      inner-by (yes h) i = absurd (i (s ∙ sym (stop-end y d stop limit h)))
+      inner-by (no h) i = omega arith
+
+      pub inner : (k ≡ 0 → ⊥) → stop < limit
+      inner = inner-by (decLe limit stop)
+
+      -- the next component of the element
+      pub pass-further : k ≡ 2 → Before d limit ans (stop + 1) e (c + 1) w m′
+      pass-further i =
+          let h = inner (λ j. omega arith) in
+          let n = component-by h x refl (sym (kind h) ∙ i) in
+          let o = z .ends in
+          record {
+            ahead = omega arith;
+            element = omega (arith, q .element);
+            component = omega (arith, q .component);
+            word = q .word;
+            answer = rw (← n .0, ← n .1) (b .answer);
+          }
+
+      -- the element ends
+      module _ (j : k ≡ 2 → ⊥) (f : ℕ) (t : EndFault w c m′ f) where
+        none-left : Dec (limit ≤ stop) → S .components ≡ []
+        none-left (yes h) = z .last h .components
+        none-left (no h) = none-by (omega arith) x refl (λ i. j (kind (omega arith) ∙ i))
+
+        ended : orElse f (behindFault y page e (S .elements)) ≡ ans
+        ended =
+            ap (λ (g : ℕ). orElse g (behindFault y page e (S .elements))) (t (elementOf page e) (q .word))
+            ∙ sym (left-end e (c + 1) (standOf m′) (S .elements))
+            ∙ ap (λ (bs : List (List ℕ)). leftFault e (c + 1) (standOf m′) bs (S .elements)) (sym (none-left (decLe limit stop)))
+            ∙ b .answer
+
+        pub pass-left : 0 < f → f ≡ ans
+        pass-left h = or-first f _ h ∙ ended
+
+        module _ (l : f ≤ 0) where
+          calm : behindFault y page e (S .elements) ≡ ans
+          calm = sym (or-second f _ l) ∙ ended
+
+          done-left : k ≡ 0 → Dec (limit ≤ stop) → S .elements ≡ []
+          done-left i (yes h) = z .last h .elements
+          done-left i (no h) = done-by (omega arith) x refl (sym (kind (omega arith)) ∙ i)
+
+          -- the segment too
+          pub pass-done : k ≡ 0 → absentFault (drop e page) ≡ ans
+          pass-done i = sym (pass-absent y page e) ∙ ap (behindFault y page e) (sym (done-left i (decLe limit stop))) ∙ calm
+
+          -- or the next one begins
+          pub pass-enter : (k ≡ 0 → ⊥) → (w′ m″ : ℕ) → ElementWord w′ (elementOf page (e + 1)) → standOf m″ ≡ inside (opened (elementIn w′)) → Before d limit ans (stop + 1) (e + 1) 0 w′ m″
+          unfolding leftFault standPass
+          pass-enter i w′ m″ v o =
+              let h = inner i in
+              let n = element-by h x refl (λ g. i (kind h ∙ g)) (λ g. j (kind h ∙ g)) in
+              let g = z .ends in
+              record {
+                ahead = omega arith;
+                element = omega (arith, q .element);
+                component = omega arith;
+                word = v;
+                answer = rw (o, v .element) (sym (pass-element y page e (T .bytes ∷ T .components) (T .elements)) ∙ ap (behindFault y page e) (sym n) ∙ calm);
+              }
+
+-- the page of a node has the node's word, and an end past the delivery counts as the delivery's end
+module _ (w : ℕ) (page : Page) (n : NodeWord w page) where
+  pub own-word : NodeWord w (pageIn w)
+  own-word = record { page = refl; reach = rw (n .page) (n .reach) }
+
+  module _ (y : Syntax) (d : List ℕ) (start end limit : ℕ) (h : limit ≡ min end (length d)) where
+    pub passed-none : limit ≤ start → (r : ℕ) → r ≡ absentFault (drop 0 (pageIn w)) → r ≡ pageFault y page (part start end d)
+    passed-none l r p = p ∙ rw (n .page) (empty-pass y page (part start end d) (sym (limited d start end limit h) ∙ part-none d start limit l))
+
+    pub passed-some : (r : ℕ) → r ≡ pageFault y (pageIn w) (part start limit d) → r ≡ pageFault y page (part start end d)
+    passed-some r p = p ∙ rw (n .page, limited d start end limit h)

@@ -1,60 +1,39 @@
-// The first fault of a segment against its page, in one pass over its components from left to right.
+// The first fault of a segment against its page, in one pass over its components from left to right. The pass keeps plain numbers: the place of the component
+// that comes next, its element's number, its own, the word of its element, and the mood: 0 idle, 1 asking, 2 owing, 3 in the tag, of which nothing is asked.
 use crate::formed::is_must;
 use crate::formed::text_fault;
-use crate::rows::element_at;
+use crate::rows::element_behind;
 use crate::rows::row_at;
 use crate::words::node_word;
 use cut::Syntax;
-use element::Cursor;
-use element::Visit;
-use element::plain_length;
+use element::component_from;
+use element::limit_of;
 use guide::Edition;
-ghost use Prim.Native.Nat.{_+_};
+ghost use Prim.Native.Nat.{_≤_, _<_};
 ghost use mathlib.Core.Path.{_≡_};
 ghost use lib.ListN.{length, drop};
 ghost use Rattle.cut.specs.Bytes.{part};
 ghost use Rattle.element.specs.Plain.{decoded};
-ghost use Rattle.guide.specs.Page.{elementOf};
 ghost use Rattle.guide.specs.Editions.{pagesOf};
 ghost use Rattle.guide.specs.PageFault.{pageFault};
-ghost use Rattle.guide.specs.Choices.{orElse};
-ghost use Rattle.guide.proofs.PageFace.{opened, moodFault, endFault, absentFault};
-ghost use Rattle.page.specs.PageWalk.{moodOf, entered, MoodAfter, EndFault, LeftFault, Passed, PassedRow};
-ghost use Rattle.page.specs.PageWords.{rowIn, elementIn, ElementWord};
+ghost use Rattle.guide.proofs.PageFace.{opened, absentFault};
+ghost use Rattle.page.specs.PageWalk.{inside, standOf, standFault, MoodAfter, EndFault, stopOf};
+ghost use Rattle.page.specs.PageWords.{rowIn, elementIn, pageIn, NodeWord};
 
-// Where the pass stands: the component that it passed last, the word of its element and its mood (0 idle, 1 asking, 2 owing), and the fault, if any.
-struct Pass {
-    fault: u32,
-    element: usize,
-    component: usize,
-    word: usize,
-    mood: usize,
-}
-
-// The fault of the elements of a node's page behind element e, where none of them stands.
-fn absent(edition: Edition, node: usize, e: usize) -> u32
-    ensures { λ r. ⌜ r ≡ absentFault (drop e (pagesOf edition node)) ⌝ }
+// The fault of the elements behind element e of the page that has a word, where none of them stands.
+fn absent(page: usize, e: usize) -> u32
+    requires { ⌜ NodeWord page (pageIn page) ⌝ }
+    ensures { λ r. ⌜ r ≡ absentFault (drop e (pageIn page)) ⌝ }
 {
-    if e < node_word(edition, node) / 32768 {
+    if e < page / 32768 {
         return 17;
     }
     0
 }
 
-// The word of element e, which is known where the pass stands in it.
-fn word_of(edition: Edition, node: usize, at: Pass, e: usize) -> usize
-    requires { ⌜ ElementWord (at .word) (elementOf (pagesOf edition node) (at .element)) ⌝ }
-    ensures { λ r. ⌜ ElementWord r (elementOf (pagesOf edition node) e) ⌝ }
-{
-    if e == at.element {
-        return at.word;
-    }
-    element_at(edition, node, e)
-}
-
 // The mood of the element that has a word before its first component.
 fn opening(word: usize) -> usize
-    ensures { λ r. ⌜ moodOf r ≡ opened (elementIn word) ⌝ }
+    ensures { λ r. ⌜ standOf r ≡ inside (opened (elementIn word)) ⌝ }
 {
     if word / 1048576 == 1 {
         return 1;
@@ -79,30 +58,10 @@ fn ending(word: usize, c: usize, mood: usize) -> u32
     0
 }
 
-// The fault that is known before component c of an element: the first ends the element before it.
-fn left_fault(at: Pass, c: usize) -> u32
-    ensures { λ r. ⌜ LeftFault (at .word) (at .component) (at .mood) c r ⌝ }
-{
-    if 0 < c {
-        return 0;
-    }
-    ending(at.word, at.component, at.mood)
-}
-
-// The mood before component c of the element that has a word, where the component before it left the given mood.
-fn entering(word: usize, c: usize, mood: usize) -> usize
-    ensures { λ r. ⌜ moodOf r ≡ entered c (moodOf mood) (elementIn word) ⌝ }
-{
-    if 0 < c {
-        return mood;
-    }
-    opening(word)
-}
-
 // The fault that is known at a component of n bytes.
 fn known_fault(y: Syntax, d: &[u8], a: usize, b: usize, n: usize, row: usize, mood: usize) -> u32
     requires { ⌜ n ≡ length (decoded y a b (now d)) ⌝ }
-    ensures { λ r. ⌜ r ≡ moodFault y (moodOf mood) (rowIn row) (decoded y a b (now (d .entry))) ⌝ }
+    ensures { λ r. ⌜ r ≡ standFault y (standOf mood) (rowIn row) (decoded y a b (now (d .entry))) ⌝ }
 {
     if mood < 2 {
         return text_fault(y, d, a, b, n, row, mood == 1);
@@ -110,7 +69,10 @@ fn known_fault(y: Syntax, d: &[u8], a: usize, b: usize, n: usize, row: usize, mo
     if n == 0 {
         return 0;
     }
-    17
+    if mood == 2 {
+        return 17;
+    }
+    0
 }
 
 // The mood after a component of n bytes.
@@ -129,75 +91,60 @@ fn mood_after(n: usize, row: usize, mood: usize) -> usize
     0
 }
 
-// The component from a up to b, number c of element e, which has a word and begins or goes on with the given mood.
-fn pass_row(
-    y: Syntax,
-    d: &[u8],
-    a: usize,
-    b: usize,
-    word: usize,
-    e: usize,
-    c: usize,
-    mood: usize,
-) -> Pass
-    ensures { λ r. ⌜ PassedRow y word e c mood (decoded y a b (now (d .entry))) (r .fault) (r .element) (r .component) (r .word) (r .mood) ⌝ }
+// What ends where a component ends, at the place `at` of a part up to `limit`: 0 the segment, 1 the element, 2 the component alone.
+fn stop_at(y: Syntax, d: &[u8], at: usize, limit: usize) -> usize
+    requires { ⌜ limit ≤ length (now d) ⌝ }
+    ensures { λ r. ⌜ r ≡ stopOf y (now (d .entry)) at limit ⌝ }
 {
-    let row = row_at(word, c);
-    let n = plain_length(y, d, a, b);
-    let fault = known_fault(y, d, a, b, n, row, mood);
-    let after = mood_after(n, row, mood);
-    Pass {
-        fault,
-        element: e,
-        component: c,
-        word,
-        mood: after,
+    if limit <= at {
+        return 0;
     }
+    let x = d[at];
+    if x == y.terminator {
+        return 0;
+    }
+    if x == y.element {
+        return 1;
+    }
+    2
 }
 
-// One component further: those of the tag are passed over, the first of an element ends the element before it.
-fn pass_component(
-    y: Syntax,
-    d: &[u8],
-    a: usize,
-    b: usize,
-    edition: Edition,
-    node: usize,
-    at: Pass,
-    e: usize,
-    c: usize,
-) -> Pass
-    requires { ⌜ (at .fault ≡ 0) × ElementWord (at .word) (elementOf (pagesOf edition node) (at .element)) ⌝ }
-    ensures { λ r. ⌜ Passed y (pagesOf edition node) (at .element) (at .component) (at .mood) (record { element = e; component = c; start = a; bytes = part a b (now (d .entry)) }) (r .fault) (r .element) (r .component) (r .mood) ⌝ }
-    ensures { λ r. ⌜ ElementWord (r .word) (elementOf (pagesOf edition node) (r .element)) ⌝ }
+// The pass over a part that has a byte, against the page that has a word.
+fn pass(y: Syntax, d: &[u8], start: usize, limit: usize, page: usize) -> u32
+    requires { ⌜ (start < limit) × (limit ≤ length (now d)) × NodeWord page (pageIn page) ⌝ }
+    ensures { λ r. ⌜ r ≡ pageFault y (pageIn page) (part start limit (now (d .entry))) ⌝ }
 {
-    if e == 0 {
-        return at;
+    let mut a = start;
+    let mut e = 0;
+    let mut c = 0;
+    let mut word = 0;
+    let mut mood = 3;
+    loop {
+        let p = component_from(y, d, a, limit);
+        let row = row_at(word, c);
+        let fault = known_fault(y, d, a, p.end, p.length, row, mood);
+        if 0 < fault {
+            return fault;
+        }
+        mood = mood_after(p.length, row, mood);
+        a = p.end + 1;
+        let stop = stop_at(y, d, p.end, limit);
+        if stop == 2 {
+            c += 1;
+            continue;
+        }
+        let left = ending(word, c, mood);
+        if 0 < left {
+            return left;
+        }
+        if stop == 0 {
+            return absent(page, e);
+        }
+        word = element_behind(page, e);
+        e += 1;
+        c = 0;
+        mood = opening(word);
     }
-    let word = word_of(edition, node, at, e);
-    let fault = left_fault(at, c);
-    if 0 < fault {
-        return Pass {
-            fault,
-            element: e,
-            component: c,
-            word,
-            mood: 0,
-        };
-    }
-    pass_row(y, d, a, b, word, e, c, entering(word, c, at.mood))
-}
-
-// The fault that is known where no component is left.
-fn last_fault(edition: Edition, node: usize, at: Pass) -> u32
-    requires { ⌜ ElementWord (at .word) (elementOf (pagesOf edition node) (at .element)) ⌝ }
-    ensures { λ r. ⌜ r ≡ orElse (endFault (moodOf (at .mood)) (drop (at .component + 1) (elementOf (pagesOf edition node) (at .element) .rows))) (absentFault (drop (at .element) (pagesOf edition node))) ⌝ }
-{
-    let fault = ending(at.word, at.component, at.mood);
-    if 0 < fault {
-        return fault;
-    }
-    absent(edition, node, at.element)
 }
 
 // 0, or the number of the segment's first fault against the page of a node of an edition: 18, 17, 19 or 20.
@@ -211,30 +158,10 @@ pub fn page_fault(
 ) -> u32
     ensures { λ r. ⌜ r ≡ pageFault y (pagesOf edition node) (part start end (now (d .entry))) ⌝ }
 {
-    let mut cursor = Cursor::new(d, start, end);
-    let mut at = Pass {
-        fault: 0,
-        element: 0,
-        component: 0,
-        word: 0,
-        mood: 0,
-    };
-    loop {
-        let visit = cursor.step(y, d);
-        let Visit::At {
-            element: e,
-            component: c,
-            start: a,
-            end: b,
-            next,
-        } = visit
-        else {
-            return last_fault(edition, node, at);
-        };
-        at = pass_component(y, d, a, b, edition, node, at, e, c);
-        if 0 < at.fault {
-            return at.fault;
-        }
-        cursor = next;
+    let page = node_word(edition, node);
+    let limit = limit_of(d, end);
+    if limit <= start {
+        return absent(page, 0);
     }
+    pass(y, d, start, limit, page)
 }

@@ -1,26 +1,20 @@
 // Which words of the tables belong to a component: its element's and its row's.
 use crate::words::element_word;
-use crate::words::node_word;
 use crate::words::row_word;
-use guide::Edition;
+ghost use Prim.Native.Nat.{_+_};
 ghost use mathlib.Core.Path.{_≡_};
 ghost use lib.ListN.{getD};
 ghost use Rattle.guide.specs.Page.{unused, elementOf};
-ghost use Rattle.guide.specs.Editions.{pagesOf};
-ghost use Rattle.page.specs.PageWords.{rowIn, elementIn, ElementWord};
+ghost use Rattle.page.specs.PageWords.{rowIn, elementIn, pageIn, ElementWord};
 
-// The word of element e of a node's page; 0 where the page has none.
-pub(crate) fn element_at(edition: Edition, node: usize, e: usize) -> usize
-    ensures { λ r. ⌜ ElementWord r (elementOf (pagesOf edition node) e) ⌝ }
+// The word of the element behind element e of the page that has a word; 0 where the page has none.
+pub(crate) fn element_behind(page: usize, e: usize) -> usize
+    ensures { λ r. ⌜ ElementWord r (elementOf (pageIn page) (e + 1)) ⌝ }
 {
-    if e == 0 {
+    if page / 1024 % 32 <= e {
         return 0;
     }
-    let word = node_word(edition, node);
-    if word / 1024 % 32 < e {
-        return 0;
-    }
-    element_word(word % 1024 + (e - 1))
+    element_word(page % 1024 + e)
 }
 
 // The word of row c of the element that has a word; 0 where the element has none.

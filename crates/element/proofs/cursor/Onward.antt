@@ -14,10 +14,10 @@ use Rattle.element.specs.declared.cursor.Cursor.{Cursor}
 use Rattle.element.specs.declared.cursor.Visit.the-variants.{At}
 use Rattle.element.proofs.scan.Endings.{ending-segment, ending-element, ending-left}
 use Rattle.element.proofs.Limits.{limited}
-use Rattle.element.proofs.scan.Splits.{Last}
+use Rattle.element.proofs.scan.Splits.{Last, Stop}
 use Rattle.element.proofs.cursor.Standing.{stands, standing-of, rest-standing, cursor-rest, rest-done}
 use Rattle.element.proofs.cursor.Steps.{first, rest-last, rest-element, rest-component}
-use Rattle.element.proofs.cursor.Stopping as at
+use Rattle.element.proofs.scan.Stopping.{Ended, ended}
 
 -- the component that the cursor k stands before, where it ends at the place stop
 abbrev pub here : List ℕ → Cursor → ℕ → Component
@@ -42,14 +42,20 @@ nextBy ends-nothing stop k = done
 module _ (y : Syntax) (d : List ℕ) (k : Cursor) (stop limit : ℕ) (q : Stopped y d k stop limit) where
   -- what stands from the cursor on, and after the byte that ends its component
   abbrev S : Split
-  S = at.S y d k stop limit q
+  S = splitFrom y false (part (k .place) limit d)
 
   abbrev T : Split
   T = splitFrom y false (part (stop + 1) (k .end) d)
 
+  pub stopped-at : Ended y d (k .place) limit stop
+  stopped-at =
+      let w = q .within in
+      let s = stands d k (q .stands) in
+      ended y d (k .place) limit stop (omega arith) (omega arith) (q .stops)
+
   first-here : first (k .element) (k .component) (k .place) S ≡ here d k stop
   first-here =
-      ap (λ (l : List ℕ). record { element = k .element; component = k .component; start = k .place; bytes = l }) (at.bytes-part y d k stop limit q)
+      ap (λ (l : List ℕ). record { element = k .element; component = k .component; start = k .place; bytes = l }) (stopped-at .bytes)
 
   rest-here : rest y d k ≡ restFrom (k .element) (k .component) (k .place) S
   rest-here = rw (rest-standing y d k (q .stands), limited d (k .place) (k .end) limit (q .within))
@@ -66,28 +72,31 @@ module _ (y : Syntax) (d : List ℕ) (k : Cursor) (stop limit : ℕ) (q : Stoppe
   onward-at e c he hc h l =
       let w = q .within in
       let s = standing-of d (record { element = e; component = c; place = stop + 1; end = k .end }) (record { place = omega arith; element = he; component = hc }) in
-      record { list = rest-here ∙ l ∙ rw (← at.ends-at y d k stop limit q, first-here, rest-standing y d _ s); back = cursor-rest y d _ s }
+      record { list = rest-here ∙ l ∙ rw (← stopped-at .ends, first-here, rest-standing y d _ s); back = cursor-rest y d _ s }
+
+  stopped : stop < limit → Stop y S (getD d stop 0) (part (stop + 1) (k .end) d)
+  stopped h = rw (limited d (stop + 1) (k .end) limit (q .within)) at (stopped-at .more h)
 
   ends-here : stop < limit → stays (endingOf y false (getD d stop 0)) ≡ false
-  ends-here h = at.stopped y d k stop limit q h .ends
+  ends-here h = stopped-at .more h .ends
 
   pub onward-none : limit ≤ stop → Onward y d k stop done
-  onward-none h = onward-done (at.last y d k stop limit q h)
+  onward-none h = onward-done (stopped-at .last h)
 
   pub onward-by : (g : Ending) → endingOf y false (getD d stop 0) ≡ g → stop < limit → Onward y d k stop (nextBy g stop k)
   unfolding nextBy before stays
   onward-by ends-segment e h =
-      let s = at.stopped y d k stop limit q h in
+      let s = stopped h in
       onward-done (record { components = rw e at (s .components); elements = rw e at (s .elements) })
   onward-by ends-element e h =
-      let s = at.stopped y d k stop limit q h in
-      let a = at.ends-at y d k stop limit q in
+      let s = stopped h in
+      let a = stopped-at .ends in
       let t = stands d k (q .stands) in
       onward-at (k .element + 1) 0 (omega arith) (omega arith) h
       (rest-element (k .element) (k .component) (k .place) S T (rw e at (s .components)) (rw e at (s .elements)))
   onward-by ends-component e h =
-      let s = at.stopped y d k stop limit q h in
-      let a = at.ends-at y d k stop limit q in
+      let s = stopped h in
+      let a = stopped-at .ends in
       let t = stands d k (q .stands) in
       onward-at (k .element) (k .component + 1) (omega arith) (omega arith) h
       (rest-component (k .element) (k .component) (k .place) S T (rw e at (s .components)) (rw e at (s .elements)))
@@ -114,5 +123,5 @@ module _ (y : Syntax) (d : List ℕ) (k : Cursor) (stop limit : ℕ) (q : Stoppe
       : (next : Cursor) → next ≡ cursorAt (k .end) (drop 1 (rest y d k)) → stepOf y d k ≡ At (k .element) (k .component) (k .place) stop next
   unfolding stepOf visitOf restFrom inElement
   step-at next n =
-      let z = at.ends-at y d k stop limit q in
+      let z = stopped-at .ends in
       rw (n, z, rest-here)

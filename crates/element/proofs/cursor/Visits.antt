@@ -13,8 +13,7 @@ use Rattle.element.specs.Cursors.{standing, rest, cursorAt, stepOf, Stop
 use Rattle.element.specs.declared.cursor.Cursor.{Cursor}
 use Rattle.element.specs.declared.cursor.Visit.the-variants.{At, Nothing}
 use Rattle.element.proofs.cursor.Standing.{step-none}
-use Rattle.element.proofs.cursor.Stopping.{stop-within}
-use Rattle.element.proofs.cursor.Onward.{here, Onward, onward-next, onward-none, onward-by, step-at}
+use Rattle.element.proofs.cursor.Onward.{stopped-at, here, Onward, onward-next, onward-none, onward-by, step-at}
 
 -- a step of the cursor k gave component c of element e, from the place a up to the place b, and the cursor next
 pub record Visited (y : Syntax) (d : List ℕ) (k : Cursor) (e c a b : ℕ) (next : Cursor) : Type 0 where
@@ -46,7 +45,7 @@ module _ (y : Syntax) (d : List ℕ) (k : Cursor) where
   visited-by : (b : Bool) → standing d k ≡ b → (e c from to : ℕ) (n : Cursor) → stepOf y d k ≡ At e c from to n → Visited y d k e c from to n
   visited-by true h e c from to n s =
       let q = stopped h in
-      let m = stop-within y d k stop limit q in
+      let m = stopped-at y d k stop limit q .within in
       let w = sym (step-at y d k stop limit q next refl) ∙ s in
       let pe : k .element ≡ e = cc in
       let pc : k .component ≡ c = cc in

@@ -1,13 +1,11 @@
 -- The end of a component, a byte at a time.
 use Prim.Native.Nat.{ℕ, _+_, _≤_, _<_}
-use mathlib.Core.Path.{_≡_, refl, sym}
-use mathlib.Core.Bool.{Bool, true, false, not, and-false, true≢false}
+use mathlib.Core.Path.{_≡_, refl}
+use mathlib.Core.Bool.{Bool, true, false, true≢false}
 use mathlib.Core.List.{List, [], _∷_}
 use native.Mathlib.Nat.{add-zero}
 use native.Mathlib.Omega.{arith}
 use lib.ListN.{length, getD}
-use lib.Dec.{eqb}
-use borrow.Author.Tests.{ne-eqb}
 use Rattle.cut.specs.Bytes.{part}
 use Rattle.cut.specs.Segments.{frees}
 use Rattle.cut.specs.declared.service.Syntax.{Syntax}
@@ -49,11 +47,3 @@ module _ (y : Syntax) (d : List ℕ) (e : ℕ) (r : Bool) (i : ℕ) where
       → endFrom y d e r i ≡ endFrom y d e r′ (i + 1)
   unfolding endFrom splitFrom releases before stays
   end-next r′ h k t f = rw (f, part-next d i e h k, stays-nothing (endingOf y r (getD d i 0)) t) (omega arith)
-
--- a byte that stays in the component and is not the release character
-pub end-plain
-    : (y : Syntax) (d : List ℕ) (e i : ℕ) → i < e → e ≤ length d → stays (endingOf y false (getD d i 0)) ≡ true
-    → (getD d i 0 ≡ y .release → ⊥) → endFrom y d e false i ≡ endFrom y d e false (i + 1)
-unfolding frees
-end-plain y d e i h k t n =
-    end-next y d e false i false h k t (rw (ne-eqb (getD d i 0) (y .release) n) (sym (and-false (not (eqb (getD d i 0) (y .terminator))))))

@@ -1,17 +1,13 @@
 -- `page::pages::absent` meets its contract: the elements that lack a component reach behind element e or not.
 use Rattle.page.proofs.PageMoods.{absent-some, absent-none}
-use borrow.Author.Needs.{needs}
 use Rattle.page.proofs.pages.absent.Statement.{statement}
 use Rattle.page.proofs.pages.absent.Tie as tie
 
-node-word-requires : tie.Need-node-word-requires
-node-word-requires c κs = search needs
-
 returns : tie.Need-returns
-returns c = absent-some _ _ (c .before .node-word .ensures) _ (c .if1 .taken)
+returns c = absent-some _ (c .before .pre) _ (c .if1 .taken)
 
 returns-2 : tie.Need-returns-2
-returns-2 c = absent-none _ _ (c .before .node-word .ensures) _ (c .if1 .left)
+returns-2 c = absent-none _ (c .before .pre) _ (c .if1 .left)
 
 pub absent-spec : {M : Type 1} → statement M
-absent-spec = tie.close (tie.spec node-word-requires returns returns-2)
+absent-spec = tie.close (tie.spec returns returns-2)

@@ -3,6 +3,7 @@ use mathlib.Core.Path.{sym}
 use native.Mathlib.Omega.{arith}
 use Rattle.element.proofs.cursor.Standing.{standing-of, past-end, past-element, past-component}
 use Rattle.element.proofs.cursor.Onward.{step-at}
+use Rattle.element.proofs.scan.Extents.{extent-end}
 use borrow.Author.Needs.{needs}
 use Rattle.element.proofs.cursor.Cursor.step.Statement.{statement}
 use Rattle.element.proofs.cursor.Cursor.step.Tie as tie
@@ -19,8 +20,8 @@ returns-2 c = sym (past-element _ _ _ (c .if2 .taken))
 returns-3 : tie.Need-returns-3
 returns-3 c = sym (past-component _ _ _ (c .if3 .taken))
 
-component-end-requires : tie.Need-component-end-requires
-component-end-requires c κs = search needs
+component-from-requires : tie.Need-component-from-requires
+component-from-requires c κs = search needs
 
 after-requires : tie.Need-after-requires
 after-requires c κs =
@@ -28,7 +29,7 @@ after-requires c κs =
     record {
       stands = standing-of _ _ (record { place = omega (arith, b .limit-of .ensures); element = omega arith; component = omega arith });
       within = b .limit-of .ensures;
-      stops = c .component-end .ensures;
+      stops = extent-end _ _ _ _ _ (c .component-from .ensures);
     }
 
 returns-4 : tie.Need-returns-4
@@ -42,6 +43,6 @@ step-spec =
     returns
     returns-2
     returns-3
-    component-end-requires
+    component-from-requires
     after-requires
     returns-4)
