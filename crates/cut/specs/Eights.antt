@@ -24,11 +24,12 @@ pub record Eight (w : ℕ) (x : ℕ → ℕ) : Type 0 where
   pub worth : w ≡ number 8 x
   pub bytes : (k : ℕ) → x k < 256
 
--- the high bit of a byte, where a test holds
+-- a byte's high bit, set where a test holds
 abbrev pub flag : Bool → ℕ
 flag true = 128
 flag false = 0
 
+-- the same for each of eight bytes
 unfoldable pub flags : (ℕ → Bool) → ℕ
 flags t = number 8 (λ k. flag (t k))
 
