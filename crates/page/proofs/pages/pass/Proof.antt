@@ -31,12 +31,12 @@ row-at-requires c κs = search needs
 -- where the component ends, and its length
 ended
     : (c : tie.After-component-from Inv-loop μ-loop)
-    → Ended (c .before .before .before .args .y) (c .before .before .before .args .d .now) (c .before .loop .a) (c .before .before .before .args .limit) (c .component-from .result .end)
+    → let a = c .before .before .before .args in Ended (a .y) (a .d .now) (c .before .loop .a) (a .limit) (c .component-from .result .end)
 ended c = extent-ended _ _ _ _ _ (c .component-from .ensures) (c .before .loop .inv .ahead) (c .before .before .before .pre .1)
 
 counted
     : (c : tie.After-component-from Inv-loop μ-loop)
-    → c .component-from .result .length ≡ length (decoded (c .before .before .before .args .y) (c .before .loop .a) (c .component-from .result .end) (c .before .before .before .args .d .now))
+    → let a = c .before .before .before .args in c .component-from .result .length ≡ length (decoded (a .y) (c .before .loop .a) (c .component-from .result .end) (a .d .now))
 counted c = extent-length _ _ _ _ _ (c .component-from .ensures) (c .before .loop .inv .ahead) (c .before .before .before .pre .1)
 
 known-fault-requires : tie.Need-known-fault-requires Inv-loop μ-loop
@@ -53,10 +53,9 @@ mood-after-requires c κs = search needs
 -- what is found behind the component
 behind
     : (c : tie.After-mood-after Inv-loop μ-loop)
-    → Behind (c .before .before .before .before .before .before .before .args .y) (pageIn (c .before .before .before .before .before .before .before .args .page)) (c .before .before .before .before .before .before .before .args .d .now)
-    (c .before .before .before .before .before .before .before .args .limit)
-    (pageFault (c .before .before .before .before .before .before .before .args .y) (pageIn (c .before .before .before .before .before .before .before .args .page)) (part (c .before .before .before .before .before .before .before .args .start) (c .before .before .before .before .before .before .before .args .limit) (c .before .before .before .before .before .before .before .args .d .now)))
-    (c .before .before .before .before .before .loop .a) (c .before .before .before .before .before .loop .e) (c .before .before .before .before .before .loop .c) (c .mood-after .result)
+    → let l = c .before .before .before .before .before in
+    let a = l .before .before .args in
+    Behind (a .y) (pageIn (a .page)) (a .d .now) (a .limit) (pageFault (a .y) (pageIn (a .page)) (part (a .start) (a .limit) (a .d .now))) (l .loop .a) (l .loop .e) (l .loop .c) (c .mood-after .result)
 behind c =
     let k = c .before .before in
     let f = k .before .before in
