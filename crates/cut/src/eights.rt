@@ -54,7 +54,7 @@ pub(crate) fn eight_from(d: &[u8], at: usize) -> u64
 }
 
 // The high bit of each of eight bytes that is x: no sum of two low parts reaches the next byte.
-pub(crate) fn alike(w: u64, x: u8) -> u64
+pub fn alike(w: u64, x: u8) -> u64
     ensures { λ r. ⌜ Flagged w (λ b. eqb b x) r ⌝ }
 {
     let v = w ^ 0x0101_0101_0101_0101 * (x as u64);
@@ -62,7 +62,7 @@ pub(crate) fn alike(w: u64, x: u8) -> u64
 }
 
 // The first of eight bytes that is flagged.
-pub(crate) fn first_of(m: u64) -> usize
+pub fn first_of(m: u64) -> usize
     ensures { λ r. ⌜ First m r ⌝ }
 {
     u64::trailing_zeros(m) as usize / 8

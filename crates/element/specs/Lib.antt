@@ -8,5 +8,6 @@ pub mod Text
 pub mod Words
 pub mod Clean
 pub mod Elements
+pub mod Services
 pub mod Components
 pub mod Cursors

@@ -1,5 +1,5 @@
-// Where a component ends and how many bytes it has: each byte is looked at once, up to the first that ends something, so that a walk over a segment is one
-// pass.
+// Where a component ends and how many bytes it has: the bytes are looked at up to the first that ends something and no further than its word, so that a
+// walk over a segment is one pass.
 use crate::limit::limit_of;
 use crate::plain::length_on;
 use cut::Syntax;
@@ -7,9 +7,11 @@ ghost use mathlib.Core.Path.{_≡_};
 ghost use Prim.Native.Nat.{_+_, _≤_};
 ghost use lib.ListN.{length};
 ghost use Rattle.cut.specs.Bytes.{part};
+ghost use Rattle.cut.specs.Eights.{Flagged};
 ghost use Rattle.cut.specs.Segments.{frees};
 ghost use Rattle.element.specs.Elements.{component, endingOf, stays};
 ghost use Rattle.element.specs.Components.{extentOf};
+ghost use Rattle.element.specs.Services.{isService, Service};
 
 // The place after a component's last byte, and how many bytes it has with release marks removed.
 pub struct Extent {
@@ -52,28 +54,83 @@ pub fn component_from(y: Syntax, d: &[u8], from: usize, end: usize) -> Extent
     ensures { λ r. ⌜ r ≡ extentOf y (now (d .entry)) from end ⌝ }
 {
     let limit = limit_of(d, end);
-    let mut i = from;
-    while i < limit {
-        let x = d[i];
-        if !stays_in(y, false, x) {
+    let i = next_service(y, d, from, limit);
+    if limit <= i {
+        if limit <= from {
             return Extent {
-                end: i,
-                length: i - from,
+                end: from,
+                length: 0,
             };
         }
-        if x == y.release {
-            let stop = released_end(y, d, i, limit);
-            return Extent {
-                end: stop,
-                length: length_on(y, d, i, stop, i - from),
-            };
-        }
-        i += 1;
+        return Extent {
+            end: limit,
+            length: limit - from,
+        };
+    }
+    if d[i] == y.release {
+        let stop = released_end(y, d, i, limit);
+        return Extent {
+            end: stop,
+            length: length_on(y, d, i, stop, i - from),
+        };
     }
     Extent {
         end: i,
         length: i - from,
     }
+}
+
+// The place of the first byte from `from` on that ends something or is the release character; `limit` or a place behind it, if none stands before
+// `limit`. Eight bytes are tested at once while eight stand there.
+fn next_service(y: Syntax, d: &[u8], from: usize, limit: usize) -> usize
+    requires { ⌜ limit ≤ length (now d) ⌝ }
+    ensures { λ r. ⌜ Service y (now (d .entry)) from limit r ⌝ }
+{
+    if d.len() < 8 {
+        return rest_service(y, d, from, limit);
+    }
+    let last = d.len() - 8;
+    let mut i = from;
+    while i < limit {
+        if last < i {
+            return rest_service(y, d, i, limit);
+        }
+        let m = services_in(y, cut::eight_at(d, i));
+        if m != 0 {
+            return i + cut::first_of(m);
+        }
+        i += 8;
+    }
+    i
+}
+
+// Which of eight bytes end something or are the release character.
+fn services_in(y: Syntax, w: u64) -> u64
+    ensures { λ r. ⌜ Flagged w (isService y) r ⌝ }
+{
+    cut::alike(w, y.terminator)
+        | cut::alike(w, y.element)
+        | cut::alike(w, y.component)
+        | cut::alike(w, y.release)
+}
+
+// The same as `next_service`, a byte at a time.
+fn rest_service(y: Syntax, d: &[u8], from: usize, limit: usize) -> usize
+    requires { ⌜ limit ≤ length (now d) ⌝ }
+    ensures { λ r. ⌜ Service y (now (d .entry)) from limit r ⌝ }
+{
+    let mut i = from;
+    while i < limit {
+        let x = d[i];
+        if !stays_in(y, false, x) {
+            return i;
+        }
+        if x == y.release {
+            return i;
+        }
+        i += 1;
+    }
+    i
 }
 
 // The place after the last byte of the component that begins at the place `from`, where any byte may be released.

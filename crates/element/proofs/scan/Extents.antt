@@ -1,8 +1,9 @@
 -- The component that begins at a place, a byte at a time: where it ends and how many bytes it has without release marks.
-use Prim.Native.Nat.{ℕ, _+_, _-_, _≤_, _<_, min}
+use Prim.Native.Nat.{ℕ, zero, suc, _+_, _-_, _≤_, _<_, min}
 use mathlib.Core.Path.{_≡_, sym, ap, _∙_}
 use mathlib.Core.Bool.{true, false, not, and-false}
 use mathlib.Core.List.{List, [], _∷_}
+use native.Mathlib.Nat.{add-zero}
 use native.Mathlib.Omega.{arith}
 use lib.ListN.{length, getD}
 use lib.Dec.{eqb}
@@ -15,10 +16,12 @@ use Rattle.element.specs.declared.scan.Extent.{Extent}
 use Rattle.element.specs.Elements.{endingOf, stays, releases, before, splitFrom, component}
 use Rattle.element.specs.Components.{extentOf}
 use Rattle.element.specs.Plain.{plain, decoded}
+use Rattle.element.specs.Services.{Service}
 use Rattle.element.proofs.Decoding.{plain-byte}
 use Rattle.element.proofs.Limits.{limited}
 use Rattle.element.proofs.scan.Endings.{stays-nothing}
 use Rattle.element.proofs.scan.Scanning.{first-component, bytes-none}
+use Rattle.element.proofs.scan.Services.{plain-stays, plain-no-mark, service-ends}
 use Rattle.element.proofs.scan.Stopping.{Ended, ended}
 
 no-mark : (y : Syntax) (x : ℕ) → (x ≡ y .release → ⊥) → frees y false x ≡ false
@@ -40,7 +43,7 @@ module _ (y : Syntax) (d : List ℕ) (from end limit : ℕ) where
     pub ends : i + length (left i) ≡ from + length whole
     pub counts : i - from + length (plain y false (left i)) ≡ length (plain y false whole)
 
-  pub reached-first : limit ≡ min end (length d) → Reached from
+  reached-first : limit ≡ min end (length d) → Reached from
   reached-first h =
       let p = limited d from end limit h in
       record { within = omega arith; passed = omega arith; ends = rw p; counts = rw p (omega arith) }
@@ -55,12 +58,12 @@ module _ (y : Syntax) (d : List ℕ) (from end limit : ℕ) where
         let b : i - from ≡ length (plain y false whole) = omega (arith, r .counts) in
         λ j. record { end = a j; length = b j }
 
-    pub reached-past : limit ≤ i → record { end = i; length = i - from } ≡ extentOf y d from end
+    reached-past : limit ≤ i → record { end = i; length = i - from } ≡ extentOf y d from end
     unfolding splitFrom
     reached-past h = reached-end (first-component y (part i limit d) ∙ rw (part-none d i limit h))
 
     module _ (h : i < limit) where
-      pub reached-stop : stays (endingOf y false (getD d i 0)) ≡ false → record { end = i; length = i - from } ≡ extentOf y d from end
+      reached-stop : stays (endingOf y false (getD d i 0)) ≡ false → record { end = i; length = i - from } ≡ extentOf y d from end
       unfolding splitFrom
       reached-stop f = reached-end (first-component y (part i limit d) ∙ rw (part-next d i limit h (r .within)) (bytes-none _ _ _ f))
 
@@ -73,7 +76,7 @@ module _ (y : Syntax) (d : List ℕ) (from end limit : ℕ) where
             ∙ rw (part-next d i limit h (r .within), stays-nothing (endingOf y false (getD d i 0)) t, no-mark y (getD d i 0) n)
             (ap (λ (l : List ℕ). getD d i 0 ∷ l) (sym (first-component y (part (i + 1) limit d))))
 
-        pub reached-next : Reached (i + 1)
+        reached-next : Reached (i + 1)
         reached-next =
             let l = ap length left-next in
             let p = ap (λ (b : List ℕ). length (plain y false b)) left-next ∙ ap length (plain-byte y (getD d i 0) (left (i + 1)) (no-mark y (getD d i 0) n)) in
@@ -94,6 +97,35 @@ module _ (y : Syntax) (d : List ℕ) (from end limit : ℕ) where
             let a : stop ≡ from + length whole = s ∙ r .ends in
             let m : n ≡ length (plain y false whole) = c ∙ ap (λ (l : List ℕ). i - from + length (plain y false l)) (sym b) ∙ r .counts in
             λ j. record { end = a j; length = m j }
+
+  -- where the first byte that ends something or is the release character stands at r, if one does before limit
+  module _ (lim : limit ≡ min end (length d)) (r : ℕ) (s : Service y d from limit r) where
+    reached-run : (n : ℕ) → from + n ≤ limit → from + n ≤ r → Reached (from + n)
+    reached-run zero h k = rw (add-zero from) (reached-first lim)
+    reached-run (suc n) h k =
+        let p = s .passed .none (from + n) (omega arith) (omega arith) in
+        let z : from + n + 1 ≡ from + suc n = omega arith in
+        rw z at (reached-next (from + n) (reached-run n (omega arith) (omega arith)) (omega arith) (plain-stays y _ p) (plain-no-mark y _ p))
+
+    reached-at : (i : ℕ) → from ≤ i → i ≤ limit → i ≤ r → Reached i
+    reached-at i a h k =
+        let z : from + (i - from) ≡ i = omega arith in
+        rw z at (reached-run (i - from) (omega arith) (omega arith))
+
+    pub extent-empty : limit ≤ from → record { end = from; length = 0 } ≡ extentOf y d from end
+    extent-empty h =
+        let z : from - from ≡ 0 = omega arith in
+        rw z at (reached-past from (reached-first lim) h)
+
+    pub extent-whole : from < limit → limit ≤ r → record { end = limit; length = limit - from } ≡ extentOf y d from end
+    extent-whole a h = reached-past limit (reached-at limit (omega arith) (omega arith) h) (omega arith)
+
+    module _ (h : r < limit) where
+      pub reached-service : Reached r
+      reached-service = reached-at r (s .passed .onward) (omega arith) (omega arith)
+
+      pub extent-stop : (getD d r 0 ≡ y .release → ⊥) → record { end = r; length = r - from } ≡ extentOf y d from end
+      extent-stop n = reached-stop r reached-service h (service-ends y _ (s .here h) n)
 
 -- what the answer says of the component that begins at the place a
 module _ (y : Syntax) (d : List ℕ) (a e : ℕ) (r : Extent) (h : r ≡ extentOf y d a e) where
