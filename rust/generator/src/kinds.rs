@@ -31,6 +31,8 @@ fn one_message(random: &mut Random, name: &str) -> Vec<u8> {
     let positions = match name {
         "many" => random.below(3),
         _ if random.once_in(10) => random.below(6),
+        // Long ones stand four or five to 128 KiB, and how much of those lies before a fault is chance.
+        "damaged" => random.between(5, 90),
         _ => random.between(50, 900),
     };
     let shape = Shape { edition: Edition::any(random), positions, releases: 0, is_rich: false, is_z04: name == "z04" };
