@@ -11,8 +11,19 @@ use lib.Bits.{bitAnd, bitOr, bitXor, and-block, or-block, xor-block, and-lt, or-
 use lib.Count.{trailingZeros}
 use borrow.Author.Tests.{le-leb, lt-leb, eq-eqb, ne-eqb, eqb-true, eqb-false}
 use Rattle.cut.specs.Every.{every}
-use Rattle.cut.specs.Eights.{number, onFrom, eightAt, Eight, flag, flags, FirstOf, First}
+use Rattle.cut.specs.Eights.{number, onFrom, eightAt, byteOf, flag, flags, Flagged, firstByte}
 use Rattle.cut.proofs.Every.{every-at}
+
+-- w is the number of eight bytes, x
+pub record Eight (w : ℕ) (x : ℕ → ℕ) : Type 0 where
+  pub worth : w ≡ number 8 x
+  pub bytes : (k : ℕ) → x k < 256
+
+-- the place j is the first of n where the test holds
+pub record FirstOf (n : ℕ) (t : ℕ → Bool) (j : ℕ) : Type 0 where
+  pub within : j < n
+  pub passes : t j ≡ true
+  pub before : (k : ℕ) → k < j → t k ≡ false
 
 -- ---- rows of digits
 
@@ -41,14 +52,47 @@ unfolding number
 number-add zero x y = refl
 number-add (suc n) x y = omega (arith, number-add n (λ k. x (suc k)) (λ k. y (suc k)))
 
+number-byte : (n : ℕ) (x : ℕ → ℕ) → ((k : ℕ) → x k < 256) → (k : ℕ) → k < n → byteOf (number n x) k ≡ x k
+unfolding number byteOf
+number-byte zero x h k l = absurd (omega arith)
+number-byte (suc n) x h zero l = omega (arith, h 0)
+number-byte (suc n) x h (suc k) l =
+    let z : (number n (λ k. x (suc k)) * 256 + x 0) / 256 ≡ number n (λ k. x (suc k)) = omega (arith, h 0) in
+    rw z (number-byte n (λ k. x (suc k)) (λ k. h (suc k)) k (omega arith))
+
 -- equal numbers have equal digits
 number-same
     : (n : ℕ) (x y : ℕ → ℕ) → ((k : ℕ) → x k < 256) → ((k : ℕ) → y k < 256) → number n x ≡ number n y → (k : ℕ) → k < n → x k ≡ y k
+number-same n x y h l e k b = sym (number-byte n x h k b) ∙ ap (λ (w : ℕ). byteOf w k) e ∙ number-byte n y l k b
+
+-- the number of the same digits
+number-like : (n : ℕ) (x y : ℕ → ℕ) → ((k : ℕ) → k < n → x k ≡ y k) → number n x ≡ number n y
 unfolding number
-number-same zero x y h l e k b = absurd (omega arith)
-number-same (suc n) x y h l e zero b = omega (arith, h 0, l 0)
-number-same (suc n) x y h l e (suc k) b =
-    number-same n (λ k. x (suc k)) (λ k. y (suc k)) (λ k. h (suc k)) (λ k. l (suc k)) (omega (arith, h 0, l 0)) k (omega arith)
+number-like zero x y h = refl
+number-like (suc n) x y h =
+    rw (h 0 (omega arith), number-like n (λ k. x (suc k)) (λ k. y (suc k)) (λ k l. h (suc k) (omega arith)))
+
+byte-fits : (w k : ℕ) → byteOf w k < 256
+unfolding byteOf
+byte-fits w zero = omega arith
+byte-fits w (suc k) = byte-fits (w / 256) k
+
+-- how many numbers have n digits
+room : ℕ → ℕ
+room zero = 1
+room (suc n) = room n * 256
+
+number-bytes : (n w : ℕ) → w < room n → number n (byteOf w) ≡ w
+unfolding number byteOf room
+number-bytes zero w h = omega arith
+number-bytes (suc n) w h =
+    let r = number-bytes n (w / 256) (omega arith) in
+    omega arith
+
+-- each number of 64 bits is one of eight bytes
+pub eight-word : (w : ℕ) → w < 2 ^ 64 → Eight w (byteOf w)
+unfolding room
+eight-word w h = record { worth = sym (number-bytes 8 w h); bytes = byte-fits w }
 
 -- ---- operations on eight bytes
 
@@ -131,6 +175,17 @@ flags-none t e = flags-same t (λ k. false) e
 pub flags-all : (t : ℕ → Bool) → flags t ≡ 0x8080_8080_8080_8080 → (k : ℕ) → k < 8 → t k ≡ true
 unfolding flags number
 flags-all t e = flags-same t (λ k. true) e
+
+-- a test of the eight bytes that stand in a delivery from a place on
+pub flagged-there
+    : (d : List ℕ) (i w : ℕ) (test : ℕ → Bool) (m : ℕ) → i + 8 ≤ length d → ((k : ℕ) → getD d k 0 < 256) → w ≡ eightAt d i → Flagged w test m
+    → m ≡ flags (λ k. test (onFrom d i k))
+unfolding flags
+flagged-there d i w test m h b e f =
+    let p = eight-there d i h b in
+    f
+    ∙ number-like 8 (λ k. flag (test (byteOf w k))) (λ k. flag (test (onFrom d i k)))
+    (λ k l. ap (λ (x : ℕ). flag (test x)) (ap (λ (v : ℕ). byteOf v k) (e ∙ p .worth) ∙ number-byte 8 (onFrom d i) (p .bytes) k l))
 
 -- ---- bytes that are alike
 
@@ -228,6 +283,6 @@ first-flag (suc n) t h = rw (suc-mul n 8, add-comm (n * 8) 8) (go (t 0) refl (fi
         let z : (8 + trailingZeros (n * 8) a) / 8 ≡ suc (trailingZeros (n * 8) a / 8) = omega arith in
         rw (trailing-none (n * 8) a, z) (first-later n t _ e r)
 
-pub first-of : (m : ℕ) → First m (trailingZeros 64 m / 8)
-unfolding flags
-first-of m t e h = rw e (first-flag 8 t (λ z. h (e ∙ z)))
+pub first-of : (t : ℕ → Bool) (m j : ℕ) → m ≡ flags t → (m ≡ 0 → ⊥) → j ≡ firstByte m → FirstOf 8 t j
+unfolding flags firstByte
+first-of t m j e h q = rw (q, e) (first-flag 8 t (λ z. h (e ∙ z)))

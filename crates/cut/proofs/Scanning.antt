@@ -15,9 +15,9 @@ use Rattle.cut.specs.declared.scan.Cut.{Cut}
 use Rattle.cut.specs.declared.scan.Cut.the-variants as cut
 use Rattle.cut.specs.Segments.{Segment, ends, frees, join, segmentsFrom}
 use Rattle.cut.specs.Calls.{headCut, cutFrom}
-use Rattle.cut.specs.Eights.{onFrom, flags, First}
+use Rattle.cut.specs.Eights.{onFrom, flags}
 use Rattle.cut.specs.Workers.{openCut, isMark, Onward, Marked}
-use Rattle.cut.proofs.Bytewise.{flags-none}
+use Rattle.cut.proofs.Bytewise.{FirstOf, flags-none}
 
 open-more : (at i x : ℕ) (ss : List Segment) → openCut at i (join false i x ss) ≡ openCut at (i + 1) ss
 unfolding openCut join
@@ -137,9 +137,8 @@ module _ (y : Syntax) (d : List ℕ) where
     pub eight-passed : m ≡ 0 → Onward y d i false (j + 8)
     eight-passed z = onward-run i j 8 q h (flags-none (λ k. isMark y (onFrom d j k)) (sym e ∙ z))
 
-    pub eight-marked : (f : ℕ) → First m f → (m ≡ 0 → ⊥) → Marked y d i (j + f)
-    eight-marked f r n =
-        let p = r (λ k. isMark y (onFrom d j k)) e n in
+    pub eight-marked : (f : ℕ) → FirstOf 8 (λ k. isMark y (onFrom d j k)) f → Marked y d i (j + f)
+    eight-marked f p =
         marked-at i (j + f) (onward-run i j f q (omega (arith, p .within)) (p .before)) (p .passes)
 
   -- the answer for the open segment, at the next mark and past a release mark there

@@ -1,10 +1,11 @@
 -- Eight bytes as one number, so that all eight are tested at once.
-use Prim.Native.Nat.{ℕ, zero, suc, _+_, _*_, _<_}
+use Prim.Native.Nat.{ℕ, zero, suc, _+_, _*_, _/_, _%_}
 use mathlib.Core.Path.{_≡_}
 use mathlib.Core.Bool.{Bool, true, false, cond}
 use mathlib.Core.List.{List}
 use lib.ListN.{length, getD}
 use lib.Dec.{leb}
+use lib.Count.{trailingZeros}
 
 -- the first n of a row of digits to the base 256 as one number, the first the lowest
 unfoldable pub number : ℕ → (ℕ → ℕ) → ℕ
@@ -19,10 +20,10 @@ onFrom d i k = getD d (i + k) 0
 unfoldable pub eightAt : List ℕ → ℕ → ℕ
 eightAt d i = cond (leb (i + 8) (length d)) (number 8 (onFrom d i)) 0
 
--- w is the number of eight bytes, x
-pub record Eight (w : ℕ) (x : ℕ → ℕ) : Type 0 where
-  pub worth : w ≡ number 8 x
-  pub bytes : (k : ℕ) → x k < 256
+-- byte k of such a number
+unfoldable pub byteOf : ℕ → ℕ → ℕ
+byteOf w zero = w % 256
+byteOf w (suc k) = byteOf (w / 256) k
 
 -- a byte's high bit, set where a test holds
 abbrev pub flag : Bool → ℕ
@@ -35,14 +36,8 @@ flags t = number 8 (λ k. flag (t k))
 
 -- m flags those of the eight bytes of w that pass the test
 abbrev pub Flagged : ℕ → (ℕ → Bool) → ℕ → Type 0
-Flagged w test m = (x : ℕ → ℕ) → Eight w x → m ≡ flags (λ k. test (x k))
+Flagged w test m = m ≡ flags (λ k. test (byteOf w k))
 
--- the place j is the first of n where the test holds
-pub record FirstOf (n : ℕ) (t : ℕ → Bool) (j : ℕ) : Type 0 where
-  pub within : j < n
-  pub passes : t j ≡ true
-  pub before : (k : ℕ) → k < j → t k ≡ false
-
--- j is the place of the first flag in m
-abbrev pub First : ℕ → ℕ → Type 0
-First m j = (t : ℕ → Bool) → m ≡ flags t → (m ≡ 0 → ⊥) → FirstOf 8 t j
+-- the first of the eight bytes of m that is not 0; 8, if there is none
+unfoldable pub firstByte : ℕ → ℕ
+firstByte m = trailingZeros 64 m / 8

@@ -3,7 +3,7 @@ ghost use mathlib.Core.Path.{_≡_};
 ghost use Prim.Native.Nat.{_+_, _*_, _≤_};
 ghost use lib.ListN.{length};
 ghost use lib.Dec.{eqb};
-ghost use Rattle.cut.specs.Eights.{eightAt, Flagged, First};
+ghost use Rattle.cut.specs.Eights.{eightAt, Flagged, firstByte};
 
 const LOW: u64 = 0x7f7f_7f7f_7f7f_7f7f;
 
@@ -61,9 +61,9 @@ pub fn alike(w: u64, x: u8) -> u64
     (((v & LOW) + LOW | v) & HIGH) ^ HIGH
 }
 
-// The first of eight bytes that is flagged.
+// The first of eight bytes that is not 0, as the first of those that are flagged; 8, if there is none.
 pub fn first_of(m: u64) -> usize
-    ensures { λ r. ⌜ First m r ⌝ }
+    ensures { λ r. ⌜ r ≡ firstByte m ⌝ }
 {
     u64::trailing_zeros(m) as usize / 8
 }

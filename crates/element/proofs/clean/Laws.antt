@@ -11,10 +11,10 @@ use lib.Dec.{eqb, leb, eqb→eq}
 use lib.Bits.{bitAnd, bitOr, bitXor, and-le-r}
 use Rattle.cut.specs.Bytes.{part}
 use Rattle.cut.specs.Every.{every}
-use Rattle.cut.specs.Eights.{onFrom, eightAt, Eight, flag, flags, Flagged}
+use Rattle.cut.specs.Eights.{onFrom, eightAt, flag, flags, Flagged}
 use Rattle.cut.specs.declared.service.Syntax.{Syntax}
 use Rattle.cut.proofs.Every.{every-at}
-use Rattle.cut.proofs.Bytewise.{eight-and, eight-or, eight-xor, eight-add, eight-each, eight-there, low, high, flags-of, flags-all}
+use Rattle.cut.proofs.Bytewise.{Eight, eight-and, eight-or, eight-xor, eight-add, eight-each, low, high, flags-of, flags-all, flagged-there}
 use Rattle.cut.proofs.Parts.{part-none, part-next, length-part}
 use Rattle.element.proofs.Limits.{limited}
 use Rattle.element.specs.Clean.{between, allowedByte, allowedBytes, capital, endsTag, lettered, taggedBytes}
@@ -100,7 +100,7 @@ module _ (d : List ℕ) (e : ℕ) (h : e ≤ length d) where
       : (i w m : ℕ) → i + 8 ≤ length d → ((k : ℕ) → getD d k 0 < 256) → w ≡ eightAt d i → Flagged w allowedByte m → m ≡ 0x8080_8080_8080_8080
       → allowedBytes (part i e d) ≡ allowedBytes (part (i + 8) e d)
   eight-allowed i w m l b r f all =
-      allowed-run i 8 (flags-all (λ k. allowedByte (onFrom d i k)) (sym (f (onFrom d i) (rw r (eight-there d i l b))) ∙ all))
+      allowed-run i 8 (flags-all (λ k. allowedByte (onFrom d i k)) (sym (flagged-there d i w allowedByte m l b r f) ∙ all))
 
 module _ (y : Syntax) (x : ℕ) where
   pub ends-element : x ≡ y .element → true ≡ endsTag y x

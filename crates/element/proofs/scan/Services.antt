@@ -1,16 +1,16 @@
 -- The bytes that end something or release the next one, a byte at a time and eight at once.
 use Prim.Native.Nat.{ℕ, _+_, _-_, _≤_, _<_}
-use mathlib.Core.Path.{_≡_, refl, sym, ap, ap₂, _∙_}
+use mathlib.Core.Path.{_≡_, refl, sym, ap, _∙_}
 use mathlib.Core.Bool.{Bool, true, false, cond, not, _||_, true≢false, false≢true}
 use mathlib.Core.List.{List}
 use native.Mathlib.Omega.{arith}
-use borrow.Author.Tests.{eq-eqb, ne-eqb, eqb-true, eqb-false, leb-true, leb-false}
-use lib.ListN.{length, getD}
+use borrow.Author.Tests.{eq-eqb, ne-eqb, eqb-false, leb-true, leb-false}
+use lib.ListN.{getD}
 use lib.Dec.{eqb, leb}
 use lib.Bits.{bitOr}
-use Rattle.cut.specs.Eights.{onFrom, eightAt, flags, Flagged, FirstOf, First}
+use Rattle.cut.specs.Eights.{onFrom, flags}
 use Rattle.cut.specs.declared.service.Syntax.{Syntax}
-use Rattle.cut.proofs.Bytewise.{eight-there, flags-none, flags-or}
+use Rattle.cut.proofs.Bytewise.{FirstOf, flags-none, flags-or}
 use Rattle.element.specs.Elements.{ends-segment, ends-element, ends-component, ends-nothing, endingOf, stays}
 use Rattle.element.specs.Services.{isService, Passed, Service}
 
@@ -116,12 +116,11 @@ module _ (y : Syntax) (d : List ℕ) where
             rw z at (t (k - i) (omega arith))
 
     pub passed-next : isService y (getD d i 0) ≡ false → Passed y d from (i + 1)
-    passed-next s = passed-on (i + 1) (record { onward = omega arith; none = go })
-      where
-        go : (k : ℕ) → i ≤ k → k < i + 1 → isService y (getD d k 0) ≡ false
-        go k a l =
-            let z : k ≡ i = omega arith in
-            rw z s
+    passed-next s =
+        passed-run 1
+        (λ k l.
+        let z : i + k ≡ i = omega arith in
+        rw z s)
 
     -- eight bytes, flagged in m
     module _ (m : ℕ) (f : m ≡ flags (λ k. isService y (onFrom d i k))) where

@@ -1,7 +1,7 @@
 -- `cut::eights::alike` meets its contract, by the law of each byte apart.
 use borrow.Author.Needs.{needs}
 use native.Mathlib.Omega.{arith}
-use Rattle.cut.proofs.Bytewise.{alike-fits, alike-flags}
+use Rattle.cut.proofs.Bytewise.{eight-word, alike-fits, alike-flags}
 use Rattle.cut.proofs.eights.alike.Statement.{statement}
 use Rattle.cut.proofs.eights.alike.Tie as tie
 
@@ -12,7 +12,7 @@ add-result : tie.Need-add-result
 add-result c = record { fits = alike-fits (c .args .w) (c .args .x) }
 
 returns : tie.Need-returns
-returns c = λ x p. alike-flags (c .args .w) (c .args .x) x (omega arith) p
+returns c = alike-flags (c .args .w) (c .args .x) _ (omega arith) (eight-word (c .args .w) (omega arith))
 
 pub alike-spec : {M : Type 1} → statement M
 alike-spec = tie.close (tie.spec mul-v add-result returns)

@@ -1,7 +1,8 @@
--- `cut::eights::first_of` meets its contract: a flagged byte has seven clear bits below its flag, any other has eight.
+-- `cut::eights::first_of` meets its contract: eight clear bits are a byte that is 0.
 use native.Mathlib.Omega.{arith}
 use lib.Count.{trailing-le}
-use Rattle.cut.proofs.Bytewise.{first-of}
+use mathlib.Core.Path.{refl}
+use Rattle.cut.specs.Eights.{firstByte}
 use Rattle.cut.proofs.eights.first_of.Statement.{statement}
 use Rattle.cut.proofs.eights.first_of.Tie as tie
 
@@ -9,7 +10,8 @@ cast-result : tie.Need-cast-result
 cast-result c = record { fits = omega (arith, trailing-le 64 (c .args .m)) }
 
 returns : tie.Need-returns
-returns c = first-of (c .args .m)
+unfolding firstByte
+returns c = refl
 
 pub first-of-spec : {M : Type 1} → statement M
 first-of-spec = tie.close (tie.spec cast-result returns)

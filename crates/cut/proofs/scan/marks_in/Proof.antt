@@ -13,7 +13,7 @@ alike-requires-2 c κs = search needs
 
 returns : tie.Need-returns
 unfolding isMark
-returns c = λ x p. rw (c .before .alike .ensures x p, c .alike2 .ensures x p) (flags-or _ _)
+returns c = rw (c .before .alike .ensures, c .alike2 .ensures) (flags-or _ _)
 
 pub marks-in-spec : {M : Type 1} → statement M
 marks-in-spec = tie.close (tie.spec alike-requires alike-requires-2 returns)

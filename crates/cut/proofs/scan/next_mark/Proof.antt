@@ -7,7 +7,7 @@ use borrow.Author.Needs.{needs}
 use lib.ListN.{length}
 use Rattle.cut.specs.Eights.{onFrom, flags}
 use Rattle.cut.specs.Workers.{isMark, Onward}
-use Rattle.cut.proofs.Bytewise.{eight-there}
+use Rattle.cut.proofs.Bytewise.{flagged-there, first-of}
 use Rattle.cut.proofs.Scanning.{onward-none, onward-marked, eight-passed, eight-marked}
 use Rattle.cut.proofs.scan.next_mark.Statement.{statement}
 use Rattle.cut.proofs.scan.next_mark.Tie as tie
@@ -37,21 +37,21 @@ flagged
     c .marks-in .result ≡ flags (λ k. isMark (known .before .args .y) (onFrom (known .before .args .d .now) (c .before .before .before .loop .i) k))
 flagged c =
     let known = c .before .before .before .before in
-    let bytes = eight-there (known .before .args .d .now) (c .before .before .before .loop .i) (omega arith) (λ k. omega (arith, known .shared-slice-known .given k)) in
-    c .marks-in .ensures _ (rw (c .before .eight-from .ensures) bytes)
+    flagged-there (known .before .args .d .now) (c .before .before .before .loop .i) _ (isMark (known .before .args .y)) _ (omega arith) (λ k. omega (arith, known .shared-slice-known .given k))
+    (c .before .eight-from .ensures) (c .marks-in .ensures)
 
 first-of-requires : tie.Need-first-of-requires Inv-loop μ-loop
 first-of-requires c κs = search needs
 
 add-result : tie.Need-add-result Inv-loop μ-loop
 add-result c =
-    let f = c .first-of .ensures _ (flagged (c .before .before)) (c .before .if1 .taken) in
+    let f = first-of _ _ _ (flagged (c .before .before)) (c .before .if1 .taken) (c .first-of .ensures) in
     omega (arith, f .within)
 
 returns : tie.Need-returns Inv-loop μ-loop
 returns c =
     let b = c .before .before in
-    eight-marked _ _ _ _ _ (b .before .before .before .loop .inv) (omega arith) (flagged b) _ (c .first-of .ensures) (c .before .if1 .taken)
+    eight-marked _ _ _ _ _ (b .before .before .before .loop .inv) (omega arith) (flagged b) _ (first-of _ _ _ (flagged b) (c .before .if1 .taken) (c .first-of .ensures))
 
 add-i : tie.Need-add-i Inv-loop μ-loop
 add-i c = search needs

@@ -1,6 +1,7 @@
 -- `element::clean::allowed_in` meets its contract, by the law of each byte apart. Assumes nothing.
 use native.Mathlib.Omega.{arith}
 use lib.Bits.{and-le-r}
+use Rattle.cut.proofs.Bytewise.{eight-word}
 use Rattle.element.proofs.clean.Laws.{allowed-flags}
 use Rattle.element.proofs.clean.allowed_in.Statement.{statement}
 use Rattle.element.proofs.clean.allowed_in.Tie as tie
@@ -12,7 +13,7 @@ add-delete : tie.Need-add-delete
 add-delete c = record { fits = omega (arith, and-le-r (c .args .w) 0x7f7f_7f7f_7f7f_7f7f) }
 
 returns : tie.Need-returns
-returns c = allowed-flags (c .args .w)
+returns c = allowed-flags (c .args .w) _ (eight-word (c .args .w) (omega arith))
 
 pub allowed-in-spec : {M : Type 1} → statement M
 allowed-in-spec = tie.close (tie.spec add-text add-delete returns)

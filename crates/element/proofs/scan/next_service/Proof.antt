@@ -4,7 +4,7 @@ use mathlib.Core.Path.{_≡_}
 use native.Mathlib.Omega.{arith}
 use borrow.Author.Needs.{needs}
 use Rattle.cut.specs.Eights.{onFrom, flags}
-use Rattle.cut.proofs.Bytewise.{eight-there}
+use Rattle.cut.proofs.Bytewise.{flagged-there, first-of}
 use Rattle.element.specs.Services.{isService, Passed}
 use Rattle.element.proofs.scan.Services.{passed-none, passed-eight, service-on, service-past, service-eight}
 use Rattle.element.proofs.scan.next_service.Statement.{statement}
@@ -49,21 +49,22 @@ flagged
 flagged c =
     let l = c .before .before .before .before in
     let known = l .before .before in
-    let bytes = eight-there (known .before .args .d .now) (l .loop .i) (omega arith) (λ k. omega (arith, known .shared-slice-known .given k)) in
-    c .services-in .ensures _ (rw (c .before .eight-at .ensures) bytes)
+    flagged-there (known .before .args .d .now) (l .loop .i) _ (isService (known .before .args .y)) _ (omega arith)
+    (λ k. omega (arith, known .shared-slice-known .given k)) (c .before .eight-at .ensures) (c .services-in .ensures)
 
 first-of-requires : tie.Need-first-of-requires Inv-loop μ-loop
 first-of-requires c κs = search needs
 
 add-result : tie.Need-add-result Inv-loop μ-loop
 add-result c =
-    let f = c .first-of .ensures _ (flagged (c .before .before)) (c .before .if3 .taken) in
+    let f = first-of _ _ _ (flagged (c .before .before)) (c .before .if3 .taken) (c .first-of .ensures) in
     omega (arith, f .within)
 
 returns-3 : tie.Need-returns-3 Inv-loop μ-loop
 returns-3 c =
     let b = c .before .before in
-    service-eight _ _ _ _ (b .before .before .before .before .loop .inv) _ (flagged b) _ _ (c .first-of .ensures _ (flagged b) (c .before .if3 .taken))
+    service-eight _ _ _ _ (b .before .before .before .before .loop .inv) _ (flagged b) _ _
+    (first-of _ _ _ (flagged b) (c .before .if3 .taken) (c .first-of .ensures))
 
 add-i : tie.Need-add-i Inv-loop μ-loop
 add-i c = search needs

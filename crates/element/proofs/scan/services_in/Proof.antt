@@ -19,7 +19,7 @@ alike-requires-4 c κs = search needs
 returns : tie.Need-returns
 returns c =
     let b = c .before .before in
-    λ x p. rw (b .before .alike .ensures x p, b .alike2 .ensures x p, c .before .alike3 .ensures x p, c .alike4 .ensures x p) (service-flags _ x)
+    rw (b .before .alike .ensures, b .alike2 .ensures, c .before .alike3 .ensures, c .alike4 .ensures) (service-flags _ _)
 
 pub services-in-spec : {M : Type 1} → statement M
 services-in-spec =
