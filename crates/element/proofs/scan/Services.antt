@@ -23,9 +23,13 @@ one-of false true c = refl
 one-of false false true = refl
 one-of false false false = refl
 
+neither : (b r : Bool) → not b || r ≡ false → (b ≡ true) × (r ≡ false)
+neither true r h = (refl, h)
+neither false r h = absurd (true≢false h)
+
 module _ (y : Syntax) (x : ℕ) where
   -- the four tests of it
-  pub service-tests : ((eqb x (y .terminator) || eqb x (y .element)) || eqb x (y .component)) || eqb x (y .release) ≡ isService y x
+  service-tests : ((eqb x (y .terminator) || eqb x (y .element)) || eqb x (y .component)) || eqb x (y .release) ≡ isService y x
   unfolding isService endingOf
   service-tests = ap (λ (b : Bool). b || eqb x (y .release)) (one-of (eqb x (y .terminator)) (eqb x (y .element)) (eqb x (y .component)))
 
@@ -51,17 +55,13 @@ module _ (y : Syntax) (x : ℕ) where
       go false h = refl
 
   module _ (p : isService y x ≡ false) where
-    plain-both : (b r : Bool) → not b || r ≡ false → (b ≡ true) × (r ≡ false)
-    plain-both true r h = (refl, h)
-    plain-both false r h = absurd (true≢false h)
-
     pub plain-stays : stays (endingOf y false x) ≡ true
     unfolding isService
-    plain-stays = plain-both _ _ p .0
+    plain-stays = neither _ _ p .0
 
     pub plain-no-mark : x ≡ y .release → ⊥
     unfolding isService
-    plain-no-mark = eqb-false x (y .release) (plain-both (stays (endingOf y false x)) (eqb x (y .release)) p .1)
+    plain-no-mark = eqb-false x (y .release) (neither (stays (endingOf y false x)) (eqb x (y .release)) p .1)
 
 -- ---- eight bytes
 
