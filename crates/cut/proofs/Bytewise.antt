@@ -1,6 +1,6 @@
 -- Operations on eight bytes at once work on each byte apart, so that a fact about one byte, computed for each of the 256, is one about all eight.
 use Prim.Native.Nat.{ℕ, zero, suc, _+_, _*_, _/_, _%_, _^_, _≤_, _<_}
-use mathlib.Core.Path.{_≡_, refl, ap, _∙_}
+use mathlib.Core.Path.{_≡_, refl, sym, ap, _∙_}
 use mathlib.Core.Bool.{Bool, true, false, _||_}
 use mathlib.Core.List.{List}
 use native.Mathlib.Nat.{suc-add, suc-mul, add-comm}

@@ -18,20 +18,29 @@ pub use yardstick::terminators;
 
 /// The two sizes that are timed.
 const SIZES: [usize; 2] = [131_072, 1_048_576];
+/// Those between, which show how rule 23 grows on `dense`.
+const BETWEEN: [usize; 2] = [262_144, 524_288];
 
 /// Each kind at each size: the yardstick, then of every library survey and counting segments as multiples of it, and the
 /// way through all messages and prices as a multiple of that library's survey.
 pub fn run(libraries: &[&'static (dyn Library + Sync)], for_each: Duration) {
     for size in SIZES {
         for name in KINDS {
-            let d = kind(name, size, 7);
-            println!("{}", describe(name, &d, libraries[0]));
-            times(&d, libraries, for_each);
+            one_kind(name, size, libraries, for_each);
         }
+    }
+    for size in BETWEEN {
+        one_kind("dense", size, libraries, for_each);
     }
     for name in KINDS {
         stacks(name, libraries);
     }
+}
+
+fn one_kind(name: &str, size: usize, libraries: &[&'static (dyn Library + Sync)], for_each: Duration) {
+    let d = kind(name, size, 7);
+    println!("{}", describe(name, &d, libraries[0]));
+    times(&d, libraries, for_each);
 }
 
 fn describe(name: &str, d: &[u8], library: &dyn Library) -> String {
