@@ -33,5 +33,6 @@ pub use prices::Number;
 pub use prices::number_of;
 pub use scan::Extent;
 pub use scan::component_from;
+pub use scan::services_in;
 pub use text::decimal_text;
 pub use words::word_of;
