@@ -6,3 +6,4 @@ pub mod KeyCodes
 pub mod PageFaults
 pub mod PageMoods
 pub mod PageSteps
+pub mod PageResults

@@ -2,3 +2,4 @@ pub mod PageColumns
 pub mod PageWords
 pub mod PageKeys
 pub mod PageWalk
+pub mod Examined

@@ -148,7 +148,7 @@ fn pass(y: Syntax, d: &[u8], start: usize, limit: usize, page: usize) -> u32
 }
 
 // 0, or the number of the segment's first fault against the page of a node of an edition: 18, 17, 19 or 20.
-pub fn page_fault(
+pub(crate) fn page_fault(
     y: Syntax,
     edition: Edition,
     node: usize,
