@@ -1,7 +1,7 @@
 -- The pass over a message's segments: what is left to judge gives the verdict of the whole.
-use Prim.Native.Nat.{ℕ, zero, suc, _+_, _-_, _≤_, _<_}
+use Prim.Native.Nat.{ℕ, zero, suc, _+_, _-_, _≤_}
 use mathlib.Core.Path.{_≡_, refl, sym, _∙_, ap, ap₂}
-use mathlib.Core.Bool.{Bool, true, false, _&&_, _||_}
+use mathlib.Core.Bool.{Bool, true, false, _||_}
 use mathlib.Core.List.{List, [], _∷_, map}
 use native.Mathlib.Omega.{arith}
 use lib.ListN.{length, replicate}
@@ -13,31 +13,29 @@ use Rattle.cut.specs.Messages.{lastEnd}
 use Rattle.cut.proofs.First.{Cutting}
 use Rattle.cut.proofs.Holding.{held-alone}
 use Rattle.cut.proofs.Parts.{length-part}
-use Rattle.element.specs.Plain.{same}
-use Rattle.element.specs.declared.components.Span.{Span}
 use Rattle.element.proofs.ValueFace.{decoded-none}
 use Rattle.guide.specs.Accepted.{seen}
 use Rattle.guide.specs.Answers.{Answer, placed, refused}
-use Rattle.guide.specs.Content.{text}
-use Rattle.guide.specs.Judging.{Memory, Verdict, accepts, refuses, pickVerdict, fresh, bytesFault, contentFault, unlessFault, thenContent, thenPlace, segmentAnswer, remember, decide, judgeFrom}
-use Rattle.guide.specs.Placing.{after, countsAfter, lastAfter, place, give, given}
+use Rattle.guide.specs.Judging.{Memory, accepts, refuses, pickVerdict, fresh, bytesFault, contentFault, unlessFault, thenContent, thenPlace, segmentAnswer, remember, decide, judgeFrom}
+use Rattle.guide.specs.Placing.{countsAfter, lastAfter, place, given}
 use Rattle.guide.specs.Nodes.{numberOf}
 use Rattle.guide.specs.Editions.{guideOf, pagesOf}
 use Rattle.guide.specs.declared.edition.Edition.{Edition}
 use Rattle.guide.specs.Sheet.{isTag}
 use Rattle.guide.specs.Tree.{one}
 use Rattle.guide.specs.Views.{viewOf}
-use Rattle.judge.specs.Answers.{answerOf}
-use Rattle.judge.specs.declared.placing.Placed.{Placed}
-use Rattle.judge.specs.declared.placing.Placed.the-variants as told
-use Rattle.judge.proofs.Face.{answer-at, answer-refused}
 use Rattle.verdict.specs.declared.answers.Judged.{Judged}
 use Rattle.verdict.specs.declared.answers.Verdict.{Verdict as Told}
 use Rattle.verdict.specs.declared.answers.Verdict.the-variants.{Refused}
 use Rattle.verdict.specs.declared.kept.Kept.{Kept}
+use Rattle.verdict.specs.declared.segment.Answered.{Answered}
+use Rattle.verdict.specs.declared.segment.Answered.the-variants as outcome
+use Rattle.verdict.specs.declared.segment.Found.{Found}
 use Rattle.verdict.specs.Answers.{declared, judgedAs}
 use Rattle.verdict.specs.Verdicts.{nodesOf, forIntervals, settled, verdictFrom}
-use Rattle.verdict.specs.Workers.{segmentIn, spanned, noted, KeptAfter, countsLeft, agreementAt, endedWith}
+use Rattle.verdict.specs.Workers.{segmentIn, spanned, noted, foundAt, answered, keptAfter, countsLeft, agreementAt, endedWith}
+use Rattle.verdict.proofs.Answering.{answered-refused, answered-fits}
+use Rattle.verdict.proofs.Remembering.{KeptAfter, kept-after}
 
 or-more : (a b c : Bool) → a || (b || c) ≡ (a || b) || c
 or-more true b c = refl
@@ -175,28 +173,37 @@ module _ (ed : Edition) (y : Syntax) (d : List ℕ) (start : ℕ) where
       unfolding lastEnd
       more-closes = ap (λ (a : ℕ). lastEnd a rest) (sym ends) ∙ (rw next at (p .closes))
 
-      module _ (r : Placed) (is : r ≡ answerOf (segmentAnswer y (guideOf ed) (pagesOf ed) (n + 1) (noted y k cs d) (segmentIn s e piece d))) where
-        is-answer : r ≡ answerOf answer
-        is-answer = is ∙ ap answerOf same-answer
+      module _ (r : Answered) (is : r ≡ answered ed y d s e (segmentAnswer y (guideOf ed) (pagesOf ed) (n + 1) (noted y k cs d) (segmentIn s e piece d))) where
+        is-answer : r ≡ answered ed y d s e answer
+        is-answer = is ∙ ap (answered ed y d s e) same-answer
 
         is-refused
-            : (j m : ℕ) → r ≡ told.Refused j m
+            : (j m : ℕ) → r ≡ outcome.Refused j m
             → Refused j (n + 1) s (numberOf (guideOf ed) m) ≡ declared (verdictFrom y (guideOf ed) (pagesOf ed) start all)
         unfolding verdictFrom settled
         is-refused j m h =
-            let a : answer ≡ refused j m = answer-refused answer j m (sym is-answer ∙ h) in
+            let a : answer ≡ refused j m = answered-refused ed y d s e answer j m (sym is-answer ∙ h) in
             let z : n + 1 ≡ suc n = omega arith in
             rw (← judged-here, a, z, q .starts)
 
         pub passed-refused
-            : (j m : ℕ) → r ≡ told.Refused j m → (v : Told) → v ≡ Refused j (n + 1) s (numberOf (guideOf ed) m) → (c : ℕ) → c ≡ lastEnd e rest → (o : Judged)
+            : (j m : ℕ) → r ≡ outcome.Refused j m → (v : Told) → v ≡ Refused j (n + 1) s (numberOf (guideOf ed) m) → (c : ℕ) → c ≡ lastEnd e rest → (o : Judged)
             → o ≡ judgedAs v c → o ≡ judgedAs (declared (verdictFrom y (guideOf ed) (pagesOf ed) start all)) (lastEnd start all)
         passed-refused j m h v t c l o g = g ∙ ap₂ judgedAs (t ∙ is-refused j m h) (l ∙ more-closes)
 
-        module _ (m : ℕ) (taken : r ≡ told.At m) (cs′ : List ℕ) (k′ : Kept) (after-it : KeptAfter ed y d s e m k k′)
+        module _ (f : Found) (taken : r ≡ outcome.Fits f) (cs′ : List ℕ) (k′ : Kept) (keeps : k′ ≡ keptAfter y d f k)
             (left : cs′ ≡ countsLeft ed (bytesFault y (guideOf ed) (pagesOf ed) (segmentIn s e piece d)) (place (guideOf ed) (viewOf y (part s e d)) (k .last) cs) cs) where
+          abbrev m : ℕ
+          m = f .node
+
+          fits : (answer ≡ placed m) × (f ≡ foundAt ed y d s e m)
+          fits = answered-fits ed y d s e answer f (sym is-answer ∙ taken)
+
           is-placed : answer ≡ placed m
-          is-placed = answer-at answer m (sym is-answer ∙ taken)
+          is-placed = fits .0
+
+          after-it : KeptAfter ed y d s e m k k′
+          after-it = kept-after ed y d s e m k f (fits .1) k′ keeps
 
           sound : (bytesFault y (guideOf ed) (pagesOf ed) here ≡ 0) × (sought ed y (suc n) (noted y k cs d) here ≡ placed m)
           sound = answer-placed ed y (suc n) (noted y k cs d) here m is-placed

@@ -1,4 +1,5 @@
 pub mod Texts
+pub mod RoleTags
 pub mod Numbers
 pub mod Remembering
 pub mod Answering

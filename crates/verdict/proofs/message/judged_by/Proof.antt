@@ -1,11 +1,9 @@
 -- `verdict::message::judged_by` meets its contract. The loop's invariant: `Passed`.
 use Prim.Native.Nat.{_-_}
-use mathlib.Core.Path.{_≡_, refl, sym, _∙_, ap}
-use mathlib.Core.Bool.{Bool, true, false}
-use mathlib.Core.List.{List, []}
+use mathlib.Core.Path.{sym, _∙_}
 use native.Mathlib.Omega.{arith}
 use lib.ListN.{length}
-use Rattle.cut.specs.Held.{unless, members}
+use Rattle.cut.specs.Held.{members}
 use Rattle.cut.proofs.Holding.{Taken, taken, no-member}
 use Rattle.cut.specs.Segments.{segmentsAt}
 use Rattle.verdict.proofs.Judging.{Passed, passed-first, all-ended, passed-refused, passed-on, none-left, passed-more}
@@ -67,6 +65,13 @@ segment-answer-requires c κs =
 enum-known-answer : tie.Need-enum-known-answer Inv-loop μ-loop
 enum-known-answer c = search needs
 
+keep-requires : tie.Need-keep-requires Inv-loop μ-loop
+keep-requires c κs =
+    let p = c .before .before .before .before .before .before .before .before .before .loop .inv in
+    let n = p .short in
+    let l = p .lines in
+    search needs
+
 enum-known-answer-2 : tie.Need-enum-known-answer-2 Inv-loop μ-loop
 enum-known-answer-2 c = search needs
 
@@ -93,13 +98,6 @@ returns-2 c =
     let q = took cut in
     passed-refused _ _ _ _ _ _ _ _ _ (cut .before .before .before .before .loop .inv) _ _ _ (q .cuts) _ (q .list) _ (told .before .before .before .segment-answer .ensures .0) _ _ (told .before .answer2 .given .1) _
     (named .refused .ensures) _ (c .before .close-of .ensures) _ (c .with-end2 .ensures)
-
-keep-requires : tie.Need-keep-requires Inv-loop μ-loop
-keep-requires c κs =
-    let p = c .before .before .before .before .before .before .before .before .before .loop .inv in
-    let n = p .short in
-    let l = p .lines in
-    search needs
 
 add-n : tie.Need-add-n Inv-loop μ-loop
 add-n c =
@@ -167,13 +165,13 @@ judged-by-spec =
     add-segment-answer
     segment-answer-requires
     enum-known-answer
+    keep-requires
     enum-known-answer-2
     add-refused
     refused-requires
     close-of-requires
     with-end-requires-2
     returns-2
-    keep-requires
     add-n
     ended-requires-2
     with-end-requires-3
