@@ -7,6 +7,7 @@ pub mod AgreePrinting
 pub mod AgreeMarked
 pub mod AgreeSearch
 pub mod AgreeRunning
+pub mod AgreeGathered
 pub mod AgreeDistinct
 pub mod AgreeTree
 pub mod AgreeLines
