@@ -92,7 +92,7 @@ module _ (t : List ℕ) (f : ℕ) where
     second-cell : (g : ℕ) → cellOf g < length (setIn t f)
     second-cell g = omega (arith, cell-inside g, set-length t f)
 
-    mark-marks : markedIn (markIn t f) f ≡ true
+    pub mark-marks : markedIn (markIn t f) f ≡ true
     unfolding markedIn markIn
     mark-marks =
         both-and _ _ (set-keeps (setIn t f) (secondOf f) f (second-cell (secondOf f)) (set-holds t f (first-cell f)))
@@ -102,7 +102,7 @@ module _ (t : List ℕ) (f : ℕ) where
     unfolding markIn
     held-keeps g h = set-keeps (setIn t f) (secondOf f) g (second-cell (secondOf f)) (set-keeps t f g (first-cell f) h)
 
-    mark-keeps : (g : ℕ) → markedIn t g ≡ true → markedIn (markIn t f) g ≡ true
+    pub mark-keeps : (g : ℕ) → markedIn t g ≡ true → markedIn (markIn t f) g ≡ true
     unfolding markedIn
     mark-keeps g h =
         let p = and-both (heldIn t g) (heldIn t (secondOf g)) h in
