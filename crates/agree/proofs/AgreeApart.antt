@@ -14,7 +14,7 @@ use Rattle.agree.specs.Agreement.{Heading, agreeBut, agree}
 use Rattle.agree.specs.AgreePositions.{headingFrom, positionsFrom, positionsOf, agreesAny, firstAfter, firstAgreeing}
 use Rattle.agree.specs.AgreeMarks.{markedIn, markIn}
 use Rattle.agree.specs.AgreeArticles.{articlePrint, articlesIn, apartIn}
-use Rattle.agree.specs.declared.agree_first.Agreeing.the-variants.{At, Nothing}
+use Rattle.agree.specs.declared.agree_first.Agreeing.the-variants.{Nothing}
 use Rattle.agree.proofs.AgreeTexts.{and-both, but-agree}
 use Rattle.agree.proofs.AgreeMarked.{mark-length, mark-marks, mark-keeps}
 use Rattle.agree.proofs.AgreeRunning.{any-append}

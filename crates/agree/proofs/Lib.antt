@@ -8,6 +8,7 @@ pub mod AgreeMarked
 pub mod AgreeSearch
 pub mod AgreeRunning
 pub mod AgreeGathered
+pub mod AgreeWords
 pub mod AgreeApart
 pub mod AgreeDistinct
 pub mod AgreeTree

@@ -5,7 +5,7 @@ use crate::agree_marks::mark;
 use crate::agree_prints::is_mark;
 use cut::Syntax;
 use element::limit_of;
-ghost use Prim.Native.Nat.{_≤_};
+ghost use Prim.Native.Nat.{_+_, _≤_, _<_};
 ghost use mathlib.Core.Path.{_≡_};
 ghost use lib.ListN.{length};
 ghost use Rattle.element.specs.Plain.{decoded};
@@ -82,11 +82,41 @@ fn print_rest(y: Syntax, d: &[u8], from: usize, end: usize, before: u32) -> u32
     closed(g)
 }
 
+// The same where fewer than eight bytes are left: they are the last of the eight before the end, and a shift leaves out those before them.
+fn print_last(y: Syntax, d: &[u8], from: usize, end: usize, before: u32) -> u32
+    requires { ⌜ (8 ≤ end) × (end ≤ length (now d)) × (end < from + 8) ⌝ }
+    ensures { λ r. ⌜ r ≡ printFrom (begun before) (decoded y from end (now (d .entry))) ⌝ }
+{
+    if end <= from {
+        return before;
+    }
+    let w = cut::eight_at(d, end - 8);
+    let passed = 8 * (from - (end - 8));
+    if cut::alike(w, y.release) >> passed != 0 {
+        return print_rest(y, d, from, end, before);
+    }
+    mixed_word(before, w >> passed)
+}
+
+// Eight bytes go into the print at once, up to the first word that has a release mark.
 fn print_article(y: Syntax, d: &[u8], a: usize, e: usize) -> u32
     ensures { λ r. ⌜ r ≡ articlePrint (decoded y a e (now (d .entry))) ⌝ }
 {
     let end = limit_of(d, e);
-    print_rest(y, d, a, end, 0)
+    if end < 8 {
+        return print_rest(y, d, a, end, 0);
+    }
+    let mut i = a;
+    let mut print = 0;
+    while i <= end - 8 {
+        let w = cut::eight_at(d, i);
+        if cut::alike(w, y.release) != 0 {
+            return print_rest(y, d, i, end, print);
+        }
+        print = mixed_word(print, w);
+        i += 8;
+    }
+    print_last(y, d, i, end, print)
 }
 
 // Notes an article, the part from a up to e without release marks, in the table of those that came; whether it may have come before.

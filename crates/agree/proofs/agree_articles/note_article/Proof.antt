@@ -1,6 +1,5 @@
 -- `agree::agree_articles::note_article` meets its contract.
-use mathlib.Core.Path.{ap, _∙_}
-use Rattle.agree.specs.AgreeMarks.{markedIn, markIn}
+use Rattle.agree.proofs.AgreeMarked.{noted}
 use borrow.Author.Needs.{needs}
 use Rattle.agree.proofs.agree_articles.note_article.Statement.{statement}
 use Rattle.agree.proofs.agree_articles.note_article.Tie as tie
@@ -17,8 +16,7 @@ mark-requires c κs = search needs
 returns : tie.Need-returns
 returns c =
     let b = c .before .before in
-    let p = b .before .before .print-article .ensures in
-    (b .is-marked .ensures ∙ ap (markedIn _) p, c .mark .ensures ∙ ap (markIn _) p)
+    noted _ _ _ _ _ (b .before .before .print-article .ensures) (b .is-marked .ensures) (c .mark .ensures)
 
 pub note-article-spec : {M : Type 1} → statement M
 note-article-spec =
