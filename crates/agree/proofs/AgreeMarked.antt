@@ -92,7 +92,7 @@ module _ (t : List ℕ) (f : ℕ) where
     second-cell : (g : ℕ) → cellOf g < length (setIn t f)
     second-cell g = omega (arith, cell-inside g, set-length t f)
 
-    mark-marks : markedIn (markIn t f) f ≡ true
+    pub mark-marks : markedIn (markIn t f) f ≡ true
     unfolding markedIn markIn
     mark-marks =
         both-and _ _ (set-keeps (setIn t f) (secondOf f) f (second-cell (secondOf f)) (set-holds t f (first-cell f)))
@@ -102,7 +102,7 @@ module _ (t : List ℕ) (f : ℕ) where
     unfolding markIn
     held-keeps g h = set-keeps (setIn t f) (secondOf f) g (second-cell (secondOf f)) (set-keeps t f g (first-cell f) h)
 
-    mark-keeps : (g : ℕ) → markedIn t g ≡ true → markedIn (markIn t f) g ≡ true
+    pub mark-keeps : (g : ℕ) → markedIn t g ≡ true → markedIn (markIn t f) g ≡ true
     unfolding markedIn
     mark-keeps g h =
         let p = and-both (heldIn t g) (heldIn t (secondOf g)) h in
@@ -143,3 +143,8 @@ pub all-marked
     → allMarked y (markIn t (printOf y q)) (hs ++ (q ∷ [])) ≡ true
 all-marked y t hs q l h =
     all-more y (markIn t (printOf y q)) hs q (all-keeps y t (printOf y q) hs l h) (mark-marks t (printOf y q) l)
+
+-- the table after the print f, and whether that may have come, where f is the print p
+pub noted
+    : (t u : List ℕ) (f p : ℕ) (r : Bool) → f ≡ p → r ≡ markedIn t f → u ≡ markIn t f → (r ≡ markedIn t p) × (u ≡ markIn t p)
+noted t u f p r e h k = (h ∙ ap (markedIn t) e, k ∙ ap (markIn t) e)

@@ -32,7 +32,7 @@ or-assoc true b c = refl
 or-assoc false b c = refl
 
 module _ (y : Syntax) where
-  any-append : (h : Heading) (es fs : List Heading) → agreesAny y h (es ++ fs) ≡ agreesAny y h es || agreesAny y h fs
+  pub any-append : (h : Heading) (es fs : List Heading) → agreesAny y h (es ++ fs) ≡ agreesAny y h es || agreesAny y h fs
   unfolding agreesAny
   any-append h [] fs = refl
   any-append h (e ∷ es) fs = rw (any-append h es fs) (or-assoc (agree y e h) (agreesAny y h es) (agreesAny y h fs))

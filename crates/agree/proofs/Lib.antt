@@ -7,6 +7,9 @@ pub mod AgreePrinting
 pub mod AgreeMarked
 pub mod AgreeSearch
 pub mod AgreeRunning
+pub mod AgreeGathered
+pub mod AgreeWords
+pub mod AgreeApart
 pub mod AgreeDistinct
 pub mod AgreeTree
 pub mod AgreeLines

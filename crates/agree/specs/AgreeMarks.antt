@@ -1,4 +1,4 @@
--- The table of the prints that came: where a print is not marked, no position with that print came; no public call cites these.
+-- The table of the prints that came: where a print is not marked, nothing with that print came.
 use Prim.Native.Nat.{ℕ, _+_, _/_, _%_}
 use mathlib.Core.Bool.{Bool, true, cond, _&&_, _||_}
 use mathlib.Core.List.{List, [], _∷_}

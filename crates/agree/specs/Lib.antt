@@ -5,3 +5,4 @@ pub mod AgreeParts
 pub mod AgreePrints
 pub mod AgreeMarks
 pub mod AgreeRuns
+pub mod AgreeArticles

@@ -49,7 +49,7 @@ fn mixed_unless(skips: bool, mark: bool, a: u32, w: u8, x: u8) -> u32
 }
 
 // Whether a byte is a release mark.
-fn is_mark(y: Syntax, released: bool, x: u8) -> bool
+pub(crate) fn is_mark(y: Syntax, released: bool, x: u8) -> bool
     ensures { λ r. ⌜ r ≡ frees y released x ⌝ }
 {
     if released {
