@@ -45,14 +45,14 @@ pub record KeptAfter (ed : Edition) (y : Syntax) (d : List ℕ) (start end n : �
   pub intervals :
       r .intervals ≡ k .intervals || (isTag (guideOf ed) (bytesOf "BGM") n && same (text y (part start end d) 1 0) (bytesOf "Z04"))
 
-module _ (ed : Edition) (y : Syntax) (d : List ℕ) (start end n : ℕ) (k : Kept) where
+module _ (ed : Edition) (y : Syntax) (d t : List ℕ) (start end n : ℕ) (k : Kept) where
   abbrev found : Found
   found = foundAt ed y d start end n
 
   own : spanned y (found .first) d ≡ text y (part start end d) 1 0
   own = spanned-text y d start end 1 0 (found .first) refl
 
-  kept-found : KeptAfter ed y d start end n k (keptAfter y d found k)
+  kept-found : KeptAfter ed y d start end n k (keptAfter y d t found k)
   kept-found =
       record {
         last = refl;
@@ -61,5 +61,5 @@ module _ (ed : Edition) (y : Syntax) (d : List ℕ) (start end n : ℕ) (k : Kep
         intervals = rw (own, role-bgm ed n);
       }
 
-  pub kept-after : (f : Found) → f ≡ found → (r : Kept) → r ≡ keptAfter y d f k → KeptAfter ed y d start end n k r
+  pub kept-after : (f : Found) → f ≡ found → (r : Kept) → r ≡ keptAfter y d t f k → KeptAfter ed y d start end n k r
   kept-after f e r h = rw (h, e) kept-found

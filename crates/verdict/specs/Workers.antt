@@ -1,6 +1,7 @@
 -- What the crate's own workers promise each other; no public call cites these.
 use Prim.Native.Nat.{ℕ, zero, suc, _+_}
-use mathlib.Core.Bool.{Bool, true, false, _&&_, _||_}
+use mathlib.Core.Path.{_≡_}
+use mathlib.Core.Bool.{Bool, true, false, cond, not, _&&_, _||_}
 use mathlib.Core.List.{List}
 use Rattle.cut.specs.declared.service.Syntax.{Syntax}
 use Rattle.cut.specs.Bytes.{bytesOf, part}
@@ -16,7 +17,10 @@ use Rattle.guide.specs.Editions.{guideOf, pagesOf}
 use Rattle.guide.specs.declared.edition.Edition.{Edition}
 use Rattle.guide.specs.Sheet.{isTag}
 use Rattle.guide.specs.Tree.{one}
+use Rattle.agree.specs.AgreeArticles.{articlePrint}
+use Rattle.agree.specs.AgreeMarks.{markedIn, markIn}
 use Rattle.agree.specs.AgreePositions.{positionsOf, firstAgreeing}
+use Rattle.agree.specs.declared.agree_first.Agreeing.the-variants.{Nothing}
 use Rattle.verdict.specs.declared.kept.Kept.{Kept}
 use Rattle.verdict.specs.declared.roles.Role.{Role}
 use Rattle.verdict.specs.declared.roles.Role.the-variants.{Lin, Unt, Unh, Bgm, Other}
@@ -101,20 +105,44 @@ abbrev pub pickSpan : Bool → Span → Span → Span
 pickSpan true s t = s
 pickSpan false s t = t
 
+-- what is kept before the first segment of the message that begins at a place
+abbrev pub keptFirst : ℕ → Kept
+keptFirst a = record { last = 0; positions = 0; reference = record { start = a; end = a }; intervals = false; doubt = false }
+
+-- articles are not looked at: positions are not compared, or there is a doubt already
+abbrev pub unasked : Kept → Bool
+unasked k = k .intervals || k .doubt
+
+-- the print of the article of a segment that is placed, if it is a LIN
+abbrev pub printAt : Syntax → List ℕ → Found → ℕ
+printAt y d s = articlePrint (spanned y (s .third) d)
+
+-- whether there is a doubt after k and a segment that is placed, and the table t of the articles that came after that one
+unfoldable pub doubtAfter : Syntax → List ℕ → List ℕ → Found → Kept → Bool
+doubtAfter y d t s k = unasked k || (isLin (s .role) && markedIn t (printAt y d s))
+
+unfoldable pub cameAfter : Syntax → List ℕ → List ℕ → Found → Kept → List ℕ
+cameAfter y d t s k = cond (not (unasked k) && isLin (s .role)) (markIn t (printAt y d s)) t
+
 -- what is kept after k and a segment that is placed
-abbrev pub keptAfter : Syntax → List ℕ → Found → Kept → Kept
-keptAfter y d s k =
+abbrev pub keptAfter : Syntax → List ℕ → List ℕ → Found → Kept → Kept
+keptAfter y d t s k =
     record {
       last = s .node;
       positions = k .positions + one (isLin (s .role));
       reference = pickSpan (isUnh (s .role)) (s .first) (k .reference);
       intervals = k .intervals || (isBgm (s .role) && same (spanned y (s .first) d) (bytesOf "Z04"));
+      doubt = doubtAfter y d t s k;
     }
 
 -- the counts that a segment leaves: a fault of its bytes leaves them as they are
 unfoldable pub countsLeft : Edition → ℕ → Answer → List ℕ → List ℕ
 countsLeft ed zero a cs = countsAfter (guideOf ed) a cs
 countsLeft ed (suc k) a cs = cs
+
+-- no position agrees with an earlier one, among the segments from `start` up to `at`
+abbrev pub NoneAgrees : Syntax → List ℕ → ℕ → ℕ → Type 0
+NoneAgrees y d start at = firstAgreeing y (positionsOf (segmentsFrom y start false (part start at d))) ≡ Nothing
 
 -- 23 or accepted, for n segments from `start` up to `at`
 unfoldable pub agreementAt : Edition → Syntax → List ℕ → ℕ → ℕ → ℕ → Verdict

@@ -1,6 +1,7 @@
 // What is kept of a message's segments from one to the next, beside the counts of placing.
 use crate::roles::Role;
 use crate::segment::Found;
+use agree::note_article;
 use cut::Syntax;
 use element::Span;
 use element::is_code;
@@ -10,14 +11,29 @@ ghost use mathlib.Core.Bool.{_||_, _&&_};
 ghost use Rattle.cut.specs.Bytes.{bytesOf};
 ghost use Rattle.element.specs.Plain.{same};
 ghost use Rattle.guide.specs.Tree.{one};
-ghost use Rattle.verdict.specs.Workers.{isLin, isUnh, isBgm, pickSpan, spanned, keptAfter};
+ghost use Rattle.verdict.specs.Workers.{isLin, isUnh, isBgm, pickSpan, spanned, keptFirst, doubtAfter, cameAfter, keptAfter};
 
-// The last node, how many positions there were, where the reference in UNH stands, and whether BGM has the code Z04.
+// The last node, how many positions there were, where the reference in UNH stands, whether BGM has the code Z04, and whether there is a doubt that no
+// two positions agree: an article may have come twice.
 pub struct Kept {
     pub last: usize,
     pub positions: usize,
     pub reference: Span,
     pub intervals: bool,
+    pub doubt: bool,
+}
+
+// Before the first segment of the message that begins at `start`.
+pub(crate) fn begun(start: usize) -> Kept
+    ensures { λ r. ⌜ r ≡ keptFirst start ⌝ }
+{
+    Kept {
+        last: 0,
+        positions: 0,
+        reference: Span { start, end: start },
+        intervals: false,
+        doubt: false,
+    }
 }
 
 fn positions_after(role: Role, positions: usize) -> usize
@@ -53,10 +69,33 @@ fn intervals_after(y: Syntax, d: &[u8], role: Role, first: Span, intervals: bool
     }
 }
 
-// What is kept after a segment that is placed.
-pub(crate) fn keep(y: Syntax, d: &[u8], found: Found, kept: Kept) -> Kept
+// Whether there is a doubt after a segment that is placed; if it is a LIN, its article is noted in the table of those that came. Where positions are not
+// compared, or there is a doubt already, no article is looked at.
+fn doubt_after(y: Syntax, d: &[u8], found: Found, kept: Kept, came: &mut [u8; 8192]) -> bool
+    ensures { λ r. ⌜ r ≡ doubtAfter y (now (d .entry)) (now (came .entry)) found kept ⌝ }
+    ensures { λ _. ⌜ now (came .exit) ≡ cameAfter y (now (d .entry)) (now (came .entry)) found kept ⌝ }
+{
+    if kept.intervals {
+        return true;
+    }
+    if kept.doubt {
+        return true;
+    }
+    let role = found.role;
+    let third = found.third;
+    let a = third.start;
+    let e = third.end;
+    match role {
+        Role::Lin => note_article(y, d, a, e, came),
+        Role::Unt | Role::Unh | Role::Bgm | Role::Other => false,
+    }
+}
+
+// What is kept after a segment that is placed; `came` are the articles that came before it, and then with its own.
+pub(crate) fn keep(y: Syntax, d: &[u8], found: Found, kept: Kept, came: &mut [u8; 8192]) -> Kept
     requires { ⌜ suc (kept .positions) < 2 ^ 64 ⌝ }
-    ensures { λ r. ⌜ r ≡ keptAfter y (now (d .entry)) found kept ⌝ }
+    ensures { λ r. ⌜ r ≡ keptAfter y (now (d .entry)) (now (came .entry)) found kept ⌝ }
+    ensures { λ _. ⌜ now (came .exit) ≡ cameAfter y (now (d .entry)) (now (came .entry)) found kept ⌝ }
 {
     let role = found.role;
     let first = found.first;
@@ -64,10 +103,12 @@ pub(crate) fn keep(y: Syntax, d: &[u8], found: Found, kept: Kept) -> Kept
     let positions = positions_after(role, kept.positions);
     let reference = reference_after(role, first, before);
     let intervals = intervals_after(y, d, role, first, kept.intervals);
+    let doubt = doubt_after(y, d, found, kept, came);
     Kept {
         last: found.node,
         positions,
         reference,
         intervals,
+        doubt,
     }
 }
