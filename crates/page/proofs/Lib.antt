@@ -7,3 +7,4 @@ pub mod PageFaults
 pub mod PageMoods
 pub mod PageSteps
 pub mod PageResults
+pub mod PageScans

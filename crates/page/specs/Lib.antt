@@ -3,3 +3,4 @@ pub mod PageWords
 pub mod PageKeys
 pub mod PageWalk
 pub mod Examined
+pub mod Scans
