@@ -68,8 +68,9 @@ fn beside(fault: u32, places: Places) -> Examined
 pub(crate) fn told(fault: u32, places: Places, start: usize) -> Examined
     ensures { λ r. ⌜ r ≡ examinedBy fault (places .first) (places .third) start ⌝ }
 {
+    let none = nowhere(start);
     if fault != 0 {
-        return beside(fault, nowhere(start));
+        return beside(fault, none);
     }
     beside(0, places)
 }

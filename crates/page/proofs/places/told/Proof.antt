@@ -11,7 +11,7 @@ beside-requires : tie.Need-beside-requires
 beside-requires c κs = search needs
 
 returns : tie.Need-returns
-returns c = told-fault _ (c .before .before .before .args .places) _ _ (c .before .before .if1 .taken) _ (c .before .nowhere .ensures) (c .beside .ensures)
+returns c = told-fault _ (c .before .before .before .args .places) _ _ (c .before .if1 .taken) _ (c .before .before .nowhere .ensures) (c .beside .ensures)
 
 beside-requires-2 : tie.Need-beside-requires-2
 beside-requires-2 c κs = search needs
