@@ -12,7 +12,7 @@ use crate::rows::row_at;
 use crate::scan::component_on;
 use crate::scan::untested;
 use cut::Syntax;
-ghost use Prim.Native.Nat.{_≤_, _<_};
+ghost use Prim.Native.Nat.{_+_, _^_, _≤_, _<_};
 ghost use mathlib.Core.Path.{_≡_};
 ghost use lib.ListN.{length, drop};
 ghost use Rattle.element.specs.Plain.{decoded};
@@ -44,16 +44,13 @@ fn opening(word: usize) -> usize
 
 // The fault that is known where the element that has a word ends behind component c.
 fn ending(word: usize, c: usize, mood: usize) -> u32
+    requires { ⌜ c + 1 < 2 ^ 64 ⌝ }
     ensures { λ r. ⌜ EndFault word c mood r ⌝ }
 {
     if mood != 1 {
         return 0;
     }
-    let must = word / 32768 % 32;
-    if must <= c {
-        return 0;
-    }
-    if c + 1 < must {
+    if c + 1 < word / 32768 % 32 {
         return 17;
     }
     0

@@ -118,7 +118,9 @@ loop-again c =
     )
 
 ending-requires : tie.Need-ending-requires Inv-loop μ-loop
-ending-requires c κs = search needs
+ending-requires c κs =
+    let l = c .before .before .before .before .before .before .before .before .before in
+    omega (arith, l .loop .inv .0 .component, l .loop .inv .0 .ahead, l .before .before .before .before .pre .1)
 
 told-requires-2 : tie.Need-told-requires-2 Inv-loop μ-loop
 told-requires-2 c κs = search needs
