@@ -3,6 +3,7 @@ pub mod PageCells
 pub mod PageSpans
 pub mod PageLookup
 pub mod KeyCodes
+pub mod KeyWords
 pub mod PageFaults
 pub mod PageMoods
 pub mod PageStops

@@ -59,7 +59,7 @@ fn filled_fault(y: Syntax, d: &[u8], a: usize, b: usize, n: usize, row: usize) -
     if !is_formed(y, d, a, b, n, row) {
         return 19;
     }
-    if !listed(y, d, a, b, row) {
+    if !listed(y, d, a, b, n, row) {
         return 20;
     }
     0

@@ -16,7 +16,7 @@ returns-2 c =
     filled-format _ _ _ _ (u .before .before .pre) (u .if1 .left) _ (c .before .is-formed .ensures) (not-true _ (c .if2 .taken))
 
 listed-requires : tie.Need-listed-requires
-listed-requires c κs = tt
+listed-requires c κs = c .before .before .before .before .pre .0
 
 returns-3 : tie.Need-returns-3
 returns-3 c =
