@@ -3,7 +3,11 @@ pub mod PageCells
 pub mod PageSpans
 pub mod PageLookup
 pub mod KeyCodes
+pub mod KeyWords
 pub mod PageFaults
 pub mod PageMoods
+pub mod PageStops
+pub mod PageSought
 pub mod PageSteps
 pub mod PageResults
+pub mod PageScans

@@ -3,3 +3,5 @@ pub mod PageWords
 pub mod PageKeys
 pub mod PageWalk
 pub mod Examined
+pub mod Scans
+pub mod PagePlaces

@@ -2,10 +2,12 @@
 use crate::words::code_word;
 use cut::Syntax;
 use element::word_of;
-ghost use Prim.Native.Nat.{_-_};
+ghost use Prim.Native.Nat.{_-_, _^_, _≤_};
 ghost use mathlib.Core.Path.{_≡_};
 ghost use mathlib.Core.List.{[]};
+ghost use lib.ListN.{length};
 ghost use Rattle.element.specs.Plain.{decoded};
+ghost use Rattle.element.specs.Words.{wordOf};
 ghost use Rattle.guide.specs.Nodes.{chosen};
 ghost use Rattle.page.specs.PageColumns.{allCodes};
 ghost use Rattle.page.specs.PageKeys.{keyAmong};
@@ -25,8 +27,46 @@ fn has_code(key: u64, from: usize, next: usize) -> bool
     false
 }
 
-// Whether a component is on the row that has a word; a row without codes takes any text.
-pub(crate) fn listed(y: Syntax, d: &[u8], a: usize, b: usize, row: usize) -> bool
+// The number above those of n bytes.
+fn above(n: usize) -> u64
+    requires { ⌜ n ≤ 6 ⌝ }
+    ensures { λ r. ⌜ (r ≡ 256 ^ n) × (1 ≤ r) × (r ≤ 256 ^ 6) ⌝ }
+{
+    match n {
+        0 => 1,
+        1 => 0x100,
+        2 => 0x1_0000,
+        3 => 0x100_0000,
+        4 => 0x1_0000_0000,
+        5 => 0x100_0000_0000,
+        _ => 0x1_0000_0000_0000,
+    }
+}
+
+// The number of a component of n bytes. One without release marks is the beginning of the eight bytes that begin with it, where eight stand there.
+fn key_of(y: Syntax, d: &[u8], a: usize, b: usize, n: usize) -> u64
+    requires { ⌜ n ≡ length (decoded y a b (now d)) ⌝ }
+    ensures { λ r. ⌜ r ≡ wordOf (decoded y a b (now (d .entry))) ⌝ }
+{
+    if 6 < n {
+        return 0;
+    }
+    if d.len() < 8 {
+        return word_of(y, d, a, b);
+    }
+    if d.len() - 8 < a {
+        return word_of(y, d, a, b);
+    }
+    if a + n != b {
+        return word_of(y, d, a, b);
+    }
+    let top = above(n);
+    (cut::eight_at(d, a) & (top - 1)) + top
+}
+
+// Whether a component of n bytes is on the row that has a word; a row without codes takes any text.
+pub(crate) fn listed(y: Syntax, d: &[u8], a: usize, b: usize, n: usize, row: usize) -> bool
+    requires { ⌜ n ≡ length (decoded y a b (now d)) ⌝ }
     ensures { λ r. ⌜ r ≡ chosen (codesIn row) (decoded y a b (now (d .entry))) ⌝ }
 {
     let many = row / 1024 % 64;
@@ -34,5 +74,5 @@ pub(crate) fn listed(y: Syntax, d: &[u8], a: usize, b: usize, row: usize) -> boo
         return true;
     }
     let from = row % 1024;
-    has_code(word_of(y, d, a, b), from, from + many)
+    has_code(key_of(y, d, a, b, n), from, from + many)
 }

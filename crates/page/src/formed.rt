@@ -56,12 +56,10 @@ fn filled_fault(y: Syntax, d: &[u8], a: usize, b: usize, n: usize, row: usize) -
     if row / 65536 % 4 == 0 {
         return 18;
     }
-    let fitting = is_formed(y, d, a, b, n, row);
-    let known = listed(y, d, a, b, row);
-    if !fitting {
+    if !is_formed(y, d, a, b, n, row) {
         return 19;
     }
-    if !known {
+    if !listed(y, d, a, b, n, row) {
         return 20;
     }
     0

@@ -5,6 +5,7 @@ mod formed;
 mod pages;
 mod places;
 mod rows;
+mod scan;
 mod words;
 
 pub use examining::examined;

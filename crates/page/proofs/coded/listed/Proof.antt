@@ -10,8 +10,8 @@ use Rattle.page.proofs.coded.listed.Tie as tie
 returns : tie.Need-returns
 returns c = listed-any _ _ (c .if1 .taken)
 
-word-of-requires : tie.Need-word-of-requires
-word-of-requires c κs = search needs
+key-of-requires : tie.Need-key-of-requires
+key-of-requires c κs = search needs
 
 add-has-code : tie.Need-add-has-code
 add-has-code c = search needs
@@ -24,7 +24,7 @@ returns-2 c =
     let start = c .before .before .before .before in
     let a = start .args in
     listed-key _ _ (decoded-bytes (a .y) (a .d .now) (a .a) (a .b) (λ i. omega (arith, c .before .before .before .shared-slice-known .given i))) (c .before .before .if1 .left)
-    _ _ _ _ (c .before .word-of .ensures) refl refl (c .has-code .ensures)
+    _ _ _ _ (c .before .key-of .ensures) refl refl (c .has-code .ensures)
 
 pub listed-spec : {M : Type 1} → statement M
-listed-spec = tie.close (tie.spec returns word-of-requires add-has-code has-code-requires returns-2)
+listed-spec = tie.close (tie.spec returns key-of-requires add-has-code has-code-requires returns-2)

@@ -10,22 +10,26 @@ returns c = filled-unused _ _ _ _ (c .before .before .pre) (c .if1 .taken)
 is-formed-requires : tie.Need-is-formed-requires
 is-formed-requires c κs = c .before .before .pre
 
-listed-requires : tie.Need-listed-requires
-listed-requires c κs = tt
-
 returns-2 : tie.Need-returns-2
-returns-2 c = filled-format _ _ _ _ (c .before .before .before .before .before .pre) (c .before .before .before .if1 .left) _ (c .before .before .is-formed .ensures) (not-true _ (c .if2 .taken))
+returns-2 c =
+    let u = c .before .before in
+    filled-format _ _ _ _ (u .before .before .pre) (u .if1 .left) _ (c .before .is-formed .ensures) (not-true _ (c .if2 .taken))
+
+listed-requires : tie.Need-listed-requires
+listed-requires c κs = c .before .before .before .before .pre .0
 
 returns-3 : tie.Need-returns-3
 returns-3 c =
-    filled-code _ _ _ _ (c .before .before .before .before .before .before .pre) (c .before .before .before .before .if1 .left) _ (c .before .before .before .is-formed .ensures) (not-false _ (c .before .if2 .left)) _ (c .before .before .listed .ensures)
-    (not-true _ (c .if3 .taken))
+    let f = c .before .before in
+    let u = f .before .before in
+    filled-code _ _ _ _ (u .before .before .pre) (u .if1 .left) _ (f .before .is-formed .ensures) (not-false _ (f .if2 .left)) _ (c .before .listed .ensures) (not-true _ (c .if3 .taken))
 
 returns-4 : tie.Need-returns-4
 returns-4 c =
-    filled-right _ _ _ _ (c .before .before .before .before .before .before .pre) (c .before .before .before .before .if1 .left) _ (c .before .before .before .is-formed .ensures) (not-false _ (c .before .if2 .left)) _ (c .before .before .listed .ensures)
-    (not-false _ (c .if3 .left))
+    let f = c .before .before in
+    let u = f .before .before in
+    filled-right _ _ _ _ (u .before .before .pre) (u .if1 .left) _ (f .before .is-formed .ensures) (not-false _ (f .if2 .left)) _ (c .before .listed .ensures) (not-false _ (c .if3 .left))
 
 pub filled-fault-spec : {M : Type 1} → statement M
 filled-fault-spec =
-    tie.close (tie.spec returns is-formed-requires listed-requires returns-2 returns-3 returns-4)
+    tie.close (tie.spec returns is-formed-requires returns-2 listed-requires returns-3 returns-4)

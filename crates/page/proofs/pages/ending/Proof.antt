@@ -1,5 +1,4 @@
 -- `page::pages::ending` meets its contract: each return by its tests.
-use native.Mathlib.Omega.{arith}
 use Rattle.page.proofs.PageMoods.{ending-must, ending-may, ending-calm}
 use borrow.Author.Needs.{needs}
 use Rattle.page.proofs.pages.ending.Statement.{statement}
@@ -8,17 +7,14 @@ use Rattle.page.proofs.pages.ending.Tie as tie
 returns : tie.Need-returns
 returns c = λ k v. ending-calm _ _ (c .if1 .taken)
 
-returns-2 : tie.Need-returns-2
-returns-2 c = λ k v. ending-may _ (c .before .before .args .c) k v _ (c .before .if1 .left) (omega arith)
+add-if2 : tie.Need-add-if2
+add-if2 c = search needs
 
-add-if3 : tie.Need-add-if3
-add-if3 c = search needs
+returns-2 : tie.Need-returns-2
+returns-2 c = λ k v. ending-must _ _ k v _ (c .before .if1 .left) (c .if2 .taken)
 
 returns-3 : tie.Need-returns-3
-returns-3 c = λ k v. ending-must _ _ k v _ (c .before .before .if1 .left) (c .if3 .taken)
-
-returns-4 : tie.Need-returns-4
-returns-4 c = λ k v. ending-may _ _ k v _ (c .before .before .if1 .left) (c .if3 .left)
+returns-3 c = λ k v. ending-may _ _ k v _ (c .before .if1 .left) (c .if2 .left)
 
 pub ending-spec : {M : Type 1} → statement M
-ending-spec = tie.close (tie.spec returns returns-2 add-if3 returns-3 returns-4)
+ending-spec = tie.close (tie.spec returns add-if2 returns-2 returns-3)
