@@ -25,7 +25,7 @@ pub record Sought (g : Guide) (test : ℕ → Bool) (found s : ℕ) : Type 0 whe
 
 module _ {g : Guide} {test : ℕ → Bool} {found s : ℕ} (w : Sought g test found s) where
   pub sought-out : s ≡ 0 → 0 ≡ found
-  sought-out h = sym (lowest-none (within s test) 1 (length g - 1) (λ m l. rw (h, member-none m))) ∙ w .answer
+  sought-out h = sym (lowest-none (within s test) 1 (length g - 1) (λ m a b. rw (h, member-none m))) ∙ w .answer
 
   -- n is the lowest of the set
   module _ (some : s ≡ 0 → ⊥) (n : ℕ) (first : n ≡ trailingZeros 32 s) where

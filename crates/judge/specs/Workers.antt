@@ -17,9 +17,13 @@ onward test g n = pickℕ (eqb n 0) 0 (lowest test n (length g - n))
 unfoldable pub wanted : Guide → List ℕ → ℕ → Bool
 wanted g cs m = not (paired g m) || ltb 0 (tally cs (node g m .partner))
 
+-- whether it has not come though it must
+unfoldable pub missed : Guide → List ℕ → ℕ → Bool
+missed g cs m = eqb (tally cs m) 0 && wanted g cs m
+
 -- whether p lacks its child m when n comes: `lacking`, where that is known
 unfoldable pub lacksDue : Guide → List ℕ → ℕ → ℕ → ℕ → Bool
-lacksDue g cs n p m = eqb (tally cs m) 0 && (wanted g cs m && (not (eqb p (node g n .parent)) || ltb (node g m .counter) (node g n .counter)))
+lacksDue g cs n p m = missed g cs m && (not (eqb p (node g n .parent)) || ltb (node g m .counter) (node g n .counter))
 
 -- the counts from node m on, where no child of n has come
 unfoldable pub cleared : Guide → ℕ → ℕ → List ℕ → List ℕ

@@ -3,6 +3,7 @@ mod after_words;
 mod code_words;
 mod counting;
 mod editions;
+mod entry_words;
 mod lacking;
 mod link_words;
 mod matching;

@@ -1,18 +1,22 @@
 -- `judge::placing::place` meets its contract: one law for each answer, `Outcome` with the counts that it leaves. Assumes nothing.
 use borrow.Author.Needs.{needs}
-use Prim.Native.Nat.{_<_}
+use Prim.Native.Nat.{suc, _<_}
+use mathlib.Core.Path.{_≡_}
+use mathlib.Core.Bool.{true}
 use native.Mathlib.Omega.{arith}
 use lib.ListN.{length, getD}
 use borrow.Author.Tests.{leb-false}
 use Rattle.cut.specs.Bytes.{part}
+use Rattle.guide.specs.Placing.{levels}
 use Rattle.guide.specs.Views.{viewOf}
 use Rattle.guide.specs.Editions.{guideOf}
+use Rattle.judge.specs.Sets.{someLevel, followsIn}
 use Rattle.judge.proofs.Tables.{table-fits}
-use Rattle.judge.proofs.Outcomes.{found-inside, last-inside, place-nowhere, place-over, place-lacking, place-found}
+use Rattle.judge.proofs.Outcomes.{found-inside, found-follows, last-inside, place-nowhere, place-over, place-lacking, place-found}
 use Rattle.judge.proofs.placing.place.Statement.{statement}
 use Rattle.judge.proofs.placing.place.Tie as tie
 
--- where a node was found, the table has it, and the one before
+-- where a node was found, the table has it, and the one before, which it can follow
 inside : (c : tie.Else1) → c .before .node-for .result < length (guideOf (c .before .before .before .args .edition))
 inside c =
     let a = c .before .before .before .args in
@@ -22,6 +26,15 @@ before-inside : (c : tie.Else1) → c .before .before .before .args .last < leng
 before-inside c =
     let a = c .before .before .before .args in
     last-inside (a .edition) (viewOf (a .y) (part (a .start) (a .end) (a .d .now))) (a .last) _ (c .before .node-for .ensures) (c .if1 .left)
+
+follows
+    : (c : tie.Else1)
+    → someLevel (followsIn (guideOf (c .before .before .before .args .edition)) (c .before .node-for .result))
+    (levels (guideOf (c .before .before .before .args .edition)) (suc (c .before .before .before .args .last)) (c .before .before .before .args .last) 0)
+    ≡ true
+follows c =
+    let a = c .before .before .before .args in
+    found-follows (a .edition) (viewOf (a .y) (part (a .start) (a .end) (a .d .now))) (a .last) _ (c .before .node-for .ensures) (c .if1 .left)
 
 node-for-requires : tie.Need-node-for-requires
 node-for-requires c κs = search needs
@@ -45,10 +58,10 @@ element-copy-out-full c = omega (arith, inside (c .before), table-fits (c .befor
 number-over-requires : tie.Need-number-over-requires
 number-over-requires c κs = inside (c .before .before .before)
 
-missing-for-requires : tie.Need-missing-for-requires
-missing-for-requires c κs =
+missing-node-requires : tie.Need-missing-node-requires
+missing-node-requires c κs =
     let some = c .before .before .before .before .before in
-    (inside some, before-inside some)
+    ((inside some, before-inside some), follows some)
 
 returns-2 : tie.Need-returns-2
 returns-2 c =
@@ -69,7 +82,7 @@ returns-3 c =
     let a = some .before .before .before .args in
     let o =
     place-lacking (a .edition) (viewOf (a .y) (part (a .start) (a .end) (a .d .now))) (a .last) (a .counts .now) _ (some .before .node-for .ensures) (some .if1 .left)
-    _ (limit .limit-of .ensures) (room .if2 .left) _ (room .before .missing-for .ensures) (c .if3 .taken) in
+    _ (limit .limit-of .ensures) (room .if2 .left) _ (room .before .missing-node .ensures) (c .if3 .taken) in
     (o .answer, o .counts)
 
 enter-requires : tie.Need-enter-requires
@@ -89,7 +102,7 @@ returns-4 c =
     let a = some .before .before .before .args in
     let o =
     place-found (a .edition) (viewOf (a .y) (part (a .start) (a .end) (a .d .now))) (a .last) (a .counts .now) _ (some .before .node-for .ensures) (some .if1 .left)
-    _ (limit .limit-of .ensures) (room .if2 .left) _ (room .before .missing-for .ensures) (none .if3 .left) _ (c .enter .ensures) in
+    _ (limit .limit-of .ensures) (room .if2 .left) _ (room .before .missing-node .ensures) (none .if3 .left) _ (c .enter .ensures) in
     (o .answer, o .counts)
 
 pub place-spec : {M : Type 1} → statement M
@@ -102,7 +115,7 @@ place-spec =
     mul-full
     element-copy-out-full
     number-over-requires
-    missing-for-requires
+    missing-node-requires
     returns-2
     returns-3
     enter-requires
