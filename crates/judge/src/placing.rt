@@ -41,9 +41,9 @@ pub fn place(
         };
     }
     let full = limit_of(edition, n) <= counts[n];
-    let over = number_over(edition, counts, n);
     let m = missing_node(edition, counts, n, last);
     if full {
+        let over = number_over(edition, counts, n);
         return Placed::Refused {
             number: over,
             node: n,

@@ -55,29 +55,29 @@ mul-full c = omega (arith, inside (c .before), table-fits (c .before .before .be
 element-copy-out-full : tie.Need-element-copy-out-full
 element-copy-out-full c = omega (arith, inside (c .before), table-fits (c .before .before .before .before .args .edition))
 
-number-over-requires : tie.Need-number-over-requires
-number-over-requires c κs = inside (c .before .before .before)
-
 missing-node-requires : tie.Need-missing-node-requires
 missing-node-requires c κs =
-    let some = c .before .before .before .before .before in
+    let some = c .before .before .before in
     ((inside some, before-inside some), follows some)
+
+number-over-requires : tie.Need-number-over-requires
+number-over-requires c κs = inside (c .before .before .before .before .before .before)
 
 returns-2 : tie.Need-returns-2
 returns-2 c =
-    let over = c .before .before .before in
-    let limit = over .before .before .before in
+    let full = c .before .before in
+    let limit = full .before .before .before .before in
     let some = limit .before in
     let a = some .before .before .before .args in
     let o =
     place-over (a .edition) (viewOf (a .y) (part (a .start) (a .end) (a .d .now))) (a .last) (a .counts .now) _ (some .before .node-for .ensures) (some .if1 .left)
-    _ (limit .limit-of .ensures) _ (over .number-over .ensures) (c .if2 .taken) in
+    _ (limit .limit-of .ensures) _ (c .number-over .ensures) (full .if2 .taken) in
     (o .answer, o .counts)
 
 returns-3 : tie.Need-returns-3
 returns-3 c =
     let room = c .before in
-    let limit = room .before .before .before .before .before .before in
+    let limit = room .before .before .before .before in
     let some = limit .before in
     let a = some .before .before .before .args in
     let o =
@@ -88,7 +88,7 @@ returns-3 c =
 enter-requires : tie.Need-enter-requires
 enter-requires c κs =
     let room = c .before .before in
-    let limit = room .before .before .before .before .before .before in
+    let limit = room .before .before .before .before in
     let some = limit .before in
     let count = getD (some .before .before .before .args .counts .now) (some .before .node-for .result) 0 in
     ((omega (arith, some .if1 .left), inside some), omega (arith, leb-false (limit .limit-of .result) count (room .if2 .left), limit .limit-of .ok))
@@ -97,7 +97,7 @@ returns-4 : tie.Need-returns-4
 returns-4 c =
     let none = c .before .before in
     let room = none .before in
-    let limit = room .before .before .before .before .before .before in
+    let limit = room .before .before .before .before in
     let some = limit .before in
     let a = some .before .before .before .args in
     let o =
@@ -114,8 +114,8 @@ place-spec =
     limit-of-requires
     mul-full
     element-copy-out-full
-    number-over-requires
     missing-node-requires
+    number-over-requires
     returns-2
     returns-3
     enter-requires
