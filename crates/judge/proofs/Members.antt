@@ -16,12 +16,7 @@ use Rattle.guide.proofs.Basics.{T-true, and-left, and-right}
 use Rattle.guide.specs.declared.edition.Edition.{Edition}
 use Rattle.guide.specs.declared.edition.Edition.the-variants.{D, C}
 use Rattle.guide.specs.Editions.{guideOf}
-use Rattle.judge.specs.Sets.{bit, bits, nodesThat}
-
--- whether the number n is in the set s
-unfoldable pub member : ℕ → ℕ → Bool
-member s zero = eqb (s % 2) 1
-member s (suc n) = member (s / 2) n
+use Rattle.judge.specs.Sets.{bit, bits, member, nodesThat}
 
 pub member-none : (n : ℕ) → member 0 n ≡ false
 unfolding member
@@ -135,7 +130,7 @@ pub rest-less : (s : ℕ) → (s ≡ 0 → ⊥) → bitAnd s (s - 1) < s
 rest-less s some = omega (arith, and-le-r s (s - 1), some)
 
 -- a set of nodes of a guide
-nodes-member : (g : Guide) (test : ℕ → Bool) (n : ℕ) → member (nodesThat g test) n ≡ ltb n (length g) && (ltb 0 n && test n)
+pub nodes-member : (g : Guide) (test : ℕ → Bool) (n : ℕ) → member (nodesThat g test) n ≡ ltb n (length g) && (ltb 0 n && test n)
 unfolding nodesThat
 nodes-member g test n = member-bits (length g) (λ m. ltb 0 m && test m) n
 
@@ -153,7 +148,7 @@ unfolding pricat20d pricat20c
 table-small D = lit≤ tt
 table-small C = lit≤ tt
 
-nodes-fit : (e : Edition) (test : ℕ → Bool) → nodesThat (guideOf e) test < 4294967296
+pub nodes-fit : (e : Edition) (test : ℕ → Bool) → nodesThat (guideOf e) test < 4294967296
 unfolding nodesThat
 nodes-fit e test = le-trans (bits-fit (length (guideOf e)) (λ n. ltb 0 n && test n)) (pow-mono (table-small e))
 

@@ -17,12 +17,12 @@ use Rattle.guide.specs.declared.edition.Edition.{Edition}
 use Rattle.guide.specs.declared.edition.Edition.the-variants.{D, C}
 use Rattle.guide.specs.Editions.{guideOf}
 use Rattle.judge.specs.Rows.{childOf, dueOf}
-use Rattle.judge.specs.Sets.{nodesThat, someLevel, followsIn, dueAfter, insideOf, precedingOf}
+use Rattle.judge.specs.Sets.{member, nodesThat, someLevel, followsIn, dueAfter, insideOf, precedingOf}
 use Rattle.judge.specs.Workers.{missed, lacksDue}
 use Rattle.judge.proofs.Links.{lowest-none, lowest-least}
 use Rattle.judge.proofs.Gaps.{lacks-only, lacks-due}
 use Rattle.judge.proofs.Partners.{pair-optional}
-use Rattle.judge.proofs.Members.{member, both-fit, both-inside, both-are}
+use Rattle.judge.proofs.Members.{both-fit, both-inside, both-are}
 use Rattle.judge.proofs.Sought.{Sought, within}
 
 -- whether m is due in one of these instances, up to the one that takes n, and n must come behind it there

@@ -10,8 +10,9 @@ use lib.Count.{trailingZeros}
 use borrow.Author.Tests.{eqb-true}
 use Rattle.guide.specs.Nodes.{Guide}
 use Rattle.guide.specs.Placing.{firstNode}
+use Rattle.judge.specs.Sets.{member}
 use Rattle.judge.proofs.Links.{lowest-none, lowest-like, lowest-is}
-use Rattle.judge.proofs.Members.{member, member-none, first-member, first-lowest, rest-member, rest-less}
+use Rattle.judge.proofs.Members.{member-none, first-member, first-lowest, rest-member, rest-less}
 
 -- the nodes of the set s that pass the test
 abbrev pub within : ℕ → (ℕ → Bool) → ℕ → Bool

@@ -1,5 +1,5 @@
 -- Sets of nodes as the bits of a number, bit n for row n: what the code holds of the tables. No public promise cites these.
-use Prim.Native.Nat.{ℕ, zero, suc, _+_, _*_}
+use Prim.Native.Nat.{ℕ, zero, suc, _+_, _*_, _/_, _%_}
 use mathlib.Core.Bool.{Bool, true, false, not, _&&_, _||_}
 use mathlib.Core.List.{List, [], _∷_}
 use lib.ListN.{length}
@@ -17,6 +17,11 @@ bit false = 0
 unfoldable pub bits : ℕ → (ℕ → Bool) → ℕ
 bits zero test = 0
 bits (suc k) test = bits k (λ n. test (suc n)) * 2 + bit (test 0)
+
+-- whether the number n is in the set s
+unfoldable pub member : ℕ → ℕ → Bool
+member s zero = eqb (s % 2) 1
+member s (suc n) = member (s / 2) n
 
 -- the nodes of a guide that pass the test; the message is none
 unfoldable pub nodesThat : Guide → (ℕ → Bool) → ℕ

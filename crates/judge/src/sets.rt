@@ -8,7 +8,7 @@ ghost use lib.ListN.{length};
 ghost use lib.Bits.{bitAnd};
 ghost use lib.Count.{trailingZeros};
 ghost use Rattle.guide.specs.Editions.{guideOf};
-ghost use Rattle.judge.specs.Sets.{followersOf, dueAfter, precedingOf};
+ghost use Rattle.judge.specs.Sets.{followersOf, dueAfter, precedingOf, childrenOf};
 
 // The lowest node of a set that is not empty.
 pub(crate) fn first_in(set: u32) -> usize
@@ -45,4 +45,12 @@ pub(crate) fn preceding(edition: Edition, n: usize) -> u32
     ensures { λ r. ⌜ r ≡ precedingOf (guideOf edition) n ⌝ }
 {
     (entry(edition, n) % 0x1_0000_0000) as u32
+}
+
+// The children of node n.
+pub(crate) fn children(edition: Edition, n: usize) -> u32
+    requires { ⌜ n < length (guideOf edition) ⌝ }
+    ensures { λ r. ⌜ r ≡ childrenOf (guideOf edition) n ⌝ }
+{
+    (entry(edition, n) / 0x1_0000_0000) as u32
 }
