@@ -2,7 +2,7 @@
 use Prim.Native.Nat.{ℕ, suc, _-_, _≤_, _<_}
 use mathlib.Core.Path.{_≡_, refl, sym, _∙_, ap}
 use mathlib.Core.Bool.{Bool, true, false, not, _&&_, _||_, true≢false}
-use mathlib.Core.List.{List, [], _∷_}
+use mathlib.Core.List.{List, [], _∷_, map}
 use native.Mathlib.Omega.{arith}
 use lib.ListN.{length, take}
 use lib.Dec.{T, T-not, eqb, ltb, leb, eqb→eq}
@@ -20,11 +20,12 @@ use Rattle.guide.proofs.Basics.{T-true, true-T, false-T, every-at, implied, and
 use Rattle.guide.specs.declared.edition.Edition.{Edition}
 use Rattle.guide.specs.declared.edition.Edition.the-variants.{D, C}
 use Rattle.guide.specs.Editions.{guideOf}
-use Rattle.judge.specs.Words.{packed, Bytes}
+use Rattle.judge.specs.Words.{packed, wordOf, picks, Bytes}
 use Rattle.judge.specs.Rows.{childOf, dueOf}
-use Rattle.judge.specs.Sets.{nodesThat, someLevel, followsIn, followersOf, taggedOf, dueAfter, afterWord}
+use Rattle.judge.specs.Sets.{member, nodesThat, someLevel, followsIn, followersOf, taggedOf, dueAfter, afterWord}
 use Rattle.judge.proofs.Sound.{sound-at}
-use Rattle.judge.proofs.Matches.{match-tagged}
+use Rattle.judge.proofs.Matches.{chosen-picked, match-tagged}
+use Rattle.judge.proofs.Codes.{one-component}
 use Rattle.judge.proofs.Links.{lowest-none, lowest-like, lowest-is}
 use Rattle.judge.proofs.Levels.{level-nowhere, seek-outside}
 use Rattle.judge.proofs.Members.{member-none, nodes-none, both-fit, both-inside, both-are}
@@ -165,3 +166,23 @@ module _ (e : Edition) (y : Syntax) (d : List ℕ) (start end : ℕ) (bytes : By
 
   pub seek-begins : Sought (guideOf e) (hasCode e view) (seek (guideOf e) view (levels (guideOf e) (suc last) last 0)) s
   seek-begins = record { fits = both-fit e follows named s both; inside = λ n h. both-inside e follows named s n both h; answer = answer }
+
+  -- what the key finds, which is read where the node `first` has its codes
+  pub seek-keyed
+      : (first element component key r : ℕ) → first < length (guideOf e) → (length (node (guideOf e) first .selector .codes) ≡ 0 → ⊥)
+      → element ≡ node (guideOf e) first .selector .element → component ≡ node (guideOf e) first .selector .component
+      → key ≡ wordOf (viewOf y (part start end d) .key element component)
+      → r ≡ firstNode (guideOf e) (λ n. member s n && picks (map packed (node (guideOf e) n .selector .codes)) key)
+      → r ≡ seek (guideOf e) (viewOf y (part start end d)) (levels (guideOf e) (suc last) last 0)
+  seek-keyed first element component key r row codes p q read h =
+      h
+      ∙ lowest-like (λ n. member s n && picks (map packed (node (guideOf e) n .selector .codes)) key) (within s coded) 1 (length (guideOf e) - 1)
+      (λ n a b. ap (λ (x : Bool). member s n && x) (same n a (omega arith)))
+      ∙ answer
+    where
+      same : (n : ℕ) → 0 < n → n < length (guideOf e) → picks (map packed (node (guideOf e) n .selector .codes)) key ≡ coded n
+      same n a b =
+          chosen-picked y d start end bytes (guideOf e) n (sound-at e n a b) element component key (picks (map packed (node (guideOf e) n .selector .codes)) key)
+          (λ some.
+          let one = one-component e first n row b codes some in
+          (p ∙ one .0, q ∙ one .1)) read refl

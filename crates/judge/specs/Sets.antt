@@ -1,5 +1,6 @@
 -- Sets of nodes as the bits of a number, bit n for row n: what the code holds of the tables. No public promise cites these.
-use Prim.Native.Nat.{ℕ, zero, suc, _+_, _*_, _/_, _%_}
+use Prim.Native.Nat.{ℕ, zero, suc, _+_, _*_, _/_, _%_, _<_}
+use mathlib.Core.Path.{_≡_}
 use mathlib.Core.Bool.{Bool, true, false, not, _&&_, _||_}
 use mathlib.Core.List.{List, [], _∷_}
 use lib.ListN.{length}
@@ -26,6 +27,10 @@ member s (suc n) = member (s / 2) n
 -- the nodes of a guide that pass the test; the message is none
 unfoldable pub nodesThat : Guide → (ℕ → Bool) → ℕ
 nodesThat g test = bits (length g) (λ n. ltb 0 n && test n)
+
+-- all that are in the set s are nodes of the guide
+unfoldable pub Nodes : Guide → ℕ → Type 0
+Nodes g s = (n : ℕ) → member s n ≡ true → (0 < n) × (n < length g)
 
 -- whether the test holds of one of the open instances
 unfoldable pub someLevel : (Level → Bool) → List Level → Bool

@@ -1,21 +1,47 @@
 // Seeks the node that takes a segment: 13's question.
 use crate::matching::is_chosen;
+use crate::rows::codes_count;
+use crate::rows::component_of;
+use crate::rows::element_of;
 use crate::sets::first_in;
 use crate::sets::followers;
 use crate::sets::without_first;
 use crate::tag_sets::tagged;
+use crate::words::key_number;
 use crate::words::tag_number;
 use cut::Syntax;
 use guide::Edition;
 ghost use Prim.Native.Nat.{suc};
 ghost use mathlib.Core.Path.{_≡_};
+ghost use mathlib.Core.Bool.{_&&_};
+ghost use mathlib.Core.List.{map};
 ghost use Rattle.cut.specs.Bytes.{part};
-ghost use Rattle.guide.specs.Placing.{levels, seek};
+ghost use Rattle.guide.specs.Nodes.{node};
+ghost use Rattle.guide.specs.Placing.{firstNode, levels, seek};
 ghost use Rattle.guide.specs.Views.{viewOf};
 ghost use Rattle.guide.specs.Editions.{guideOf};
+ghost use Rattle.judge.specs.Words.{packed, picks};
+ghost use Rattle.judge.specs.Sets.{member, Nodes};
+
+// The lowest of these nodes that is found by the key, or by its tag alone; 0 if none is.
+fn found_by(edition: Edition, nodes: u32, key: u64) -> usize
+    requires { ⌜ Nodes (guideOf edition) nodes ⌝ }
+    ensures { λ r. ⌜ r ≡ firstNode (guideOf edition) (λ n. member nodes n && picks (map packed (node (guideOf edition) n .selector .codes)) key) ⌝ }
+{
+    let mut likely = nodes;
+    while likely != 0 {
+        let n = first_in(likely);
+        if is_chosen(edition, n, key) {
+            return n;
+        }
+        likely = without_first(likely);
+    }
+    0
+}
 
 // The node that takes the segment after the node `last`, in the innermost open instance that has one; 0 if none has. No two instances have followers
-// of one tag, so of those that have the segment's the lowest that it fits is the one.
+// of one tag, so of those that have the segment's the lowest that it fits is the one. All codes are looked for in one component,
+// which is read once.
 pub(crate) fn node_for(
     y: Syntax,
     edition: Edition,
@@ -27,13 +53,16 @@ pub(crate) fn node_for(
     ensures { λ r. ⌜ r ≡ seek (guideOf edition) (viewOf y (part start end (now (d .entry)))) (levels (guideOf edition) (suc last) last 0) ⌝ }
 {
     let tag = tag_number(d, start, end);
-    let mut likely = followers(edition, last) & tagged(edition, tag);
-    while likely != 0 {
-        let n = first_in(likely);
-        if is_chosen(y, edition, d, start, end, n) {
-            return n;
-        }
-        likely = without_first(likely);
+    let likely = followers(edition, last) & tagged(edition, tag);
+    if likely == 0 {
+        return 0;
     }
-    0
+    let first = first_in(likely);
+    if codes_count(edition, first) == 0 {
+        return first;
+    }
+    let element = element_of(edition, first);
+    let component = component_of(edition, first);
+    let key = key_number(y, d, start, end, element, component);
+    found_by(edition, likely, key)
 }

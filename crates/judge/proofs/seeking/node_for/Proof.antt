@@ -1,94 +1,111 @@
--- `judge::seeking::node_for` meets its contract. The loop's invariant is `Sought`: the answer is found among the nodes that are left. Assumes nothing.
-use Prim.Native.Nat.{ℕ, suc}
-use mathlib.Core.Path.{ap₂}
-use mathlib.Core.List.{List}
+-- `judge::seeking::node_for` meets its contract: one law for each return, of the search through the followers that have the segment's tag. Assumes nothing.
+use Prim.Native.Nat.{suc, _<_}
+use mathlib.Core.Path.{_≡_, refl, sym, _∙_, ap₂}
+use mathlib.Core.Bool.{true}
 use borrow.Author.Needs.{needs}
 use native.Mathlib.Omega.{arith}
+use lib.ListN.{length}
 use lib.Bits.{bitAnd}
 use Rattle.cut.specs.Bytes.{part}
-use Rattle.cut.specs.declared.service.Syntax.{Syntax}
+use Rattle.guide.specs.Nodes.{node}
 use Rattle.guide.specs.Placing.{levels, seek}
 use Rattle.guide.specs.Views.{viewOf}
-use Rattle.guide.specs.declared.edition.Edition.{Edition}
 use Rattle.guide.specs.Editions.{guideOf}
-use Rattle.judge.proofs.Members.{rest-less}
-use Rattle.judge.proofs.Sought.{Sought, sought-out, sought-inside, sought-found, sought-next}
-use Rattle.judge.proofs.Following.{hasCode, seek-begins}
+use Rattle.judge.specs.Sets.{Nodes, followersOf, taggedOf}
+use Rattle.judge.proofs.Matches.{chosen-any}
+use Rattle.judge.proofs.Sought.{Sought, sought-out, sought-inside, sought-found}
+use Rattle.judge.proofs.Following.{hasCode, seek-begins, seek-keyed}
 use Rattle.judge.proofs.seeking.node_for.Statement.{statement}
 use Rattle.judge.proofs.seeking.node_for.Tie as tie
 
-abbrev answer : Syntax → Edition → List ℕ → ℕ → ℕ → ℕ → ℕ
-answer y edition d start end last = seek (guideOf edition) (viewOf y (part start end d)) (levels (guideOf edition) (suc last) last 0)
+-- the set through which is sought
+both
+    : (c : tie.After-tagged)
+    → let asked = c .before .before in
+    let a = asked .before .before .args in
+    bitAnd (c .before .followers .result) (c .tagged .result) ≡ bitAnd (followersOf (guideOf (a .edition)) (a .last)) (taggedOf (guideOf (a .edition)) (asked .tag-number .result))
+both c = ap₂ bitAnd (c .before .followers .ensures) (c .tagged .ensures)
 
-abbrev Inv-loop : tie.InvT-loop
-Inv-loop y edition d start end last tag likely₀ likely =
-    Sought (guideOf edition) (hasCode edition (viewOf y (part start end d))) (answer y edition d start end last) likely
-
-abbrev μ-loop : tie.MeasureT-loop
-μ-loop y edition d start end last tag likely₀ likely = likely
-
-tag-number-requires : tie.Need-tag-number-requires Inv-loop μ-loop
-tag-number-requires c κs = search needs
-
-followers-requires : tie.Need-followers-requires Inv-loop μ-loop
-followers-requires c κs = search needs
-
-tagged-requires : tie.Need-tagged-requires Inv-loop μ-loop
-tagged-requires c κs = search needs
-
-loop-holds : tie.Need-loop-holds Inv-loop μ-loop
-loop-holds c =
+begun
+    : (c : tie.After-tagged)
+    → let a = c .before .before .before .before .args in
+    let v = viewOf (a .y) (part (a .start) (a .end) (a .d .now)) in
+    Sought (guideOf (a .edition)) (hasCode (a .edition) v) (seek (guideOf (a .edition)) v (levels (guideOf (a .edition)) (suc (a .last)) (a .last) 0))
+    (bitAnd (c .before .followers .result) (c .tagged .result))
+begun c =
     let asked = c .before .before in
     let a = asked .before .before .args in
-    seek-begins (a .edition) (a .y) (a .d .now) (a .start) (a .end) (λ i. omega (arith, asked .before .shared-slice-known .given i)) _ (asked .tag-number .ensures) (a .last) _
-    (ap₂ bitAnd (c .before .followers .ensures) (c .tagged .ensures))
+    seek-begins (a .edition) (a .y) (a .d .now) (a .start) (a .end) (λ i. omega (arith, asked .before .shared-slice-known .given i)) _ (asked .tag-number .ensures) (a .last) _ (both c)
 
-first-in-requires : tie.Need-first-in-requires Inv-loop μ-loop
+inside : (c : tie.After-first-in) → c .first-in .result < length (guideOf (c .before .before .before .before .before .before .args .edition))
+inside c = sought-inside (begun (c .before .before)) (c .before .if1 .left) _ (c .first-in .ensures) .1
+
+tag-number-requires : tie.Need-tag-number-requires
+tag-number-requires c κs = search needs
+
+followers-requires : tie.Need-followers-requires
+followers-requires c κs = search needs
+
+tagged-requires : tie.Need-tagged-requires
+tagged-requires c κs = search needs
+
+returns : tie.Need-returns
+returns c = sought-out (begun (c .before)) (c .if1 .taken)
+
+first-in-requires : tie.Need-first-in-requires
 first-in-requires c κs = search needs
 
-is-chosen-requires : tie.Need-is-chosen-requires Inv-loop μ-loop
-is-chosen-requires c κs = sought-inside (c .before .before .loop .inv) (c .before .loop-test .taken) _ (c .first-in .ensures)
+codes-count-requires : tie.Need-codes-count-requires
+codes-count-requires c κs = inside c
 
-returns : tie.Need-returns Inv-loop μ-loop
-returns c =
+returns-2 : tie.Need-returns-2
+returns-2 c =
     let first = c .before .before in
-    let loop = first .before .before in
-    let a = loop .before .before .before .before .before .args in
-    sought-found {found = answer (a .y) (a .edition) (a .d .now) (a .start) (a .end) (a .last)} (loop .loop .inv) (first .before .loop-test .taken) _ (first .first-in .ensures) _ (c .before .is-chosen .ensures) (c .if1 .taken)
+    let some = first .before in
+    let a = some .before .before .before .before .before .args in
+    let codes = node (guideOf (a .edition)) (first .first-in .result) .selector .codes in
+    sought-found (begun (some .before)) (some .if1 .left) _ (first .first-in .ensures) true
+    (chosen-any codes _ (sym (c .before .codes-count .ensures) ∙ c .if2 .taken)) refl
 
-without-first-requires : tie.Need-without-first-requires Inv-loop μ-loop
-without-first-requires c κs = omega (arith, c .before .before .before .loop-test .taken)
+element-of-requires : tie.Need-element-of-requires
+element-of-requires c κs = inside (c .before .before)
 
-loop-less : tie.Need-loop-less Inv-loop μ-loop
-loop-less c =
-    let test = c .before .before .before .before in
-    omega (arith, c .without-first .ensures, rest-less (test .before .loop .likely) (test .loop-test .taken))
+component-of-requires : tie.Need-component-of-requires
+component-of-requires c κs = inside (c .before .before .before)
 
-loop-again : tie.Need-loop-again Inv-loop μ-loop
-loop-again c =
-    let asked = c .before .before in
-    let first = asked .before in
-    let loop = first .before .before in
-    let a = loop .before .before .before .before .before .args in
-    sought-next {found = answer (a .y) (a .edition) (a .d .now) (a .start) (a .end) (a .last)} (loop .loop .inv) (first .before .loop-test .taken) _ (first .first-in .ensures) _ (c .without-first .ensures) _ (asked .is-chosen .ensures) (c .before .if1 .left)
+key-number-requires : tie.Need-key-number-requires
+key-number-requires c κs = search needs
 
-returns-2 : tie.Need-returns-2 Inv-loop μ-loop
-returns-2 c = sought-out (c .before .loop .inv) (c .loop-test .left)
+found-by-requires : tie.Need-found-by-requires
+unfolding Nodes
+found-by-requires c κs = begun (c .before .before .before .before .before .before .before) .inside
+
+returns-3 : tie.Need-returns-3
+returns-3 c =
+    let read = c .before in
+    let second = read .before in
+    let coded = second .before .before in
+    let first = coded .before .before in
+    let told = first .before .before in
+    let asked = told .before .before in
+    let a = asked .before .before .args in
+    seek-keyed (a .edition) (a .y) (a .d .now) (a .start) (a .end) (λ i. omega (arith, asked .before .shared-slice-known .given i)) _ (asked .tag-number .ensures) (a .last) _ (both told)
+    _ _ _ _ _ (inside first) (λ z. coded .if2 .left (coded .before .codes-count .ensures ∙ z)) (second .before .element-of .ensures) (second .component-of .ensures)
+    (read .key-number .ensures) (c .found-by .ensures)
 
 pub node-for-spec : {M : Type 1} → statement M
 node-for-spec =
     tie.close
     (tie.spec
-    Inv-loop
-    μ-loop
     tag-number-requires
     followers-requires
     tagged-requires
-    loop-holds
-    first-in-requires
-    is-chosen-requires
     returns
-    without-first-requires
-    loop-less
-    loop-again
-    returns-2)
+    first-in-requires
+    codes-count-requires
+    returns-2
+    element-of-requires
+    component-of-requires
+    key-number-requires
+    found-by-requires
+    returns-3)
