@@ -32,12 +32,12 @@ use Rattle.judge.proofs.Members.{member-none, nodes-none, both-fit, bot
 use Rattle.judge.proofs.Sought.{Sought, within}
 
 -- no node that can come in an open instance has the tag of one that can come further out
-abbrev apartAt : Guide → Level → List Level → ℕ → ℕ → Bool
-apartAt g l ls n m = implies (someLevel (followsIn g m) ls) (not (eqb (packed (node g n .tag)) (packed (node g m .tag))))
+abbrev apartAt : Guide → List Level → ℕ → ℕ → Bool
+apartAt g ls n m = implies (someLevel (followsIn g m) ls) (not (eqb (packed (node g n .tag)) (packed (node g m .tag))))
 
 unfoldable apart : Guide → List Level → Bool
 apart g [] = true
-apart g (l ∷ ls) = every (λ n. implies (followsIn g n l) (every (apartAt g l ls n) (length g))) (length g) && apart g ls
+apart g (l ∷ ls) = every (λ n. implies (followsIn g n l) (every (apartAt g ls n) (length g))) (length g) && apart g ls
 
 apart-table : (e : Edition) → T (every (λ last. apart (guideOf e) (levels (guideOf e) (suc last) last 0)) (length (guideOf e)))
 unfolding pricat20d pricat20c every apart someLevel levels packed
@@ -78,14 +78,14 @@ module _ (g : Guide) (v : View) (tag : ℕ) (alike : (n : ℕ) → 0 < n → n <
   seek-lowest (l ∷ ls) h = go _ (searched (fitsIn g v (l .node) (l .reached)) 1 (length g - 1)) (seek-lowest ls (and-right (every clear (length g)) (apart g ls) h))
     where
       clear : ℕ → Bool
-      clear n = implies (followsIn g n l) (every (apartAt g l ls n) (length g))
+      clear n = implies (followsIn g n l) (every (apartAt g ls n) (length g))
 
       -- what comes here has another tag than what comes further out
       other : (n m : ℕ) → 0 < n → n < length g → 0 < m → m < length g → T (followsIn g n l && matches (node g n) v) → T (someLevel (followsIn g m) ls) → T (matches (node g m) v) → ⊥
       other n m a b c d p q r =
           let t = every-at clear (length g) n (and-left (every clear (length g)) (apart g ls) h) b in
           let u = implied (followsIn g n l) _ t (and-left (followsIn g n l) (matches (node g n) v) p) in
-          let w = implied (someLevel (followsIn g m) ls) _ (every-at (apartAt g l ls n) (length g) m u d) q in
+          let w = implied (someLevel (followsIn g m) ls) _ (every-at (apartAt g ls n) (length g) m u d) q in
           T-not (eqb (packed (node g n .tag)) (packed (node g m .tag))) w
           (T-true (eq-eqb _ _ (alike n a b (and-right (followsIn g n l) _ p) ∙ sym (alike m c d r))))
 

@@ -57,7 +57,7 @@ dueAfter g last = nodesThat g (λ m. someLevel (λ l. dueOf g (l .node) m) (leve
 unfoldable pub insideOf : Guide → ℕ → ℕ → Bool
 insideOf g p q = not (eqb p q) && someLevel (λ l. eqb (l .node) q) (levels g (suc p) p 0)
 
--- the nodes that node n must come behind: under its parent those of an earlier counter, and all that are inside another child of it
+-- the nodes that node n must come behind: under its parent those of an earlier counter, and all that are inside a child of its parent
 unfoldable pub precedingOf : Guide → ℕ → ℕ
 precedingOf g n =
     nodesThat g

@@ -79,8 +79,8 @@ fn missing_for(edition: Edition, counts: &[u32; 96], n: usize, level: usize) -> 
     missing_for(edition, counts, n, parent_of(edition, level))
 }
 
-// The lowest missing node when n comes after the node `last`, or 0. Most often none is: a gap is a node that n must come behind and that may be missed, and
-// only where there is one is it looked for level by level which to name.
+// The lowest missing node when n comes after the node `last`, or 0. The levels are walked only where one of the nodes that n must come behind is missed, so
+// once in a message at most.
 pub(crate) fn missing_node(edition: Edition, counts: &[u32; 96], n: usize, last: usize) -> usize
     requires { ⌜ (n < length (guideOf edition)) × (last < length (guideOf edition)) ⌝ }
     requires { ⌜ someLevel (followsIn (guideOf edition) n) (levels (guideOf edition) (suc last) last 0) ≡ true ⌝ }
