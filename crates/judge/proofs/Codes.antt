@@ -1,16 +1,18 @@
 -- Laws of the codes of all rows: where a row's own stand among them, and the search through a part.
 use Prim.Native.Nat.{ℕ, zero, suc, _+_, _-_, _≤_, _<_}
 use mathlib.Core.Path.{_≡_, sym, ap}
-use mathlib.Core.Bool.{true, false}
+use mathlib.Core.Bool.{Bool, true, false, _&&_}
 use mathlib.Core.List.{List, [], _∷_, _++_, map}
 use native.Mathlib.Omega.{arith}
 use lib.ListN.{length, getD, take, drop, length-append, length-map}
 use lib.Seq.{take-at, drop-append-add}
-use lib.Dec.{lit≤}
-use borrow.Author.Tests.{eq-eqb, ne-eqb}
+use lib.Dec.{T, eqb, ltb, eqb→eq, lit≤}
+use borrow.Author.Tests.{eq-eqb, ne-eqb, lt-ltb}
 use Rattle.cut.specs.Bytes.{part}
 use Rattle.cut.proofs.Parts.{part-none, part-next}
 use Rattle.guide.specs.Nodes.{Guide, node}
+use Rattle.guide.specs.Checks.{every, implies}
+use Rattle.guide.proofs.Basics.{T-true, every-at, implied, and-left, and-right, and-both}
 use Rattle.guide.specs.Pricat.{pricat20d, pricat20c}
 use Rattle.guide.specs.declared.edition.Edition.{Edition}
 use Rattle.guide.specs.declared.edition.Edition.the-variants.{D, C}
@@ -66,3 +68,25 @@ module _ (codes : List ℕ) (key j end : ℕ) where
   pub search-out : end ≤ j → holds key (part j end codes) ≡ false
   unfolding holds
   search-out h = rw (part-none codes j end h)
+
+-- all rows that have codes have them in one component
+abbrev oneComponent : Guide → ℕ → ℕ → Bool
+oneComponent g n m =
+    implies (ltb 0 (many g n) && ltb 0 (many g m))
+    (eqb (node g n .selector .element) (node g m .selector .element) && eqb (node g n .selector .component) (node g m .selector .component))
+
+one-table : (e : Edition) → T (every (λ n. every (oneComponent (guideOf e) n) (length (guideOf e))) (length (guideOf e)))
+unfolding pricat20d pricat20c every
+one-table D = tt
+one-table C = tt
+
+pub one-component
+    : (e : Edition) (n m : ℕ) → n < length (guideOf e) → m < length (guideOf e) → (many (guideOf e) n ≡ 0 → ⊥) → (many (guideOf e) m ≡ 0 → ⊥)
+    → (node (guideOf e) n .selector .element ≡ node (guideOf e) m .selector .element)
+    × (node (guideOf e) n .selector .component ≡ node (guideOf e) m .selector .component)
+one-component e n m a b p q =
+    let one = every-at (oneComponent (guideOf e) n) (length (guideOf e)) m (every-at (λ x. every (oneComponent (guideOf e) x) (length (guideOf e))) (length (guideOf e)) n (one-table e) a) b in
+    let some = and-both (ltb 0 (many (guideOf e) n)) _ (T-true (lt-ltb 0 (many (guideOf e) n) (omega (arith, p)))) (T-true (lt-ltb 0 (many (guideOf e) m) (omega (arith, q)))) in
+    let k = implied (ltb 0 (many (guideOf e) n) && ltb 0 (many (guideOf e) m)) _ one some in
+    let same = eqb (node (guideOf e) n .selector .element) (node (guideOf e) m .selector .element) in
+    (eqb→eq _ _ (and-left same _ k), eqb→eq _ _ (and-right same _ k))

@@ -1,6 +1,6 @@
 -- Tags and codes as numbers: what the table holds of them, so that two are compared in one step. No public promise cites these.
 use Prim.Native.Nat.{ℕ}
-use mathlib.Core.Bool.{Bool, false, _||_}
+use mathlib.Core.Bool.{Bool, true, false, _||_}
 use mathlib.Core.List.{List, [], _∷_}
 use lib.Dec.{eqb}
 unfoldable pub use Rattle.element.specs.Words.{packed, wordOf}
@@ -10,3 +10,8 @@ pub use Rattle.element.specs.Words.{Bytes}
 unfoldable pub holds : ℕ → List ℕ → Bool
 holds k [] = false
 holds k (x ∷ xs) = eqb k x || holds k xs
+
+-- the same, where none is any: `chosen`
+unfoldable pub picks : List ℕ → ℕ → Bool
+picks [] k = true
+picks (x ∷ xs) k = holds k (x ∷ xs)
