@@ -205,19 +205,8 @@ front-bytes (suc n) w =
     ∙ and-block 8 (w / 256) (256 ^ n - 1) (w % 256) 255 (omega arith) (omega arith)
     ∙ omega (arith, front-bytes n (w / 256), and-mask (w % 256) 8)
 
-number-none : (n : ℕ) (x : ℕ → ℕ) → number n x ≡ 0 → (k : ℕ) → k < n → x k ≡ 0
-unfolding number
-number-none zero x e k l = absurd (omega arith)
-number-none (suc n) x e zero l = omega arith
-number-none (suc n) x e (suc k) l = number-none n (λ k. x (suc k)) (omega arith) k (omega arith)
-
--- none of the first n is flagged
-pub front-none : (n : ℕ) (t : ℕ → Bool) → bitAnd (flags t) (256 ^ n - 1) ≡ 0 → n ≤ 8 → (k : ℕ) → k < n → t k ≡ false
-unfolding flags
-front-none n t e h k l =
-    flag-eq (t k) false
-    (sym (number-byte 8 (λ k. flag (t k)) (λ k. flag-byte (t k)) k (omega arith))
-    ∙ number-none n (byteOf (flags t)) (sym (front-bytes n (flags t)) ∙ e) k l)
+pub front-byte : (n w k : ℕ) → k < n → byteOf (bitAnd w (256 ^ n - 1)) k ≡ byteOf w k
+front-byte n w k l = ap (λ (v : ℕ). byteOf v k) (front-bytes n w) ∙ number-byte n (byteOf w) (byte-fits w) k l
 
 -- ---- bytes that are alike
 
@@ -263,6 +252,34 @@ alike-flags w b x h p =
     let s = eight-add (eight-and q low) low (λ k. omega (arith, and-le-r (bitXor (x k) b) 127)) in
     flags-of (eight-xor (eight-and (eight-or s q) high) high) (λ k. eqb (x k) b)
     (λ k. alike-byte (bitXor (x k) b) (q .bytes k) ∙ ap flag (xor-none (x k) b))
+
+-- ---- no byte that is alike
+
+split-byte : (v : ℕ) → v < 256 → bitAnd v 127 + bitAnd v 128 ≡ v
+unfolding every
+split-byte v h = eqb→eq (bitAnd v 127 + bitAnd v 128) v (every-at (λ v. eqb (bitAnd v 127 + bitAnd v 128) v) 256 v tt h)
+
+-- where no byte has its high bit, each is its low part
+low-only : (r : ℕ) → r < 2 ^ 64 → bitAnd r 0x8080_8080_8080_8080 ≡ 0 → bitAnd r 0x7f7f_7f7f_7f7f_7f7f ≡ r
+low-only r h z =
+    let w = eight-word r h in
+    let split : (k : ℕ) → bitAnd (byteOf r k) 127 + bitAnd (byteOf r k) 128 ≡ byteOf r k = λ k. split-byte (byteOf r k) (byte-fits r k) in
+    let s = eight-add (eight-and w low) (eight-and w high) (λ k. omega (arith, split k, byte-fits r k)) in
+    let e : bitAnd r 0x7f7f_7f7f_7f7f_7f7f + bitAnd r 0x8080_8080_8080_8080 ≡ r = s .worth ∙ (λ i. number 8 (λ k. split k i)) ∙ sym (w .worth) in
+    omega arith
+
+-- a difference of 0 less 1 has its high bit, so that where none has it after each lost 1, none of the eight is b
+pub none-alike
+    : (w b r : ℕ) → w < 2 ^ 64 → b < 256 → r < 2 ^ 64 → (r + 0x0101_0101_0101_0101) % 2 ^ 64 ≡ apartBy w b → bitAnd r 0x8080_8080_8080_8080 ≡ 0
+    → (k : ℕ) → k < 8 → byteOf w k ≡ b → ⊥
+none-alike w b r h l m e z k n q =
+    let p = low-only r m z in
+    let s = eight-add (eight-and (eight-word r m) low) (eight-each 1 (omega arith)) (λ k. omega (arith, and-le-r (byteOf r k) 127)) in
+    let d = eight-xor (eight-word w h) (eight-each b l) in
+    let g : apartBy w b ≡ bitAnd r 0x7f7f_7f7f_7f7f_7f7f + 0x0101_0101_0101_0101 * 1 = omega (arith, and-le-r r 0x7f7f_7f7f_7f7f_7f7f) in
+    let t = number-same 8 _ _ (d .bytes) (s .bytes) (sym (d .worth) ∙ g ∙ s .worth) k n in
+    let o : bitXor (byteOf w k) b ≡ 0 = rw q (xor-self b) in
+    omega arith
 
 -- ---- the first flag
 
