@@ -8,3 +8,4 @@ pub mod Searching
 pub mod Joined
 pub mod Released
 pub mod Whole
+pub mod Walking

@@ -3,7 +3,7 @@ use crate::limit::limit_of;
 use cut::Syntax;
 ghost use mathlib.Core.Path.{_≡_};
 ghost use mathlib.Core.Bool.{_&&_};
-ghost use Prim.Native.Nat.{_≤_};
+ghost use Prim.Native.Nat.{_≤_, min};
 ghost use lib.ListN.{length};
 ghost use Rattle.cut.specs.Bytes.{part};
 ghost use Rattle.cut.specs.Eights.{Flagged};
@@ -33,18 +33,25 @@ pub fn allowed(d: &[u8], a: usize, e: usize) -> bool
     if d.len() < 8 {
         return rest_allowed(d, a, end);
     }
-    let last = d.len() - 8;
+    let stop = lesser(end, d.len() - 7);
     let mut i = a;
-    while i < end {
-        if last < i {
-            return rest_allowed(d, i, end);
-        }
+    while i < stop {
         if allowed_in(cut::eight_at(d, i)) != ALL {
             return rest_allowed(d, i, end);
         }
         i += 8;
     }
-    true
+    rest_allowed(d, i, end)
+}
+
+// One bound for the loop in `allowed`, where both the part and the places at which eight bytes stand come to an end.
+fn lesser(a: usize, b: usize) -> usize
+    ensures { λ r. ⌜ r ≡ min a b ⌝ }
+{
+    if a < b {
+        return a;
+    }
+    b
 }
 
 // Which of eight bytes are allowed: a byte without its high bit is 32 or more, and 127 only with that bit. No sum reaches the next byte.

@@ -1,10 +1,12 @@
 // The part of the delivery that is one component of a segment.
-use crate::cursor::Cursor;
-use crate::cursor::Visit;
+use crate::limit::limit_of;
+use crate::scan::component_from;
 use cut::Syntax;
 ghost use mathlib.Core.Path.{_≡_};
-ghost use mathlib.Core.Bool.{_&&_};
-ghost use lib.Dec.{eqb};
+ghost use mathlib.Core.Bool.{not, _&&_};
+ghost use Prim.Native.Nat.{_≤_};
+ghost use lib.ListN.{length, getD};
+ghost use lib.Dec.{eqb, ltb};
 ghost use Rattle.element.specs.Components.{componentAt};
 
 pub struct Span {
@@ -21,6 +23,17 @@ fn numbered(e: usize, c: usize, element: usize, component: usize) -> bool
     false
 }
 
+// Whether a component that ends at the place `stop` has another one behind it in its segment.
+fn goes_on(y: Syntax, d: &[u8], stop: usize, limit: usize) -> bool
+    requires { ⌜ limit ≤ length (now d) ⌝ }
+    ensures { λ r. ⌜ r ≡ (ltb stop limit && not (eqb (getD (now (d .entry)) stop 0) (y .terminator))) ⌝ }
+{
+    if limit <= stop {
+        return false;
+    }
+    d[stop] != y.terminator
+}
+
 // Component `component` of element `element`, both counted from 0, where element 0 is the tag; a missing one is the empty part at the
 // segment's start.
 pub fn component_at(
@@ -33,25 +46,31 @@ pub fn component_at(
 ) -> Span
     ensures { λ r. ⌜ r ≡ componentAt y (now (d .entry)) start end element component ⌝ }
 {
-    let mut cursor = Cursor::new(d, start, end);
+    let missing = Span { start, end: start };
+    let limit = limit_of(d, end);
+    if limit <= start {
+        return missing;
+    }
+    let mut e = 0;
+    let mut c = 0;
+    let mut i = start;
     loop {
-        let visit = cursor.step(y, d);
-        let Visit::At {
-            element: e,
-            component: c,
-            start: from,
-            end: to,
-            next,
-        } = visit
-        else {
-            return Span { start, end: start };
-        };
+        let stop = component_from(y, d, i, limit).end;
         if numbered(e, c, element, component) {
             return Span {
-                start: from,
-                end: to,
+                start: i,
+                end: stop,
             };
         }
-        cursor = next;
+        if !goes_on(y, d, stop, limit) {
+            return missing;
+        }
+        if d[stop] == y.element {
+            e += 1;
+            c = 0;
+        } else {
+            c += 1;
+        }
+        i = stop + 1;
     }
 }

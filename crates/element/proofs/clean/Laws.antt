@@ -38,7 +38,7 @@ module _ (x : ℕ) where
 
 -- whether all bytes are allowed, where b says it of those before the place i
 module _ (d : List ℕ) (i e : ℕ) where
-  pub allowed-none : e ≤ i → allowedBytes (part i e d) ≡ true
+  allowed-none : e ≤ i → allowedBytes (part i e d) ≡ true
   unfolding allowedBytes
   allowed-none h = rw (part-none d i e h)
 

@@ -7,15 +7,15 @@ use lib.ListN.{length}
 use Rattle.cut.specs.Bytes.{part}
 use Rattle.element.specs.Clean.{allowedBytes}
 use Rattle.element.proofs.Limits.{limited}
-use Rattle.element.proofs.clean.Laws.{eight-allowed, allowed-none}
+use Rattle.element.proofs.clean.Laws.{eight-allowed}
 use Rattle.element.proofs.clean.allowed.Statement.{statement}
 use Rattle.element.proofs.clean.allowed.Tie as tie
 
 abbrev Inv-loop : tie.InvT-loop
-Inv-loop d a e end last i₀ i = (end ≤ length d) × (allowedBytes (part i end d) ≡ allowedBytes (part a e d))
+Inv-loop d a e end stop i₀ i = (end ≤ length d) × (allowedBytes (part i end d) ≡ allowedBytes (part a e d))
 
 abbrev μ-loop : tie.MeasureT-loop
-μ-loop d a e end last i₀ i = end - i
+μ-loop d a e end stop i₀ i = stop - i
 
 limit-of-requires : tie.Need-limit-of-requires Inv-loop μ-loop
 limit-of-requires c κs = search needs
@@ -26,17 +26,14 @@ rest-allowed-requires c κs = omega arith
 returns : tie.Need-returns Inv-loop μ-loop
 returns c = c .rest-allowed .ensures ∙ ap allowedBytes (limited _ _ _ _ (c .before .before .limit-of .ensures))
 
-sub-last : tie.Need-sub-last Inv-loop μ-loop
-sub-last c = search needs
+sub-lesser : tie.Need-sub-lesser Inv-loop μ-loop
+sub-lesser c = search needs
+
+lesser-requires : tie.Need-lesser-requires Inv-loop μ-loop
+lesser-requires c κs = search needs
 
 loop-holds : tie.Need-loop-holds Inv-loop μ-loop
-loop-holds c = (omega arith, ap allowedBytes (limited _ _ _ _ (c .before .limit-of .ensures)))
-
-rest-allowed-requires-2 : tie.Need-rest-allowed-requires-2 Inv-loop μ-loop
-rest-allowed-requires-2 c κs = c .before .before .loop .inv .0
-
-returns-2 : tie.Need-returns-2 Inv-loop μ-loop
-returns-2 c = c .rest-allowed2 .ensures ∙ c .before .before .before .loop .inv .1
+loop-holds c = (omega arith, ap allowedBytes (limited _ _ _ _ (c .before .before .limit-of .ensures)))
 
 eight-at-requires : tie.Need-eight-at-requires Inv-loop μ-loop
 eight-at-requires c κs = search needs
@@ -44,11 +41,11 @@ eight-at-requires c κs = search needs
 allowed-in-requires : tie.Need-allowed-in-requires Inv-loop μ-loop
 allowed-in-requires c κs = search needs
 
-rest-allowed-requires-3 : tie.Need-rest-allowed-requires-3 Inv-loop μ-loop
-rest-allowed-requires-3 c κs = c .before .before .before .before .before .loop .inv .0
+rest-allowed-requires-2 : tie.Need-rest-allowed-requires-2 Inv-loop μ-loop
+rest-allowed-requires-2 c κs = c .before .before .before .before .loop .inv .0
 
-returns-3 : tie.Need-returns-3 Inv-loop μ-loop
-returns-3 c = c .rest-allowed3 .ensures ∙ c .before .before .before .before .before .before .loop .inv .1
+returns-2 : tie.Need-returns-2 Inv-loop μ-loop
+returns-2 c = c .rest-allowed2 .ensures ∙ c .before .before .before .before .before .loop .inv .1
 
 add-i : tie.Need-add-i Inv-loop μ-loop
 add-i c = search needs
@@ -59,17 +56,20 @@ loop-less c = search needs
 loop-again : tie.Need-loop-again Inv-loop μ-loop
 loop-again c =
     let b = c .before in
-    let l = b .before .before .before .before in
-    let known = l .before .before .before in (
+    let l = b .before .before .before in
+    let known = l .before .before .before .before in (
       l .loop .inv .0,
       sym
           (eight-allowed (known .before .args .d .now) _ (l .loop .inv .0) (l .loop .i) _ _ (omega arith) (λ k. omega (arith, known .shared-slice-known .given k))
-          (b .before .eight-at .ensures) (b .allowed-in .ensures) (c .if3 .left))
+          (b .before .eight-at .ensures) (b .allowed-in .ensures) (c .if2 .left))
           ∙ l .loop .inv .1,
     )
 
-returns-4 : tie.Need-returns-4 Inv-loop μ-loop
-returns-4 c = sym (allowed-none _ _ _ (c .loop-test .left)) ∙ c .before .loop .inv .1
+rest-allowed-requires-3 : tie.Need-rest-allowed-requires-3 Inv-loop μ-loop
+rest-allowed-requires-3 c κs = c .before .loop .inv .0
+
+returns-3 : tie.Need-returns-3 Inv-loop μ-loop
+returns-3 c = c .rest-allowed3 .ensures ∙ c .before .before .loop .inv .1
 
 pub allowed-spec : {M : Type 1} → statement M
 allowed-spec =
@@ -80,15 +80,15 @@ allowed-spec =
     limit-of-requires
     rest-allowed-requires
     returns
-    sub-last
+    sub-lesser
+    lesser-requires
     loop-holds
-    rest-allowed-requires-2
-    returns-2
     eight-at-requires
     allowed-in-requires
-    rest-allowed-requires-3
-    returns-3
+    rest-allowed-requires-2
+    returns-2
     add-i
     loop-less
     loop-again
-    returns-4)
+    rest-allowed-requires-3
+    returns-3)

@@ -1,63 +1,98 @@
--- `element::components::component_at` meets its contract. The loop's invariant: the search among what is left to the cursor gives the answer.
--- Assumes nothing.
-use mathlib.Core.Path.{_≡_, sym, _∙_}
+-- `element::components::component_at` meets its contract. The loop's invariant is `Walking`: the search among what is left gives the answer.
+use Prim.Native.Nat.{_-_, _≤_, _<_}
+use mathlib.Core.Path.{sym, _∙_}
+use mathlib.Core.Logic.{⊎-elim}
+use native.Mathlib.Omega.{arith}
 use borrow.Author.Needs.{needs}
-use lib.ListN.{length}
-use Rattle.element.specs.Components.{spanIn, componentAt}
-use Rattle.element.specs.Cursors.{rest}
-use Rattle.element.proofs.cursor.Visits.{Visited, visited, nothing-left}
-use Rattle.element.proofs.components.Searching.{search-begins, search-out, search-found, search-next, step-less}
+use borrow.Author.Tests.{not-true, not-false}
+use Rattle.element.proofs.components.Walking.{Walking, walk-none, walk-start, walk-found, walk-out, walk-inside, walk-element, walk-component}
+use Rattle.element.proofs.scan.Extents.{extent-end}
 use Rattle.element.proofs.components.component_at.Statement.{statement}
 use Rattle.element.proofs.components.component_at.Tie as tie
 
 abbrev Inv-loop : tie.InvT-loop
-Inv-loop y d start end element component cursor₀ cursor = spanIn start element component (rest y d cursor) ≡ componentAt y d start end element component
+Inv-loop y d start end element component missing limit e₀ c₀ i₀ e c i = Walking y d start end element component limit e c i
 
 abbrev μ-loop : tie.MeasureT-loop
-μ-loop y d start end element component cursor₀ cursor = length (rest y d cursor)
+μ-loop y d start end element component missing limit e₀ c₀ i₀ e c i = limit - i
 
-took
-    : (c : tie.After-known-told Inv-loop μ-loop)
-    → Visited (c .before .before .before .before .before .before .before .args .y) (c .before .before .before .before .before .before .before .args .d .now) (c .before .before .before .before .loop .cursor)
-    (c .before .visit .given .0 .0) (c .before .visit .given .0 .1 .0) (c .before .visit .given .0 .1 .1 .0) (c .before .visit .given .0 .1 .1 .1 .0)
-    (c .before .visit .given .0 .1 .1 .1 .1 .0)
-took c = visited _ _ _ _ _ _ _ _ (sym (c .before .before .before .step .ensures) ∙ c .before .visit .given .1)
+-- where another component follows, its separator stands in the segment
+inside
+    : (c : tie.Else3 Inv-loop μ-loop)
+    → let f = c .before .before .before .before in
+    (f .before .loop .i ≤ f .component-from .result .end) × (f .component-from .result .end < f .before .before .before .limit-of .result)
+inside c =
+    let b = c .before .before in
+    let f = b .before .before in
+    let k =
+    walk-inside _ _ _ _ _ _ _ _ _ _ (f .before .loop .inv) _ (extent-end _ _ _ _ _ (f .component-from .ensures)) (sym (b .before .numbered .ensures) ∙ b .if2 .left)
+    (sym (c .before .goes-on .ensures) ∙ not-false _ (c .if3 .left)) in
+    (k .0, k .1)
 
-new-requires : tie.Need-new-requires Inv-loop μ-loop
-new-requires c κs = search needs
-
-loop-holds : tie.Need-loop-holds Inv-loop μ-loop
-loop-holds c = search-begins _ _ _ _ _ _ _ (c .new .ensures)
-
-step-requires : tie.Need-step-requires Inv-loop μ-loop
-step-requires c κs = search needs
-
-enum-known-visit : tie.Need-enum-known-visit Inv-loop μ-loop
-enum-known-visit c = search needs
-
-enum-told : tie.Need-enum-told Inv-loop μ-loop
-enum-told c = search needs
+limit-of-requires : tie.Need-limit-of-requires Inv-loop μ-loop
+limit-of-requires c κs = search needs
 
 returns : tie.Need-returns Inv-loop μ-loop
-returns c =
-    let l = nothing-left _ _ _ (sym (c .before .before .step .ensures) ∙ c .enum-told .given .1) in
-    sym (search-out _ _ _ _ _ _ l) ∙ c .before .before .before .loop .inv
+returns c = walk-none _ _ _ _ _ _ _ (c .before .limit-of .ensures) (omega arith)
+
+loop-holds : tie.Need-loop-holds Inv-loop μ-loop
+loop-holds c = walk-start _ _ _ _ _ _ _ (c .before .limit-of .ensures) (omega arith)
+
+component-from-requires : tie.Need-component-from-requires Inv-loop μ-loop
+component-from-requires c κs = search needs
 
 numbered-requires : tie.Need-numbered-requires Inv-loop μ-loop
 numbered-requires c κs = search needs
 
 returns-2 : tie.Need-returns-2 Inv-loop μ-loop
 returns-2 c =
-    let t = c .before .before in
-    sym (search-found _ _ _ _ _ _ _ _ _ _ _ (took t) (sym (c .before .numbered .ensures) ∙ c .if1 .taken)) ∙ t .before .before .before .before .loop .inv
+    let f = c .before .before in
+    walk-found _ _ _ _ _ _ _ _ _ _ (f .before .loop .inv) _ (extent-end _ _ _ _ _ (f .component-from .ensures)) (sym (c .before .numbered .ensures) ∙ c .if2 .taken)
+
+goes-on-requires : tie.Need-goes-on-requires Inv-loop μ-loop
+goes-on-requires c κs = omega (arith, c .before .before .before .before .before .limit-of .ensures)
+
+returns-3 : tie.Need-returns-3 Inv-loop μ-loop
+returns-3 c =
+    let b = c .before .before in
+    let f = b .before .before in
+    walk-out _ _ _ _ _ _ _ _ _ _ (f .before .loop .inv) _ (extent-end _ _ _ _ _ (f .component-from .ensures)) (sym (b .before .numbered .ensures) ∙ b .if2 .left)
+    (sym (c .before .goes-on .ensures) ∙ not-true _ (c .if3 .taken))
+
+shared-slice-read-if4 : tie.Need-shared-slice-read-if4 Inv-loop μ-loop
+shared-slice-read-if4 c = omega (arith, inside (c .before), c .before .before .before .before .before .before .before .before .limit-of .ensures)
+
+add-e : tie.Need-add-e Inv-loop μ-loop
+add-e c =
+    let l = c .before .before .before .before .before .before .before .before in
+    omega (arith, inside (c .before .before .before), l .loop .inv .stands, l .before .before .limit-of .ensures)
+
+add-c : tie.Need-add-c Inv-loop μ-loop
+add-c c =
+    let l = c .before .before .before .before .before .before .before .before in
+    omega (arith, inside (c .before .before .before), l .loop .inv .stands, l .before .before .limit-of .ensures)
+
+add-i : tie.Need-add-i Inv-loop μ-loop
+add-i c =
+    let l = c .before .before .before .before .before .before .before .before in
+    omega (arith, inside (c .before .before .before), l .before .before .limit-of .ensures)
 
 loop-less : tie.Need-loop-less Inv-loop μ-loop
-loop-less c = step-less _ _ _ _ _ _ _ _ (took (c .before .before))
+loop-less c = omega (arith, inside (c .before .before .before))
 
 loop-again : tie.Need-loop-again Inv-loop μ-loop
 loop-again c =
-    let t = c .before .before in
-    sym (search-next _ _ _ _ _ _ _ _ _ _ _ (took t) (sym (c .before .numbered .ensures) ∙ c .if1 .left)) ∙ t .before .before .before .before .loop .inv
+    let t = c .before .before .before in
+    let b = t .before .before in
+    let f = b .before .before in
+    let w = f .before .loop .inv in
+    let s = extent-end _ _ _ _ _ (f .component-from .ensures) in
+    let n = sym (b .before .numbered .ensures) ∙ b .if2 .left in
+    let g = sym (t .before .goes-on .ensures) ∙ not-false _ (t .if3 .left) in
+    ⊎-elim
+    (λ a. walk-element _ _ _ _ _ _ _ _ _ _ w _ s n g _ _ (a .0 .taken) (a .1) (a .2))
+    (λ a. walk-component _ _ _ _ _ _ _ _ _ _ w _ s n g _ _ (a .0 .left) (a .1) (a .2))
+    (c .if4 .came)
 
 pub component-at-spec : {M : Type 1} → statement M
 component-at-spec =
@@ -65,13 +100,17 @@ component-at-spec =
     (tie.spec
     Inv-loop
     μ-loop
-    new-requires
-    loop-holds
-    step-requires
-    enum-known-visit
-    enum-told
+    limit-of-requires
     returns
+    loop-holds
+    component-from-requires
     numbered-requires
     returns-2
+    goes-on-requires
+    returns-3
+    shared-slice-read-if4
+    add-e
+    add-c
+    add-i
     loop-less
     loop-again)
