@@ -27,6 +27,8 @@ pub use Rattle.element.proofs.cursor.Walks.{walk-components}
 unfoldable pub use Rattle.element.proofs.cursor.Walks.{walk, given}
 -- the component that `component_from` finds: where it ends, what stands there, and what comes after it; and its bytes without release marks
 pub use Rattle.element.proofs.scan.Extents.{extent-ended, extent-length}
+-- it ends at the first service character, where this stands in the part and is not the release character
+pub use Rattle.element.proofs.scan.Extents.{extent-stop}
 pub use Rattle.element.proofs.scan.Stopping.{from, Ended}
 pub use Rattle.element.proofs.scan.Splits.{Last, Stop}
 -- what a byte ends, by the tests on it

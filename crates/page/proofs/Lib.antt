@@ -6,3 +6,5 @@ pub mod KeyCodes
 pub mod PageFaults
 pub mod PageMoods
 pub mod PageSteps
+pub mod PageResults
+pub mod PageScans

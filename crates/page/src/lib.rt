@@ -1,8 +1,12 @@
-// The page check: the first fault of a segment against the page of its node.
+// The page check: the first fault of a segment against the page of its node, and where the components stand that a message's rules ask for.
 mod coded;
+mod examining;
 mod formed;
 mod pages;
+mod places;
 mod rows;
+mod scan;
 mod words;
 
-pub use pages::page_fault;
+pub use examining::examined;
+pub use places::Examined;

@@ -1,12 +1,13 @@
 // The first fault of a segment against its page, in one pass over its components from left to right. The pass keeps plain numbers: the place of the component
-// that comes next, its element's number, its own, the word of its element, and the mood: 0 idle, 1 asking, 2 owing, 3 in the tag, of which nothing is asked.
+// that comes next, its element's number, its own, the word of its element, the mood: 0 idle, 1 asking, 2 owing, 3 in the tag, of which nothing is asked; and
+// what the scan has tested from this component on.
 use crate::formed::is_must;
 use crate::formed::text_fault;
 use crate::rows::element_behind;
 use crate::rows::row_at;
+use crate::scan::component_on;
 use crate::words::node_word;
 use cut::Syntax;
-use element::component_from;
 use element::limit_of;
 use guide::Edition;
 ghost use Prim.Native.Nat.{_≤_, _<_};
@@ -119,8 +120,10 @@ fn pass(y: Syntax, d: &[u8], start: usize, limit: usize, page: usize) -> u32
     let mut c = 0;
     let mut word = 0;
     let mut mood = 3;
+    let mut next = start;
+    let mut left = 0;
     loop {
-        let p = component_from(y, d, a, limit);
+        let p = component_on(y, d, a, limit, next, left);
         let row = row_at(word, c);
         let fault = known_fault(y, d, a, p.end, p.length, row, mood);
         if 0 < fault {
@@ -128,14 +131,16 @@ fn pass(y: Syntax, d: &[u8], start: usize, limit: usize, page: usize) -> u32
         }
         mood = mood_after(p.length, row, mood);
         a = p.end + 1;
+        next = p.next;
+        left = p.left;
         let stop = stop_at(y, d, p.end, limit);
         if stop == 2 {
             c += 1;
             continue;
         }
-        let left = ending(word, c, mood);
-        if 0 < left {
-            return left;
+        let lack = ending(word, c, mood);
+        if 0 < lack {
+            return lack;
         }
         if stop == 0 {
             return absent(page, e);
@@ -148,7 +153,7 @@ fn pass(y: Syntax, d: &[u8], start: usize, limit: usize, page: usize) -> u32
 }
 
 // 0, or the number of the segment's first fault against the page of a node of an edition: 18, 17, 19 or 20.
-pub fn page_fault(
+pub(crate) fn page_fault(
     y: Syntax,
     edition: Edition,
     node: usize,

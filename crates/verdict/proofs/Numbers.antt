@@ -23,6 +23,9 @@ use Rattle.guide.specs.PageFault.{pageFault}
 use Rattle.guide.specs.Editions.{guideOf, pagesOf}
 use Rattle.guide.specs.declared.edition.Edition.{Edition}
 use Rattle.guide.specs.Sheet.{isTag}
+use Rattle.page.specs.Examined.{examinedOf}
+use Rattle.page.specs.declared.places.Examined.{Examined}
+use Rattle.page.proofs.PageResults.{result-fault}
 use Rattle.verdict.proofs.Texts.{decoded-text}
 use Rattle.verdict.specs.Workers.{spanned}
 
@@ -108,6 +111,12 @@ module _ (ed : Edition) (y : Syntax) (i : ℕ) (m : Memory) (n : ℕ) (s : Segme
     pub no-rule : l ≡ false → 0 ≡ rule
     unfolding ruleFault
     no-rule h = rw (← unt, no, ← lin, h)
+
+-- the fault of the components
+pub examined-fault
+    : (ed : Edition) (y : Syntax) (d : List ℕ) (start end n : ℕ) (p : Examined) → p ≡ examinedOf y (pagesOf ed n) d start end
+    → p .fault ≡ pageFault y (pagesOf ed n) (part start end d)
+examined-fault ed y d start end n p e = ap (λ (q : Examined). q .fault) e ∙ result-fault y (pagesOf ed n) d start end
 
 -- the components, and then 21 or 22
 module _ (ed : Edition) (y : Syntax) (i : ℕ) (m : Memory) (n : ℕ) (s : Segment) where

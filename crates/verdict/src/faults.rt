@@ -10,7 +10,7 @@ use element::same_plain;
 use element::tagged;
 use guide::Edition;
 use judge::has_tag;
-use page::page_fault;
+use page::examined;
 ghost use Prim.Native.Nat.{suc, _<_, _^_};
 ghost use mathlib.Core.Path.{_≡_};
 ghost use mathlib.Core.Bool.{false};
@@ -132,7 +132,7 @@ pub(crate) fn content_fault(
     requires { ⌜ suc (kept .positions) < 2 ^ 64 ⌝ }
     ensures { λ r. ⌜ r ≡ contentFault y (guideOf edition) (pagesOf edition) i (noted y kept [] (now (d .entry))) n (segmentIn start end false (now (d .entry))) ⌝ }
 {
-    let fault = page_fault(y, edition, n, d, start, end);
+    let fault = examined(y, edition, n, d, start, end).fault;
     if fault != 0 {
         return fault;
     }

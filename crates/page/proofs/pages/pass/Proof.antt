@@ -9,35 +9,37 @@ use Rattle.element.specs.Plain.{decoded}
 use Rattle.element.proofs.ComponentFace.{Ended, extent-ended, extent-length}
 use Rattle.guide.specs.PageFault.{pageFault}
 use Rattle.page.specs.PageWords.{pageIn}
+use Rattle.page.specs.Scans.{Scanned}
 use Rattle.page.proofs.PageSteps.{Before, Behind, pass-begins, pass-told, pass-on, inner, pass-further, pass-left, pass-done, pass-enter}
+use Rattle.page.proofs.PageScans.{scan-none}
 use Rattle.page.proofs.pages.pass.Statement.{statement}
 use Rattle.page.proofs.pages.pass.Tie as tie
 
 abbrev Inv-loop : tie.InvT-loop
-Inv-loop y d start limit page a₀ e₀ c₀ word₀ mood₀ a e c word mood = Before y (pageIn page) d limit (pageFault y (pageIn page) (part start limit d)) a e c word mood
+Inv-loop y d start limit page a₀ e₀ c₀ word₀ mood₀ next₀ left₀ a e c word mood next left = Before y (pageIn page) d limit (pageFault y (pageIn page) (part start limit d)) a e c word mood × Scanned y d a next left
 
 abbrev μ-loop : tie.MeasureT-loop
-μ-loop y d start limit page a₀ e₀ c₀ word₀ mood₀ a e c word mood = limit - a
+μ-loop y d start limit page a₀ e₀ c₀ word₀ mood₀ next₀ left₀ a e c word mood next left = limit - a
 
 loop-holds : tie.Need-loop-holds Inv-loop μ-loop
-loop-holds c = pass-begins _ _ _ _ _ (c .before .pre .0) (c .before .pre .1)
+loop-holds c = (pass-begins _ _ _ _ _ (c .before .pre .0) (c .before .pre .1), scan-none _ _ _ (omega arith))
 
-component-from-requires : tie.Need-component-from-requires Inv-loop μ-loop
-component-from-requires c κs = search needs
+component-on-requires : tie.Need-component-on-requires Inv-loop μ-loop
+component-on-requires c κs = search needs
 
 row-at-requires : tie.Need-row-at-requires Inv-loop μ-loop
 row-at-requires c κs = search needs
 
 -- where the component ends, and its length
 ended
-    : (c : tie.After-component-from Inv-loop μ-loop)
-    → let a = c .before .before .before .args in Ended (a .y) (a .d .now) (c .before .loop .a) (a .limit) (c .component-from .result .end)
-ended c = extent-ended _ _ _ _ _ (c .component-from .ensures) (c .before .loop .inv .ahead) (c .before .before .before .pre .1)
+    : (c : tie.After-component-on Inv-loop μ-loop)
+    → let a = c .before .before .before .args in Ended (a .y) (a .d .now) (c .before .loop .a) (a .limit) (c .component-on .result .end)
+ended c = extent-ended _ _ _ _ _ (c .component-on .ensures .extent) (c .before .loop .inv .0 .ahead) (c .before .before .before .pre .1)
 
 counted
-    : (c : tie.After-component-from Inv-loop μ-loop)
-    → let a = c .before .before .before .args in c .component-from .result .length ≡ length (decoded (a .y) (c .before .loop .a) (c .component-from .result .end) (a .d .now))
-counted c = extent-length _ _ _ _ _ (c .component-from .ensures) (c .before .loop .inv .ahead) (c .before .before .before .pre .1)
+    : (c : tie.After-component-on Inv-loop μ-loop)
+    → let a = c .before .before .before .args in c .component-on .result .length ≡ length (decoded (a .y) (c .before .loop .a) (c .component-on .result .end) (a .d .now))
+counted c = extent-length _ _ _ _ _ (c .component-on .ensures .extent) (c .before .loop .inv .0 .ahead) (c .before .before .before .pre .1)
 
 known-fault-requires : tie.Need-known-fault-requires Inv-loop μ-loop
 known-fault-requires c κs = counted (c .before)
@@ -45,7 +47,7 @@ known-fault-requires c κs = counted (c .before)
 returns : tie.Need-returns Inv-loop μ-loop
 returns c =
     let f = c .before .before .before in
-    pass-told _ _ _ _ _ _ _ _ _ _ (f .before .loop .inv) _ (ended f) _ (c .before .before .row-at .ensures) _ (c .before .known-fault .ensures) (omega (arith, c .if1 .taken))
+    pass-told _ _ _ _ _ _ _ _ _ _ (f .before .loop .inv .0) _ (ended f) _ (c .before .before .row-at .ensures) _ (c .before .known-fault .ensures) (omega (arith, c .if1 .taken))
 
 mood-after-requires : tie.Need-mood-after-requires Inv-loop μ-loop
 mood-after-requires c κs = search needs
@@ -59,7 +61,7 @@ behind
 behind c =
     let k = c .before .before in
     let f = k .before .before in
-    pass-on _ _ _ _ _ _ _ _ _ _ (f .before .loop .inv) _ (ended f) _ (k .before .row-at .ensures) _ (k .known-fault .ensures) (c .before .if1 .left) _ _ (counted f) (c .mood-after .ensures)
+    pass-on _ _ _ _ _ _ _ _ _ _ (f .before .loop .inv .0) _ (ended f) _ (k .before .row-at .ensures) _ (k .known-fault .ensures) (c .before .if1 .left) _ _ (counted f) (c .mood-after .ensures)
 
 add-a : tie.Need-add-a Inv-loop μ-loop
 add-a c =
@@ -72,20 +74,20 @@ stop-at-requires c κs = c .before .before .before .before .before .before .befo
 add-c : tie.Need-add-c Inv-loop μ-loop
 add-c c =
     let l = c .before .before .before .before .before .before .before .before in
-    omega (arith, l .loop .inv .component, l .loop .inv .ahead, l .before .before .pre .1)
+    omega (arith, l .loop .inv .0 .component, l .loop .inv .0 .ahead, l .before .before .pre .1)
 
 loop-less : tie.Need-loop-less Inv-loop μ-loop
 loop-less c =
     let t = c .before in
     let f = t .before .before .before .before .before .before in
     let o = ended f .ends in
-    omega (arith, inner _ _ _ _ _ _ _ _ _ _ (f .before .loop .inv) _ (ended f) _ (behind (t .before .before)) _ (t .stop-at .ensures) (λ z. omega arith))
+    omega (arith, inner _ _ _ _ _ _ _ _ _ _ (f .before .loop .inv .0) _ (ended f) _ (behind (t .before .before)) _ (t .stop-at .ensures) (λ z. omega arith))
 
 loop-again : tie.Need-loop-again Inv-loop μ-loop
 loop-again c =
     let t = c .before in
     let f = t .before .before .before .before .before .before in
-    pass-further _ _ _ _ _ _ _ _ _ _ (f .before .loop .inv) _ (ended f) _ (behind (t .before .before)) _ (t .stop-at .ensures) (c .if2 .taken)
+    (pass-further _ _ _ _ _ _ _ _ _ _ (f .before .loop .inv .0) _ (ended f) _ (behind (t .before .before)) _ (t .stop-at .ensures) (c .if2 .taken), f .component-on .ensures .scanned)
 
 ending-requires : tie.Need-ending-requires Inv-loop μ-loop
 ending-requires c κs = search needs
@@ -94,7 +96,7 @@ returns-2 : tie.Need-returns-2 Inv-loop μ-loop
 returns-2 c =
     let t = c .before .before .before in
     let f = t .before .before .before .before .before .before in
-    pass-left _ _ _ _ _ _ _ _ _ _ (f .before .loop .inv) _ (ended f) _ (behind (t .before .before)) _ (t .stop-at .ensures) (c .before .before .if2 .left) _ (c .before .ending .ensures) (omega (arith, c .if3 .taken))
+    pass-left _ _ _ _ _ _ _ _ _ _ (f .before .loop .inv .0) _ (ended f) _ (behind (t .before .before)) _ (t .stop-at .ensures) (c .before .before .if2 .left) _ (c .before .ending .ensures) (omega (arith, c .if3 .taken))
 
 absent-requires : tie.Need-absent-requires Inv-loop μ-loop
 absent-requires c κs = c .before .before .before .before .before .before .before .before .before .before .before .before .before .pre .2
@@ -105,7 +107,7 @@ returns-3 c =
     let t = n .before .before in
     let f = t .before .before .before .before .before .before in
     c .absent .ensures
-    ∙ pass-done _ _ _ _ _ _ _ _ _ _ (f .before .loop .inv) _ (ended f) _ (behind (t .before .before)) _ (t .stop-at .ensures) (n .before .if2 .left) _ (n .ending .ensures) (c .before .before .if3 .left) (c .before .if4 .taken)
+    ∙ pass-done _ _ _ _ _ _ _ _ _ _ (f .before .loop .inv .0) _ (ended f) _ (behind (t .before .before)) _ (t .stop-at .ensures) (n .before .if2 .left) _ (n .ending .ensures) (c .before .before .if3 .left) (c .before .if4 .taken)
 
 element-behind-requires : tie.Need-element-behind-requires Inv-loop μ-loop
 element-behind-requires c κs = search needs
@@ -113,7 +115,7 @@ element-behind-requires c κs = search needs
 add-e : tie.Need-add-e Inv-loop μ-loop
 add-e c =
     let l = c .before .before .before .before .before .before .before .before .before .before .before .before in
-    omega (arith, l .loop .inv .element, l .loop .inv .ahead, l .before .before .pre .1)
+    omega (arith, l .loop .inv .0 .element, l .loop .inv .0 .ahead, l .before .before .pre .1)
 
 opening-requires : tie.Need-opening-requires Inv-loop μ-loop
 opening-requires c κs = search needs
@@ -123,14 +125,14 @@ loop-less-2 c =
     let t = c .before .before .before .before .before .before in
     let f = t .before .before .before .before .before .before in
     let o = ended f .ends in
-    omega (arith, inner _ _ _ _ _ _ _ _ _ _ (f .before .loop .inv) _ (ended f) _ (behind (t .before .before)) _ (t .stop-at .ensures) (c .before .before .if4 .left))
+    omega (arith, inner _ _ _ _ _ _ _ _ _ _ (f .before .loop .inv .0) _ (ended f) _ (behind (t .before .before)) _ (t .stop-at .ensures) (c .before .before .if4 .left))
 
 loop-again-2 : tie.Need-loop-again-2 Inv-loop μ-loop
 loop-again-2 c =
     let n = c .before .before .before .before in
     let t = n .before .before in
     let f = t .before .before .before .before .before .before in
-    pass-enter _ _ _ _ _ _ _ _ _ _ (f .before .loop .inv) _ (ended f) _ (behind (t .before .before)) _ (t .stop-at .ensures) (n .before .if2 .left) _ (n .ending .ensures) (c .before .before .before .if3 .left) (c .before .before .if4 .left) _ _ (c .before .element-behind .ensures) (c .opening .ensures)
+    (pass-enter _ _ _ _ _ _ _ _ _ _ (f .before .loop .inv .0) _ (ended f) _ (behind (t .before .before)) _ (t .stop-at .ensures) (n .before .if2 .left) _ (n .ending .ensures) (c .before .before .before .if3 .left) (c .before .before .if4 .left) _ _ (c .before .element-behind .ensures) (c .opening .ensures), f .component-on .ensures .scanned)
 
 pub pass-spec : {M : Type 1} → statement M
 pass-spec =
@@ -139,7 +141,7 @@ pass-spec =
     Inv-loop
     μ-loop
     loop-holds
-    component-from-requires
+    component-on-requires
     row-at-requires
     known-fault-requires
     returns

@@ -1,0 +1,25 @@
+-- `page::scan::alone` meets its contract: the component is as `component_from` finds it.
+use native.Mathlib.Omega.{arith}
+use borrow.Author.Needs.{needs}
+use Rattle.element.proofs.ComponentFace.{Ended, extent-ended}
+use Rattle.page.proofs.PageScans.{ahead-alone}
+use Rattle.page.proofs.scan.alone.Statement.{statement}
+use Rattle.page.proofs.scan.alone.Tie as tie
+
+component-from-requires : tie.Need-component-from-requires
+component-from-requires c κs = search needs
+
+-- the component ends in the delivery
+ended
+    : (c : tie.After-component-from)
+    → let a = c .before .before .args in Ended (a .y) (a .d .now) (a .a) (a .limit) (c .component-from .result .end)
+ended c = extent-ended _ _ _ _ _ (c .component-from .ensures) (c .before .before .pre .0) (c .before .before .pre .1)
+
+add-t6 : tie.Need-add-t6
+add-t6 c = omega (arith, ended (c .before) .within, c .before .before .before .pre .1)
+
+returns : tie.Need-returns
+returns c = ahead-alone _ _ _ _ _ (c .before .component-from .ensures) (omega (arith, ended (c .before) .within, c .before .before .before .pre .1))
+
+pub alone-spec : {M : Type 1} → statement M
+alone-spec = tie.close (tie.spec component-from-requires add-t6 returns)

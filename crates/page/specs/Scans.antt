@@ -1,0 +1,29 @@
+-- What is known of a segment's service characters between two components, where words of eight bytes are tested at once and each word once. No public
+-- promise cites these.
+use Prim.Native.Nat.{ℕ, suc, _+_, _-_, _≤_, _<_}
+use mathlib.Core.Path.{_≡_}
+use mathlib.Core.Bool.{Bool, false, _&&_}
+use mathlib.Core.List.{List}
+use lib.ListN.{length, getD}
+use lib.Dec.{leb}
+use Rattle.cut.specs.Eights.{flags}
+use Rattle.cut.specs.declared.service.Syntax.{Syntax}
+use Rattle.element.specs.Components.{extentOf}
+use Rattle.element.specs.Services.{isService}
+use Rattle.page.specs.declared.scan.Ahead.{Ahead}
+
+-- whether byte k of the word that ends before the place next is a service character and not before the place a
+unfoldable pub waiting : Syntax → List ℕ → ℕ → ℕ → ℕ → Bool
+waiting y d a next k = leb (a + 8) (next + k) && isService y (getD d (next + k - 8) 0)
+
+-- the bytes from the place a up to the place next are tested: left flags the service characters of the last eight of them, and before those there is none
+pub record Scanned (y : Syntax) (d : List ℕ) (a next left : ℕ) : Type 0 where
+  pub ahead : a ≤ next
+  pub within : next ≤ suc (length d)
+  pub passed : (k : ℕ) → a ≤ k → k + 8 < next → isService y (getD d k 0) ≡ false
+  pub flagged : left ≡ flags (waiting y d a next)
+
+-- r says of the component that begins at the place a where it ends and how long it is, and what is tested behind it
+pub record AheadOf (y : Syntax) (d : List ℕ) (a limit : ℕ) (r : Ahead) : Type 0 where
+  pub extent : record { end = r .end; length = r .length } ≡ extentOf y d a limit
+  pub scanned : Scanned y d (r .end + 1) (r .next) (r .left)
