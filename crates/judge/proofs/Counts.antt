@@ -1,7 +1,7 @@
 -- Laws of the counts: a walk over the children of a node clears them all, and nothing else.
 use Prim.Native.Nat.{ℕ, zero, suc, _+_, _-_, _≤_, _<_}
 use mathlib.Core.Path.{_≡_, refl, sym, _∙_, ap}
-use mathlib.Core.Bool.{Bool, true, false, not, _&&_, true≢false, and-true, and-false}
+use mathlib.Core.Bool.{Bool, true, false, not, _&&_, and-true, and-false}
 use mathlib.Core.List.{List, [], _∷_}
 use native.Mathlib.Omega.{arith}
 use native.Mathlib.Nat.{add-zero}
@@ -16,22 +16,7 @@ use Rattle.guide.specs.Choices.{pickℕ}
 use Rattle.guide.proofs.Recounting.{recounted-tally, recounted-length}
 use Rattle.judge.specs.Rows.{childOf, firstChild, nextSibling}
 use Rattle.judge.specs.Workers.{cleared}
-use Rattle.judge.proofs.Links.{pick-none, lowest-passes, lowest-from, child-inside, ahead, ahead-less}
-
--- the lowest that passes is not above any that passes
-lowest-least : (test : ℕ → Bool) (i k x : ℕ) → 1 ≤ i → i ≤ x → x < i + k → test x ≡ true → (lowest test i k ≡ 0 → ⊥) × (lowest test i k ≤ x)
-unfolding lowest
-lowest-least test i zero x a b l t = absurd (omega arith)
-lowest-least test i (suc k) x a b l t = go (test i) refl (lowest-least test (suc i) k x)
-  where
-    go
-        : (q : Bool) → test i ≡ q
-        → (1 ≤ suc i → suc i ≤ x → x < suc i + k → test x ≡ true → (lowest test (suc i) k ≡ 0 → ⊥) × (lowest test (suc i) k ≤ x))
-        → (pickℕ q i (lowest test (suc i) k) ≡ 0 → ⊥) × (pickℕ q i (lowest test (suc i) k) ≤ x)
-    go true e ih = ((λ (z : i ≡ 0). omega arith), b)
-    go false e ih =
-        let n : i ≡ x → ⊥ = λ z. true≢false (sym t ∙ ap test (sym z) ∙ e) in
-        ih (omega arith) (omega arith) (omega arith) t
+use Rattle.judge.proofs.Links.{pick-none, lowest-least, lowest-passes, lowest-from, child-inside, ahead, ahead-less}
 
 -- whether the child i of n is still to be cleared when the walk stands at m
 abbrev standing : ℕ → ℕ → Bool

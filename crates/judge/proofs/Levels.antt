@@ -1,6 +1,6 @@
 -- Laws of the open levels: both searches over the list of levels, as walks from a node to its parent.
 use Prim.Native.Nat.{ℕ, zero, suc, _-_, _≤_, _<_}
-use mathlib.Core.Path.{_≡_, refl, sym, _∙_, ap}
+use mathlib.Core.Path.{_≡_, refl, ap}
 use mathlib.Core.Bool.{Bool, true, false, and-false}
 use mathlib.Core.List.{List, [], _∷_}
 use native.Mathlib.Omega.{arith}
@@ -8,10 +8,12 @@ use lib.ListN.{length, List·getD-eq-default}
 use lib.Dec.{eqb, ltb}
 use borrow.Author.Tests.{eq-eqb, ne-eqb, eqb-false, ltb-true, ltb-false}
 use Rattle.guide.specs.Nodes.{View, message, node, matches}
-use Rattle.guide.specs.Placing.{firstNode, Level, pickLevels, levels, fitsIn, seek}
+use Rattle.guide.specs.Placing.{Level, level, pickLevels, levels, fitsIn, seek}
 use Rattle.guide.specs.Choices.{orElse}
 use Rattle.guide.specs.declared.edition.Edition.{Edition}
 use Rattle.guide.specs.Editions.{guideOf}
+use Rattle.judge.specs.Rows.{childOf}
+use Rattle.judge.specs.Sets.{someLevel}
 use Rattle.judge.proofs.Sound.{sound-at}
 use Rattle.judge.proofs.Tables.{table-fits}
 use Rattle.judge.proofs.Links.{lowest-none}
@@ -63,40 +65,7 @@ module _ (e : Edition) where
   unfolding levels
   levels-root p c h = rw (eq-eqb p 0 h)
 
--- the search for the node that takes a segment, from the level of p outward
-unfoldable pub seekFrom : Edition → View → ℕ → ℕ → ℕ
-seekFrom e v p c = seek (guideOf e) v (levels (guideOf e) (suc p) p c)
-
 module _ (e : Edition) (v : View) where
-  abbrev seekAll : ℕ → ℕ
-  seekAll last = seek (guideOf e) v (levels (guideOf e) (suc last) last 0)
-
-  pub seek-begins : (last : ℕ) → seekFrom e v last 0 ≡ seekAll last
-  unfolding seekFrom
-  seek-begins last = refl
-
-  -- the search from p gives the answer of the search from `last`, and n is what was tried at p
-  module _ (last p c n : ℕ) (given : seekFrom e v p c ≡ seekAll last) (tried : n ≡ firstNode (guideOf e) (fitsIn (guideOf e) v p c)) where
-    pub seek-found : (n ≡ 0 → ⊥) → n ≡ seekAll last
-    unfolding seekFrom levels seek
-    seek-found h =
-        let q : seekFrom e v p c ≡ n = rw (sym tried) (orElse-some n _ h) in
-        sym q ∙ given
-
-    pub seek-root : n ≡ 0 → p ≡ 0 → 0 ≡ seekAll last
-    unfolding seekFrom seek
-    seek-root z h =
-        let q : seekFrom e v p c ≡ 0 = rw (levels-root e p c h, sym tried, z) in
-        sym q ∙ given
-
-    pub seek-up
-        : n ≡ 0 → (p ≡ 0 → ⊥) → p < length (guideOf e) → (q d : ℕ) → q ≡ node (guideOf e) p .parent → d ≡ node (guideOf e) p .counter
-        → seekFrom e v q d ≡ seekAll last
-    unfolding seekFrom seek
-    seek-up z h l q d up counter =
-        let s : seekFrom e v p c ≡ seekFrom e v q d = rw (levels-up e p c h l, sym tried, z, up, counter) in
-        sym s ∙ given
-
   -- no node is a child of one that the table does not have
   fits-nowhere : (p c m : ℕ) → length (guideOf e) ≤ p → 1 ≤ m → fitsIn (guideOf e) v p c m ≡ false
   unfolding fitsIn matches
@@ -127,5 +96,25 @@ module _ (e : Edition) (v : View) where
       go true ih = refl
       go false ih = ih
 
-  pub seek-outside : (last : ℕ) → length (guideOf e) ≤ last → seekAll last ≡ 0
+  pub seek-outside : (last : ℕ) → length (guideOf e) ≤ last → seek (guideOf e) v (levels (guideOf e) (suc last) last 0) ≡ 0
   seek-outside last h = seek-nowhere (suc last) last 0 h
+
+-- past the table's end there is no open instance that a node could come in
+module _ (e : Edition) (test : Level → Bool) (n : ℕ) (only : (l : Level) → childOf (guideOf e) (l .node) n ≡ false → test l ≡ false) (some : 0 < n) (row : n < length (guideOf e)) where
+  pub level-nowhere : (k p c : ℕ) → length (guideOf e) ≤ p → someLevel test (levels (guideOf e) k p c) ≡ false
+  unfolding levels someLevel
+  level-nowhere zero p c h = refl
+  level-nowhere (suc k) p c h =
+      rw (only (level p c) stranger) (go (eqb p 0) (level-nowhere k (node (guideOf e) p .parent) (node (guideOf e) p .counter) outside))
+    where
+      stranger : childOf (guideOf e) p n ≡ false
+      stranger = ne-eqb (node (guideOf e) n .parent) p (λ (z : node (guideOf e) n .parent ≡ p). omega (arith, sound-at e n some row .lower))
+
+      outside : length (guideOf e) ≤ node (guideOf e) p .parent
+      outside = rw (List·getD-eq-default (guideOf e) message h) (omega (arith, table-fits e))
+
+      go
+          : (b : Bool) → someLevel test (levels (guideOf e) k (node (guideOf e) p .parent) (node (guideOf e) p .counter)) ≡ false
+          → someLevel test (pickLevels b [] (levels (guideOf e) k (node (guideOf e) p .parent) (node (guideOf e) p .counter))) ≡ false
+      go true ih = refl
+      go false ih = ih

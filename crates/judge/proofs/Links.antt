@@ -1,8 +1,8 @@
 -- Laws of the links: a walk over the children of a node, or over some of them, from the first one by next ones, finds what a search through
 -- the whole table finds, for every test that holds of these only.
-use Prim.Native.Nat.{ℕ, zero, suc, _-_, _≤_, _<_}
+use Prim.Native.Nat.{ℕ, zero, suc, _+_, _-_, _≤_, _<_}
 use mathlib.Core.Path.{_≡_, refl, sym, _∙_, ap}
-use mathlib.Core.Bool.{Bool, true, false}
+use mathlib.Core.Bool.{Bool, true, false, true≢false}
 use native.Mathlib.Omega.{arith}
 use lib.ListN.{length, List·getD-eq-default}
 use lib.Dec.{eqb, ltb}
@@ -42,11 +42,40 @@ lowest-from test i (suc k) h = go (test i) h (lowest-from test (suc i) k)
         let l = ih n in
         omega arith
 
+-- the lowest that passes is not above any that passes
+pub lowest-least : (test : ℕ → Bool) (i k x : ℕ) → 1 ≤ i → i ≤ x → x < i + k → test x ≡ true → (lowest test i k ≡ 0 → ⊥) × (lowest test i k ≤ x)
+unfolding lowest
+lowest-least test i zero x a b l t = absurd (omega arith)
+lowest-least test i (suc k) x a b l t = go (test i) refl (lowest-least test (suc i) k x)
+  where
+    go
+        : (q : Bool) → test i ≡ q
+        → (1 ≤ suc i → suc i ≤ x → x < suc i + k → test x ≡ true → (lowest test (suc i) k ≡ 0 → ⊥) × (lowest test (suc i) k ≤ x))
+        → (pickℕ q i (lowest test (suc i) k) ≡ 0 → ⊥) × (pickℕ q i (lowest test (suc i) k) ≤ x)
+    go true e ih = ((λ (z : i ≡ 0). omega arith), b)
+    go false e ih =
+        let n : i ≡ x → ⊥ = λ z. true≢false (sym t ∙ ap test (sym z) ∙ e) in
+        ih (omega arith) (omega arith) (omega arith) t
+
 -- a search in which nothing passes
 pub lowest-none : (test : ℕ → Bool) (i k : ℕ) → ((m : ℕ) → i ≤ m → test m ≡ false) → lowest test i k ≡ 0
 unfolding lowest
 lowest-none test i zero h = refl
 lowest-none test i (suc k) h = rw (h i (omega arith)) (lowest-none test (suc i) k (λ m l. h m (omega arith)))
+
+-- two tests that agree where is sought
+pub lowest-like : (s t : ℕ → Bool) (i k : ℕ) → ((m : ℕ) → i ≤ m → m < i + k → s m ≡ t m) → lowest s i k ≡ lowest t i k
+unfolding lowest
+lowest-like s t i zero h = refl
+lowest-like s t i (suc k) h = rw (h i (omega arith) (omega arith), lowest-like s t (suc i) k (λ m a b. h m (omega arith) (omega arith)))
+
+-- a number that passes, where no lower one does
+pub lowest-is : (test : ℕ → Bool) (i k n : ℕ) → 1 ≤ i → i ≤ n → n < i + k → test n ≡ true → ((m : ℕ) → i ≤ m → m < n → test m ≡ false) → lowest test i k ≡ n
+lowest-is test i k n a b l t first =
+    let q = lowest-least test i k n a b l t in
+    let passes = lowest-passes test i k (q .0) in
+    let z : lowest test i k < n → ⊥ = λ h. true≢false (sym passes ∙ first (lowest test i k) (lowest-from test i k (q .0)) h) in
+    omega (arith, q .1)
 
 -- from node n on, 0 being none: how many nodes are left
 unfoldable pub ahead : Guide → ℕ → ℕ
@@ -83,15 +112,6 @@ module _ (g : Guide) where
   pub first-skip : (test some : ℕ → Bool) → ((m : ℕ) → some m ≡ false → test m ≡ false) → (n : ℕ) → n ≡ firstNode g some → onward test g n ≡ firstNode g test
   first-skip test some only n e = ap (onward test g) e ∙ onward-skip test some only 1 (length g - 1) (omega arith) refl
 
-  -- a search under q is one under p, where they are one for a node that is there
-  pub onward-under : (test : ℕ → ℕ → Bool) (q p n : ℕ) → ((n ≡ 0 → ⊥) → q ≡ p) → onward (test q) g n ≡ onward (test p) g n
-  unfolding onward
-  onward-under test q p n h = go (eqb n 0) refl
-    where
-      go : (b : Bool) → eqb n 0 ≡ b → pickℕ b 0 (lowest (test q) n (length g - n)) ≡ pickℕ b 0 (lowest (test p) n (length g - n))
-      go true e = refl
-      go false e = ap (λ (x : ℕ). lowest (test x) n (length g - n)) (h (eqb-false n 0 e))
-
   -- a child of a node of the table stands in the table: past the end is nobody's child
   pub child-inside : (p n : ℕ) → p < nobody → childOf g p n ≡ true → n < length g
   child-inside p n h e = go (ltb n (length g)) refl
@@ -125,10 +145,6 @@ module _ (g : Guide) (kin : ℕ → ℕ → Bool) (p : ℕ) (test : ℕ → Bool
         kind = λ z. rw e (lowest-passes (kin p) 1 (length g - 1) (λ q. z (e ∙ q)));
         answer = first-skip g test (kin p) only n e;
       }
-
-  -- a walk from a node on
-  pub walk-from : ((n ≡ 0 → ⊥) → p < nobody) → ((n ≡ 0 → ⊥) → kin p n ≡ true) → Walking g kin p test (onward test g n) n
-  walk-from known kind = record { known = known; below = below; only = only; kind = kind; answer = refl }
 
 module _ {g : Guide} {kin : ℕ → ℕ → Bool} {p : ℕ} {test : ℕ → Bool} {found n : ℕ} (w : Walking g kin p test found n) where
   pub walk-out : n ≡ 0 → 0 ≡ found

@@ -1,18 +1,17 @@
 -- Laws of matching: equal numbers are equal tags and codes.
 use Prim.Native.Nat.{ℕ}
-use mathlib.Core.Path.{_≡_, refl, sym, _∙_, ap, ap₂}
-use mathlib.Core.Bool.{Bool, true, false}
+use mathlib.Core.Path.{_≡_, refl, _∙_, ap, ap₂}
+use mathlib.Core.Bool.{Bool, true, _&&_}
 use mathlib.Core.List.{List, [], _∷_, map}
 use native.Mathlib.Omega.{arith}
 use lib.ListN.{length, take}
 use lib.Dec.{T, eqb}
-use borrow.Author.Tests.{eq-eqb, ne-eqb, lt-ltb}
+use borrow.Author.Tests.{lt-ltb}
 use Rattle.cut.specs.Bytes.{part}
 use Rattle.cut.specs.declared.service.Syntax.{Syntax}
 use Rattle.element.specs.Components.{componentAt}
 use Rattle.element.proofs.Packing.{part-bytes, decoded-bytes, packed-same, isShort, allShort, word-same}
 use Rattle.guide.specs.Nodes.{Guide, node, among, chosen, matches}
-use Rattle.element.specs.Plain.{same}
 use Rattle.guide.specs.Views.{viewOf}
 use Rattle.guide.proofs.Basics.{and-left, and-right}
 use Rattle.judge.specs.Words.{packed, wordOf, holds, Bytes}
@@ -55,22 +54,11 @@ module _ (y : Syntax) (d : List ℕ) (start end : ℕ) (bytes : Bytes d) (g : Gu
       ∙ chosen-some (node g n .selector .codes) (viewOf y (part start end d) .key e c) some
       ∙ ap₂ (λ (a b : ℕ). chosen (node g n .selector .codes) (viewOf y (part start end d) .key a b)) p q
 
-  tag-same : (r t : ℕ) → t ≡ packed (take 3 (part start end d)) → r ≡ packed (node g n .tag) → eqb r t ≡ same (node g n .tag) (viewOf y (part start end d) .tag)
-  unfolding viewOf
-  tag-same r t u h = rw (h, u) (packed-same (node g n .tag) (take 3 (part start end d)) (row .tag) (tag-bytes y d start end bytes))
-
-  module _ (r t : ℕ) (tag : t ≡ packed (take 3 (part start end d))) (own : r ≡ packed (node g n .tag)) where
-    pub match-other : (r ≡ t → ⊥) → false ≡ matches (node g n) (viewOf y (part start end d))
-    unfolding matches
-    match-other h =
-        let q : same (node g n .tag) (viewOf y (part start end d) .tag) ≡ false = sym (tag-same r t tag own) ∙ ne-eqb r t h in
-        rw (q, lt-ltb 0 (node g n .limit) (row .limited))
-
-    pub match-code
-        : (b : Bool) → r ≡ t
-        → b ≡ chosen (node g n .selector .codes) (viewOf y (part start end d) .key (node g n .selector .element) (node g n .selector .component))
-        → b ≡ matches (node g n) (viewOf y (part start end d))
-    unfolding matches
-    match-code b h k =
-        let q : same (node g n .tag) (viewOf y (part start end d) .tag) ≡ true = sym (tag-same r t tag own) ∙ eq-eqb r t h in
-        rw (q, lt-ltb 0 (node g n .limit) (row .limited)) k
+  -- of a segment whose tag is the number t: a node of that tag, and then the code
+  pub match-tagged
+      : (t : ℕ) → t ≡ packed (take 3 (part start end d))
+      → matches (node g n) (viewOf y (part start end d))
+      ≡ eqb (packed (node g n .tag)) t
+      && chosen (node g n .selector .codes) (viewOf y (part start end d) .key (node g n .selector .element) (node g n .selector .component))
+  unfolding matches viewOf
+  match-tagged t tag = rw (tag, packed-same (node g n .tag) (take 3 (part start end d)) (row .tag) (tag-bytes y d start end bytes), lt-ltb 0 (node g n .limit) (row .limited))

@@ -1,19 +1,24 @@
 -- Laws of a node's tag: past the table's end there is none, and equal numbers are equal tags.
-use Prim.Native.Nat.{ℕ, zero, suc, _≤_, _<_}
-use mathlib.Core.Path.{_≡_, refl, _∙_, ap₂}
+use Prim.Native.Nat.{ℕ, zero, suc, _-_, _≤_, _<_}
+use mathlib.Core.Path.{_≡_, refl, sym, _∙_, ap₂}
 use mathlib.Core.Bool.{false}
 use mathlib.Core.List.{List, [], _∷_}
 use native.Mathlib.Omega.{arith}
 use lib.ListN.{length, List·getD-eq-default}
-use lib.Dec.{eqb}
+use lib.Dec.{T, eqb, eqb→eq}
+use borrow.Author.Tests.{ne-eqb}
 use Rattle.element.specs.Plain.{same}
 use Rattle.guide.specs.Nodes.{message, node}
 use Rattle.guide.specs.Pricat.{pricat20d, pricat20c}
 use Rattle.guide.specs.Sheet.{isTag}
+use Rattle.guide.specs.Checks.{every}
+use Rattle.guide.proofs.Basics.{every-at, or-cases}
 use Rattle.guide.specs.declared.edition.Edition.{Edition}
 use Rattle.guide.specs.declared.edition.Edition.the-variants.{D, C}
 use Rattle.guide.specs.Editions.{guideOf}
-use Rattle.judge.specs.Words.{packed, Bytes}
+use Rattle.judge.specs.Words.{packed, holds, Bytes}
+use Rattle.judge.specs.Sets.{taggedOf}
+use Rattle.judge.proofs.Members.{nodes-none}
 use Rattle.judge.proofs.Sound.{sound-at}
 use Rattle.element.proofs.Packing.{packed-same}
 
@@ -46,3 +51,50 @@ module _ (e : Edition) (n a b c : ℕ) where
       → w ≡ packed (a ∷ b ∷ c ∷ []) → eqb t w ≡ isTag (guideOf e) (a ∷ b ∷ c ∷ []) n
   unfolding isTag
   tag-same h k l m t w p q = ap₂ eqb p q ∙ packed-same _ _ (tag-bytes e n h) (three-bytes a b c k l m)
+
+-- the tags of all nodes, as numbers
+abbrev tags : List ℕ
+tags =
+    0x1544e55
+    ∷ 0x1474e52
+    ∷ 0x1495250
+    ∷ 0x1444d49
+    ∷ 0x1414950
+    ∷ 0x14e494c
+    ∷ 0x1494750
+    ∷ 0x1585543
+    ∷ 0x14d4f43
+    ∷ 0x1415443
+    ∷ 0x1434f4c
+    ∷ 0x144414e
+    ∷ 0x1464652
+    ∷ 0x14d5444
+    ∷ 0x14d4742
+    ∷ 0x1484e55
+    ∷ []
+
+-- a number that is none of some, the first of them last
+abbrev NoneOf : ℕ → List ℕ → Type 0
+NoneOf t [] = Unit {0}
+NoneOf t (x ∷ xs) = NoneOf t xs × (t ≡ x → ⊥)
+
+none-holds : (t x : ℕ) (xs : List ℕ) → NoneOf t xs → T (holds x xs) → x ≡ t → ⊥
+unfolding holds
+none-holds t x [] d h e = h
+none-holds t x (y ∷ ys) d h e = or-cases (eqb x y) (holds x ys) (λ q. d .1 (sym e ∙ eqb→eq x y q)) (λ q. none-holds t x ys (d .0) q e) h
+
+tags-told : (e : Edition) → T (every (λ k. holds (packed (node (guideOf e) (suc k) .tag)) tags) (length (guideOf e) - 1))
+unfolding pricat20d pricat20c every holds packed
+tags-told D = tt
+tags-told C = tt
+
+-- no node has a tag that is none of these
+pub tag-other : (e : Edition) (t : ℕ) → NoneOf t tags → 0 ≡ taggedOf (guideOf e) t
+unfolding taggedOf
+tag-other e t d = sym (nodes-none (guideOf e) _ go)
+  where
+    go : (n : ℕ) → 0 < n → n < length (guideOf e) → eqb (packed (node (guideOf e) n .tag)) t ≡ false
+    go zero h l = absurd (omega arith)
+    go (suc n) h l =
+        ne-eqb _ t
+        (none-holds t _ tags d (every-at (λ k. holds (packed (node (guideOf e) (suc k) .tag)) tags) (length (guideOf e) - 1) n (tags-told e) (omega arith)))

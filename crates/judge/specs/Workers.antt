@@ -3,16 +3,11 @@ use Prim.Native.Nat.{ℕ, suc, _-_}
 use mathlib.Core.Bool.{Bool, not, _&&_, _||_}
 use mathlib.Core.List.{List, [], _∷_}
 use lib.ListN.{length}
-use lib.Dec.{eqb, ltb, leb}
+use lib.Dec.{eqb, ltb}
 use Rattle.guide.specs.Nodes.{Guide, node, paired}
 use Rattle.guide.specs.Placing.{lowest, tally}
 use Rattle.guide.specs.Choices.{pickℕ}
-use Rattle.judge.specs.Words.{packed}
 use Rattle.judge.specs.Rows.{childOf}
-
--- whether m is a child of p that has this tag, and a counter that is not below c
-abbrev pub likely : Guide → ℕ → ℕ → ℕ → ℕ → Bool
-likely g tag c p m = childOf g p m && (leb c (node g m .counter) && eqb (packed (node g m .tag)) tag)
 
 -- from node n on, 0 being none: what a search finds
 unfoldable pub onward : (ℕ → Bool) → Guide → ℕ → ℕ

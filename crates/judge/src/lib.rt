@@ -1,4 +1,5 @@
 // Judges one message by the guide of an edition: placing its segments.
+mod after_words;
 mod code_words;
 mod counting;
 mod editions;
@@ -9,6 +10,8 @@ mod pairs;
 mod placing;
 mod rows;
 mod seeking;
+mod sets;
+mod tag_sets;
 mod tags;
 mod term_words;
 mod words;

@@ -1,19 +1,18 @@
-// Whether a node takes a segment, by tag and code.
+// Whether a node takes a segment of its tag, by code.
 use crate::code_words::code;
 use crate::rows::codes_count;
 use crate::rows::codes_from;
 use crate::rows::component_of;
 use crate::rows::element_of;
-use crate::rows::tag_of;
 use crate::words::key_number;
 use cut::Syntax;
 use guide::Edition;
 ghost use Prim.Native.Nat.{_<_};
 ghost use mathlib.Core.Path.{_≡_};
 ghost use mathlib.Core.List.{map};
-ghost use lib.ListN.{length, take};
+ghost use lib.ListN.{length};
 ghost use Rattle.cut.specs.Bytes.{part};
-ghost use Rattle.guide.specs.Nodes.{node, chosen, matches};
+ghost use Rattle.guide.specs.Nodes.{node, chosen};
 ghost use Rattle.guide.specs.Views.{viewOf};
 ghost use Rattle.guide.specs.Editions.{guideOf};
 ghost use Rattle.judge.specs.Words.{packed, holds};
@@ -35,7 +34,14 @@ fn has_code(edition: Edition, n: usize, key: u64) -> bool
 }
 
 // Whether the segment has one of the node's codes, or the node is found by its tag alone.
-fn is_chosen(y: Syntax, edition: Edition, d: &[u8], start: usize, end: usize, n: usize) -> bool
+pub(crate) fn is_chosen(
+    y: Syntax,
+    edition: Edition,
+    d: &[u8],
+    start: usize,
+    end: usize,
+    n: usize,
+) -> bool
     requires { ⌜ (0 < n) × (n < length (guideOf edition)) ⌝ }
     ensures { λ r. ⌜ r ≡ chosen (node (guideOf edition) n .selector .codes)
         (viewOf y (part start end (now (d .entry))) .key (node (guideOf edition) n .selector .element) (node (guideOf edition) n .selector .component)) ⌝ }
@@ -47,24 +53,4 @@ fn is_chosen(y: Syntax, edition: Edition, d: &[u8], start: usize, end: usize, n:
     let component = component_of(edition, n);
     let key = key_number(y, d, start, end, element, component);
     has_code(edition, n, key)
-}
-
-// Whether the segment has the node's tag and code; `tag` is its tag.
-pub(crate) fn is_match(
-    y: Syntax,
-    edition: Edition,
-    d: &[u8],
-    start: usize,
-    end: usize,
-    tag: u32,
-    n: usize,
-) -> bool
-    requires { ⌜ (0 < n) × (n < length (guideOf edition)) ⌝ }
-    requires { ⌜ tag ≡ packed (take 3 (part start end (now d))) ⌝ }
-    ensures { λ r. ⌜ r ≡ matches (node (guideOf edition) n) (viewOf y (part start end (now (d .entry)))) ⌝ }
-{
-    if tag_of(edition, n) != tag {
-        return false;
-    }
-    is_chosen(y, edition, d, start, end, n)
 }

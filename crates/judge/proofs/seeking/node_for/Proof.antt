@@ -1,110 +1,79 @@
--- `judge::seeking::node_for` meets its contract. The loop's invariant: the search from the level of p outward gives the answer. Assumes nothing.
-use Prim.Native.Nat.{suc, _<_}
-use mathlib.Core.Path.{_≡_, sym}
+-- `judge::seeking::node_for` meets its contract. The loop's invariant is `Sought`: the answer is found among the nodes that are left. Assumes nothing.
+use Prim.Native.Nat.{ℕ, suc}
+use mathlib.Core.Path.{ap₂}
+use mathlib.Core.List.{List}
 use borrow.Author.Needs.{needs}
 use native.Mathlib.Omega.{arith}
-use lib.ListN.{length}
+use lib.Bits.{bitAnd}
 use Rattle.cut.specs.Bytes.{part}
-use Rattle.guide.specs.Placing.{firstNode, levels, fitsIn, seek}
+use Rattle.cut.specs.declared.service.Syntax.{Syntax}
+use Rattle.guide.specs.Placing.{levels, seek}
 use Rattle.guide.specs.Views.{viewOf}
+use Rattle.guide.specs.declared.edition.Edition.{Edition}
 use Rattle.guide.specs.Editions.{guideOf}
-use Rattle.judge.proofs.Levels.{seekFrom, seek-begins, seek-found, seek-root, seek-up, seek-outside, parent-lower}
-use Rattle.judge.proofs.Likely.{first-inside, tagged-inside, child-tried}
+use Rattle.judge.proofs.Members.{rest-less}
+use Rattle.judge.proofs.Sought.{Sought, sought-out, sought-inside, sought-found, sought-next}
+use Rattle.judge.proofs.Following.{hasCode, seek-begins}
 use Rattle.judge.proofs.seeking.node_for.Statement.{statement}
 use Rattle.judge.proofs.seeking.node_for.Tie as tie
 
+abbrev answer : Syntax → Edition → List ℕ → ℕ → ℕ → ℕ → ℕ
+answer y edition d start end last = seek (guideOf edition) (viewOf y (part start end d)) (levels (guideOf edition) (suc last) last 0)
+
 abbrev Inv-loop : tie.InvT-loop
-Inv-loop y edition d start end last tag p₀ reached₀ p reached =
-    (p < length (guideOf edition))
-    × (seekFrom edition (viewOf y (part start end d)) p reached
-    ≡ seek (guideOf edition) (viewOf y (part start end d)) (levels (guideOf edition) (suc last) last 0))
+Inv-loop y edition d start end last tag likely₀ likely =
+    Sought (guideOf edition) (hasCode edition (viewOf y (part start end d))) (answer y edition d start end last) likely
 
 abbrev μ-loop : tie.MeasureT-loop
-μ-loop y edition d start end last tag p₀ reached₀ p reached = p
-
-rows-of-requires : tie.Need-rows-of-requires Inv-loop μ-loop
-rows-of-requires c κs = search needs
-
-returns : tie.Need-returns Inv-loop μ-loop
-returns c =
-    let a = c .before .before .before .args in
-    sym (seek-outside (a .edition) (viewOf (a .y) (part (a .start) (a .end) (a .d .now))) (a .last) (omega arith))
+μ-loop y edition d start end last tag likely₀ likely = likely
 
 tag-number-requires : tie.Need-tag-number-requires Inv-loop μ-loop
 tag-number-requires c κs = search needs
 
+followers-requires : tie.Need-followers-requires Inv-loop μ-loop
+followers-requires c κs = search needs
+
+tagged-requires : tie.Need-tagged-requires Inv-loop μ-loop
+tagged-requires c κs = search needs
+
 loop-holds : tie.Need-loop-holds Inv-loop μ-loop
 loop-holds c =
-    let a = c .before .before .before .before .args in
-    (omega arith, seek-begins (a .edition) (viewOf (a .y) (part (a .start) (a .end) (a .d .now))) (a .last))
+    let asked = c .before .before in
+    let a = asked .before .before .args in
+    seek-begins (a .edition) (a .y) (a .d .now) (a .start) (a .end) (λ i. omega (arith, asked .before .shared-slice-known .given i)) _ (asked .tag-number .ensures) (a .last) _
+    (ap₂ bitAnd (c .before .followers .ensures) (c .tagged .ensures))
 
--- what is found at the level of p is its child that takes the segment
-child-found
-    : (c : tie.After-child-from Inv-loop μ-loop)
-    → let loop = c .before .before .before in
-    let a = loop .before .before .before .before .before .args in
-    c .child-from .result
-    ≡ firstNode (guideOf (a .edition)) (fitsIn (guideOf (a .edition)) (viewOf (a .y) (part (a .start) (a .end) (a .d .now))) (loop .loop .p) (loop .loop .reached))
-child-found c =
+first-in-requires : tie.Need-first-in-requires Inv-loop μ-loop
+first-in-requires c κs = search needs
+
+is-chosen-requires : tie.Need-is-chosen-requires Inv-loop μ-loop
+is-chosen-requires c κs = sought-inside (c .before .before .loop .inv) (c .before .loop-test .taken) _ (c .first-in .ensures)
+
+returns : tie.Need-returns Inv-loop μ-loop
+returns c =
     let first = c .before .before in
-    let loop = first .before in
-    let asked = loop .before in
-    let known = asked .before .before .before in
-    let a = known .before .args in
-    child-tried (a .edition) (a .y) (a .d .now) (a .start) (a .end) (λ i. omega (arith, known .shared-slice-known .given i)) _ (asked .tag-number .ensures)
-    (loop .loop .p) (loop .loop .reached) (loop .loop .inv .0) _ (first .first-child .ensures) _ (c .before .tagged-from .ensures) _ (c .child-from .ensures)
-
-first-child-requires : tie.Need-first-child-requires Inv-loop μ-loop
-first-child-requires c κs = c .loop .inv .0
-
-tagged-from-requires : tie.Need-tagged-from-requires Inv-loop μ-loop
-tagged-from-requires c κs =
-    let loop = c .before in
+    let loop = first .before .before in
     let a = loop .before .before .before .before .before .args in
-    first-inside (a .edition) 0 (loop .loop .p) 0 (loop .loop .inv .0) _ (c .first-child .ensures)
+    sought-found {found = answer (a .y) (a .edition) (a .d .now) (a .start) (a .end) (a .last)} (loop .loop .inv) (first .before .loop-test .taken) _ (first .first-in .ensures) _ (c .before .is-chosen .ensures) (c .if1 .taken)
 
-child-from-requires : tie.Need-child-from-requires Inv-loop μ-loop
-child-from-requires c κs =
-    let loop = c .before .before in
-    let asked = loop .before in
-    let a = asked .before .before .before .before .args in
-    (tagged-inside (a .edition) (asked .tag-number .result) (loop .loop .p) (loop .loop .reached) (loop .loop .inv .0) _ (c .before .first-child .ensures) _ (c .tagged-from .ensures), asked .tag-number .ensures)
-
-returns-2 : tie.Need-returns-2 Inv-loop μ-loop
-returns-2 c =
-    let tried = c .before in
-    let loop = tried .before .before .before in
-    seek-found _ _ _ _ _ _ (loop .loop .inv .1) (child-found tried) (c .if2 .taken)
-
-returns-3 : tie.Need-returns-3 Inv-loop μ-loop
-returns-3 c =
-    let tried = c .before .before in
-    let loop = tried .before .before .before in
-    seek-root _ _ _ _ _ _ (loop .loop .inv .1) (child-found tried) (c .before .if2 .left) (c .if3 .taken)
-
-counter-of-requires : tie.Need-counter-of-requires Inv-loop μ-loop
-counter-of-requires c κs = c .before .before .before .before .before .loop .inv .0
-
-parent-of-requires : tie.Need-parent-of-requires Inv-loop μ-loop
-parent-of-requires c κs = c .before .before .before .before .before .before .loop .inv .0
+without-first-requires : tie.Need-without-first-requires Inv-loop μ-loop
+without-first-requires c κs = omega (arith, c .before .before .before .loop-test .taken)
 
 loop-less : tie.Need-loop-less Inv-loop μ-loop
 loop-less c =
-    let branch = c .before .before in
-    let loop = branch .before .before .before .before .before in
-    let a = loop .before .before .before .before .before .args in
-    omega (arith, parent-lower (a .edition) (loop .loop .p) (branch .if3 .left) (loop .loop .inv .0))
+    let test = c .before .before .before .before in
+    omega (arith, c .without-first .ensures, rest-less (test .before .loop .likely) (test .loop-test .taken))
 
 loop-again : tie.Need-loop-again Inv-loop μ-loop
 loop-again c =
-    let branch = c .before .before in
-    let tried = branch .before .before in
-    let loop = tried .before .before .before in
+    let asked = c .before .before in
+    let first = asked .before in
+    let loop = first .before .before in
     let a = loop .before .before .before .before .before .args in
-    let low = parent-lower (a .edition) (loop .loop .p) (branch .if3 .left) (loop .loop .inv .0) in (
-      omega (arith, c .parent-of .ensures, loop .loop .inv .0),
-      seek-up _ _ _ _ _ _ (loop .loop .inv .1) (child-found tried) (branch .before .if2 .left) (branch .if3 .left) (loop .loop .inv .0) _ _ (c .parent-of .ensures) (c .before .counter-of .ensures),
-    )
+    sought-next {found = answer (a .y) (a .edition) (a .d .now) (a .start) (a .end) (a .last)} (loop .loop .inv) (first .before .loop-test .taken) _ (first .first-in .ensures) _ (c .without-first .ensures) _ (asked .is-chosen .ensures) (c .before .if1 .left)
+
+returns-2 : tie.Need-returns-2 Inv-loop μ-loop
+returns-2 c = sought-out (c .before .loop .inv) (c .loop-test .left)
 
 pub node-for-spec : {M : Type 1} → statement M
 node-for-spec =
@@ -112,16 +81,14 @@ node-for-spec =
     (tie.spec
     Inv-loop
     μ-loop
-    rows-of-requires
-    returns
     tag-number-requires
+    followers-requires
+    tagged-requires
     loop-holds
-    first-child-requires
-    tagged-from-requires
-    child-from-requires
-    returns-2
-    returns-3
-    counter-of-requires
-    parent-of-requires
+    first-in-requires
+    is-chosen-requires
+    returns
+    without-first-requires
     loop-less
-    loop-again)
+    loop-again
+    returns-2)

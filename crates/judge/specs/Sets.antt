@@ -1,0 +1,48 @@
+-- Sets of nodes as the bits of a number, bit n for row n: what the code holds of the tables. No public promise cites these.
+use Prim.Native.Nat.{ℕ, zero, suc, _+_, _*_}
+use mathlib.Core.Bool.{Bool, true, false, _&&_, _||_}
+use mathlib.Core.List.{List, [], _∷_}
+use lib.ListN.{length}
+use lib.Dec.{eqb, ltb, leb}
+use Rattle.guide.specs.Nodes.{Guide, node}
+use Rattle.guide.specs.Placing.{Level, levels}
+use Rattle.judge.specs.Words.{packed}
+use Rattle.judge.specs.Rows.{childOf, dueOf}
+
+abbrev pub bit : Bool → ℕ
+bit true = 1
+bit false = 0
+
+-- those of the first k numbers that pass the test
+unfoldable pub bits : ℕ → (ℕ → Bool) → ℕ
+bits zero test = 0
+bits (suc k) test = bits k (λ n. test (suc n)) * 2 + bit (test 0)
+
+-- the nodes of a guide that pass the test; the message is none
+unfoldable pub nodesThat : Guide → (ℕ → Bool) → ℕ
+nodesThat g test = bits (length g) (λ n. ltb 0 n && test n)
+
+-- whether the test holds of one of the open instances
+unfoldable pub someLevel : (Level → Bool) → List Level → Bool
+someLevel test [] = false
+someLevel test (l ∷ ls) = test l || someLevel test ls
+
+-- whether node n can come in an open instance, by its parent and counter alone
+abbrev pub followsIn : Guide → ℕ → Level → Bool
+followsIn g n l = childOf g (l .node) n && leb (l .reached) (node g n .counter)
+
+-- the nodes that can come after the node `last`, by parent and counter alone
+unfoldable pub followersOf : Guide → ℕ → ℕ
+followersOf g last = nodesThat g (λ n. someLevel (followsIn g n) (levels g (suc last) last 0))
+
+-- the nodes whose tag is this number
+unfoldable pub taggedOf : Guide → ℕ → ℕ
+taggedOf g tag = nodesThat g (λ n. eqb (packed (node g n .tag)) tag)
+
+-- the nodes that may be missed in an open instance after the node `last`
+unfoldable pub dueAfter : Guide → ℕ → ℕ
+dueAfter g last = nodesThat g (λ m. someLevel (λ l. dueOf g (l .node) m) (levels g (suc last) last 0))
+
+-- two sets as one word of the code, the second above the first
+unfoldable pub afterWord : Guide → ℕ → ℕ
+afterWord g last = followersOf g last + 4294967296 * dueAfter g last
