@@ -1,13 +1,13 @@
 -- Operations on eight bytes at once work on each byte apart, so that a fact about one byte, computed for each of the 256, is one about all eight.
-use Prim.Native.Nat.{ℕ, zero, suc, _+_, _*_, _/_, _%_, _^_, _≤_, _<_}
+use Prim.Native.Nat.{ℕ, zero, suc, _+_, _-_, _*_, _/_, _%_, _^_, _≤_, _<_}
 use mathlib.Core.Path.{_≡_, refl, sym, ap, _∙_}
 use mathlib.Core.Bool.{Bool, true, false, _||_}
 use mathlib.Core.List.{List}
-use native.Mathlib.Nat.{suc-add, suc-mul, add-comm}
+use native.Mathlib.Nat.{suc-add, suc-mul, add-comm, pow-suc, one-le-pow}
 use native.Mathlib.Omega.{arith}
 use lib.ListN.{length, getD}
-use lib.Dec.{eqb, eqb→eq}
-use lib.Bits.{bitAnd, bitOr, bitXor, and-block, or-block, xor-block, and-lt, or-lt, xor-lt, and-le-l, and-le-r, xor-self, xor-add-and, shifted-half, shifted-even}
+use lib.Dec.{eqb, eqb→eq, lit<}
+use lib.Bits.{bitAnd, bitOr, bitXor, and-block, or-block, xor-block, and-lt, or-lt, xor-lt, and-mask, and-zero-r, and-le-l, and-le-r, xor-self, xor-add-and, shifted-half, shifted-even}
 use lib.Count.{trailingZeros}
 use borrow.Author.Tests.{le-leb, lt-leb, eq-eqb, ne-eqb, eqb-true, eqb-false}
 use Rattle.cut.specs.Every.{every}
@@ -66,7 +66,7 @@ number-same
 number-same n x y h l e k b = sym (number-byte n x h k b) ∙ ap (λ (w : ℕ). byteOf w k) e ∙ number-byte n y l k b
 
 -- the number of the same digits
-number-like : (n : ℕ) (x y : ℕ → ℕ) → ((k : ℕ) → k < n → x k ≡ y k) → number n x ≡ number n y
+pub number-like : (n : ℕ) (x y : ℕ → ℕ) → ((k : ℕ) → k < n → x k ≡ y k) → number n x ≡ number n y
 unfolding number
 number-like zero x y h = refl
 number-like (suc n) x y h =
@@ -176,16 +176,48 @@ pub flags-all : (t : ℕ → Bool) → flags t ≡ 0x8080_8080_8080_8080 → (k 
 unfolding flags number
 flags-all t e = flags-same t (λ k. true) e
 
--- a test of the eight bytes that stand in a delivery from a place on
+-- byte k of the eight that stand in a delivery from a place on
+pub byte-there : (d : List ℕ) (i k : ℕ) → i + 8 ≤ length d → ((k : ℕ) → getD d k 0 < 256) → k < 8 → byteOf (eightAt d i) k ≡ onFrom d i k
+byte-there d i k h b l =
+    let p = eight-there d i h b in
+    ap (λ (v : ℕ). byteOf v k) (p .worth) ∙ number-byte 8 (onFrom d i) (p .bytes) k l
+
+-- a test of them
 pub flagged-there
     : (d : List ℕ) (i w : ℕ) (test : ℕ → Bool) (m : ℕ) → i + 8 ≤ length d → ((k : ℕ) → getD d k 0 < 256) → w ≡ eightAt d i → Flagged w test m
     → m ≡ flags (λ k. test (onFrom d i k))
 unfolding flags
 flagged-there d i w test m h b e f =
-    let p = eight-there d i h b in
     f
     ∙ number-like 8 (λ k. flag (test (byteOf w k))) (λ k. flag (test (onFrom d i k)))
-    (λ k l. ap (λ (x : ℕ). flag (test x)) (ap (λ (v : ℕ). byteOf v k) (e ∙ p .worth) ∙ number-byte 8 (onFrom d i) (p .bytes) k l))
+    (λ k l. ap (λ (x : ℕ). flag (test x)) (ap (λ (v : ℕ). byteOf v k) e ∙ byte-there d i k h b l))
+
+-- ---- the first bytes alone
+
+pub front-bytes : (n w : ℕ) → bitAnd w (256 ^ n - 1) ≡ number n (byteOf w)
+unfolding number byteOf
+front-bytes zero w = and-zero-r w
+front-bytes (suc n) w =
+    let m : 256 ^ suc n - 1 ≡ (256 ^ n - 1) * 2 ^ 8 + 255 = rw (pow-suc 256 n) (omega (arith, one-le-pow n 256 (lit< tt))) in
+    let v : w ≡ w / 256 * 2 ^ 8 + w % 256 = omega arith in
+    ap (λ (x : ℕ). bitAnd x (256 ^ suc n - 1)) v
+    ∙ ap (bitAnd (w / 256 * 2 ^ 8 + w % 256)) m
+    ∙ and-block 8 (w / 256) (256 ^ n - 1) (w % 256) 255 (omega arith) (omega arith)
+    ∙ omega (arith, front-bytes n (w / 256), and-mask (w % 256) 8)
+
+number-none : (n : ℕ) (x : ℕ → ℕ) → number n x ≡ 0 → (k : ℕ) → k < n → x k ≡ 0
+unfolding number
+number-none zero x e k l = absurd (omega arith)
+number-none (suc n) x e zero l = omega arith
+number-none (suc n) x e (suc k) l = number-none n (λ k. x (suc k)) (omega arith) k (omega arith)
+
+-- none of the first n is flagged
+pub front-none : (n : ℕ) (t : ℕ → Bool) → bitAnd (flags t) (256 ^ n - 1) ≡ 0 → n ≤ 8 → (k : ℕ) → k < n → t k ≡ false
+unfolding flags
+front-none n t e h k l =
+    flag-eq (t k) false
+    (sym (number-byte 8 (λ k. flag (t k)) (λ k. flag-byte (t k)) k (omega arith))
+    ∙ number-none n (byteOf (flags t)) (sym (front-bytes n (flags t)) ∙ e) k l)
 
 -- ---- bytes that are alike
 

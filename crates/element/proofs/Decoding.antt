@@ -1,10 +1,12 @@
 -- Laws of the decoded bytes of a part, one byte at a time.
 use Prim.Native.Nat.{ℕ, _+_, _-_, _≤_, _<_, min}
-use mathlib.Core.Bool.{Bool, true, false}
+use mathlib.Core.Bool.{Bool, true, false, not, and-false}
 use mathlib.Core.Path.{_≡_, ap, _∙_}
 use mathlib.Core.List.{List, [], _∷_}
 use native.Mathlib.Omega.{arith}
 use lib.ListN.{length, getD}
+use lib.Dec.{eqb}
+use borrow.Author.Tests.{ne-eqb}
 use Rattle.cut.specs.declared.service.Syntax.{Syntax}
 use Rattle.cut.specs.Bytes.{part}
 use Rattle.cut.specs.Segments.{frees}
@@ -12,6 +14,11 @@ use Rattle.cut.proofs.Parts.{part-none, part-next}
 use Rattle.element.specs.Plain.{unlessMark, plain, decoded}
 use Rattle.element.specs.Inner.{Literal}
 use Rattle.element.proofs.Limits.{limited}
+
+-- a byte that is not the release character is no release mark
+pub unmarked : (y : Syntax) (x : ℕ) → (x ≡ y .release → ⊥) → frees y false x ≡ false
+unfolding frees
+unmarked y x n = rw (ne-eqb x (y .release) n) (and-false (not (eqb x (y .terminator))))
 
 -- a byte that is no release mark stands for itself, a mark makes the next one literal, and one at the end stands for nothing
 module _ (y : Syntax) (x : ℕ) where

@@ -5,6 +5,7 @@ use mathlib.Core.Path.{_≡_}
 use mathlib.Core.List.{List, [], _∷_, _++_}
 use lib.ListN.{length, getD, drop}
 use lib.Dec.{ltb}
+use Rattle.cut.specs.Eights.{number, byteOf}
 use Rattle.cut.specs.declared.service.Syntax.{Syntax}
 use Rattle.element.specs.declared.numeral.Run.{Run}
 use Rattle.element.specs.declared.numeral.Numeral.{Numeral}
@@ -18,6 +19,11 @@ pub record Literal (y : Syntax) (d : List ℕ) (i e r : ℕ) : Type 0 where
   pub onward : i ≤ r
   pub found : r < e → decoded y i e d ≡ getD d r 0 ∷ decoded y (r + 1) e d
   pub none : e ≤ r → decoded y i e d ≡ []
+
+-- r is the number of the first n of the eight bytes of w, and none of those is the release character; or r is 0
+pub record FrontWord (y : Syntax) (w n r : ℕ) : Type 0 where
+  pub worth : (r ≡ 0 → ⊥) → r ≡ number n (byteOf w) + 256 ^ n
+  pub plain : (r ≡ 0 → ⊥) → (k : ℕ) → k < n → byteOf w k ≡ y .release → ⊥
 
 -- r is v with the digit x behind it, as long as that has at most sixteen digits
 pub record Pushed (v x r : ℕ) : Type 0 where

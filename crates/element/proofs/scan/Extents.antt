@@ -1,13 +1,12 @@
 -- The component that begins at a place, a byte at a time: where it ends and how many bytes it has without release marks.
 use Prim.Native.Nat.{ℕ, zero, suc, _+_, _-_, _≤_, _<_, min}
 use mathlib.Core.Path.{_≡_, sym, ap, _∙_}
-use mathlib.Core.Bool.{true, false, not, and-false}
+use mathlib.Core.Bool.{true, false}
 use mathlib.Core.List.{List, [], _∷_}
 use native.Mathlib.Nat.{add-zero}
 use native.Mathlib.Omega.{arith}
 use lib.ListN.{length, getD}
 use lib.Dec.{eqb}
-use borrow.Author.Tests.{ne-eqb}
 use Rattle.cut.specs.Bytes.{part}
 use Rattle.cut.specs.Segments.{frees}
 use Rattle.cut.specs.declared.service.Syntax.{Syntax}
@@ -17,16 +16,12 @@ use Rattle.element.specs.Elements.{endingOf, stays, releases, before, sp
 use Rattle.element.specs.Components.{extentOf}
 use Rattle.element.specs.Plain.{plain, decoded}
 use Rattle.element.specs.Services.{Service}
-use Rattle.element.proofs.Decoding.{plain-byte}
+use Rattle.element.proofs.Decoding.{plain-byte, unmarked}
 use Rattle.element.proofs.Limits.{limited}
 use Rattle.element.proofs.scan.Endings.{stays-nothing}
 use Rattle.element.proofs.scan.Scanning.{first-component, bytes-none}
 use Rattle.element.proofs.scan.Services.{plain-stays, plain-no-mark, service-ends}
 use Rattle.element.proofs.scan.Stopping.{Ended, ended}
-
-no-mark : (y : Syntax) (x : ℕ) → (x ≡ y .release → ⊥) → frees y false x ≡ false
-unfolding frees
-no-mark y x n = rw (ne-eqb x (y .release) n) (and-false (not (eqb x (y .terminator))))
 
 module _ (y : Syntax) (d : List ℕ) (from end limit : ℕ) where
   -- the component that begins at `from`, and what is left of it at the place i
@@ -73,13 +68,13 @@ module _ (y : Syntax) (d : List ℕ) (from end limit : ℕ) where
         unfolding splitFrom releases before stays
         left-next =
             first-component y (part i limit d)
-            ∙ rw (part-next d i limit h (r .within), stays-nothing (endingOf y false (getD d i 0)) t, no-mark y (getD d i 0) n)
+            ∙ rw (part-next d i limit h (r .within), stays-nothing (endingOf y false (getD d i 0)) t, unmarked y (getD d i 0) n)
             (ap (λ (l : List ℕ). getD d i 0 ∷ l) (sym (first-component y (part (i + 1) limit d))))
 
         reached-next : Reached (i + 1)
         reached-next =
             let l = ap length left-next in
-            let p = ap (λ (b : List ℕ). length (plain y false b)) left-next ∙ ap length (plain-byte y (getD d i 0) (left (i + 1)) (no-mark y (getD d i 0) n)) in
+            let p = ap (λ (b : List ℕ). length (plain y false b)) left-next ∙ ap length (plain-byte y (getD d i 0) (left (i + 1)) (unmarked y (getD d i 0) n)) in
             record { within = r .within; passed = omega (arith, r .passed); ends = omega (arith, r .ends); counts = omega (arith, r .passed, r .counts) }
 
       -- from a release mark on, where it ends at the place stop
