@@ -1,5 +1,6 @@
 pub mod Grammar
 pub mod Decoding
+pub mod LiteralPlaces
 pub mod Sameness
 pub mod Digitwise
 pub mod Running

@@ -1,9 +1,9 @@
 -- The bytes that stand in a part of a delivery. Document 01, 'Elements' and 'Cutting', for any service characters.
-use Prim.Native.Nat.{ℕ, min}
-use mathlib.Core.Bool.{Bool, true, false, _&&_}
+use Prim.Native.Nat.{ℕ, _+_, min}
+use mathlib.Core.Bool.{Bool, true, false, cond, _&&_}
 use mathlib.Core.List.{List, [], _∷_, _++_}
-use lib.ListN.{length, take, drop}
-use lib.Dec.{eqb}
+use lib.ListN.{length, getD, take, drop}
+use lib.Dec.{eqb, ltb}
 use Rattle.cut.specs.declared.service.Syntax.{Syntax}
 use Rattle.cut.specs.Segments.{frees}
 use Rattle.cut.specs.Bytes.{part}
@@ -21,6 +21,10 @@ plain y r (x ∷ xs) = unlessMark (frees y r x) x (plain y (frees y r x) xs)
 -- the part of d from a up to e, "releases removed"
 unfoldable pub decoded : Syntax → ℕ → ℕ → List ℕ → List ℕ
 decoded y a e d = plain y false (part a e d)
+
+-- where the first byte stands that the part of d from i up to e has, "releases removed": at i, or behind it if a release mark stands there
+unfoldable pub literalOf : Syntax → List ℕ → ℕ → ℕ → ℕ
+literalOf y d i e = cond (ltb i (min e (length d)) && frees y false (getD d i 0)) (i + 1) i
 
 -- "All characters are compared": whether two rows of bytes are the same
 unfoldable pub same : List ℕ → List ℕ → Bool

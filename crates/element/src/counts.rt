@@ -1,6 +1,6 @@
 // Counts and position numbers: digits alone, without leading zeros.
 use crate::limit::limit_of;
-use crate::literal::literal;
+use crate::literals::literal;
 use crate::numeral::digits_from;
 use cut::Syntax;
 ghost use mathlib.Core.Path.{_≡_};

@@ -1,6 +1,6 @@
 // A number as it is written: sign, digits, mark, digits. One pass, shared by formats, prices and counts.
 use crate::limit::limit_of;
-use crate::literal::literal;
+use crate::literals::literal;
 use cut::Syntax;
 ghost use Prim.Native.Nat.{_≤_, _<_, _^_};
 ghost use mathlib.Core.Bool.{true};

@@ -1,6 +1,6 @@
 // The bytes of a part without release marks: how many, which, and whether two parts agree.
 use crate::limit::limit_of;
-use crate::literal::literal;
+use crate::literals::literal;
 use cut::Syntax;
 ghost use mathlib.Core.Path.{_≡_};
 ghost use Prim.Native.Nat.{_+_, _≤_};

@@ -1,6 +1,6 @@
 // The bytes of a part without release marks as one number, so that it is compared with a code in one step and no byte is copied.
 use crate::limit::limit_of;
-use crate::literal::literal;
+use crate::literals::literal;
 use cut::Syntax;
 ghost use mathlib.Core.Path.{_≡_};
 ghost use Prim.Native.Nat.{_≤_, _<_};

@@ -4,6 +4,7 @@ use mathlib.Core.Path.{sym, _∙_}
 use native.Mathlib.Omega.{arith}
 use Rattle.element.proofs.Decoding.{decoded-limited}
 use Rattle.element.proofs.Counting.{no-count, count-other, count-long, count-padded, count-one, count-is}
+use Rattle.element.proofs.LiteralPlaces.{literal-is}
 use Rattle.element.proofs.counts.count_of.Statement.{statement}
 use Rattle.element.proofs.counts.count_of.Tie as tie
 
@@ -11,12 +12,12 @@ limit-of-requires : tie.Need-limit-of-requires
 limit-of-requires c κs = search needs
 
 literal-requires : tie.Need-literal-requires
-literal-requires c κs = search needs
+literal-requires c κs = tt
 
 returns : tie.Need-returns
 returns c =
     no-count _
-    (sym (decoded-limited _ _ _ _ _ (c .before .before .limit-of .ensures)) ∙ c .before .literal .ensures .none (c .if1 .taken))
+    (sym (decoded-limited _ _ _ _ _ (c .before .before .limit-of .ensures)) ∙ (literal-is (c .before .literal .ensures) (omega arith)) .none (c .if1 .taken))
 
 digits-from-requires : tie.Need-digits-from-requires
 digits-from-requires c κs = search needs
@@ -47,7 +48,7 @@ returns-4 c =
     (two .if2 .left)
     _
     _
-    (sym same ∙ one .before .literal .ensures .found (one .if1 .left))
+    (sym same ∙ (literal-is (one .before .literal .ensures) (omega arith)) .found (one .if1 .left))
     (c .if4 .taken)
 
 shared-slice-read-if5 : tie.Need-shared-slice-read-if5
@@ -67,7 +68,7 @@ returns-5 c =
     (two .if2 .left)
     _
     _
-    (sym same ∙ one .before .literal .ensures .found (one .if1 .left))
+    (sym same ∙ (literal-is (one .before .literal .ensures) (omega arith)) .found (one .if1 .left))
     (four .if4 .left)
     (c .if5 .taken)
 
@@ -85,7 +86,7 @@ returns-6 c =
     (two .if2 .left)
     _
     _
-    (sym same ∙ one .before .literal .ensures .found (one .if1 .left))
+    (sym same ∙ (literal-is (one .before .literal .ensures) (omega arith)) .found (one .if1 .left))
     (omega arith)
     (c .if5 .left)
 

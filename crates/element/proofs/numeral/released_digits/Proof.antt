@@ -4,6 +4,7 @@ use mathlib.Core.Path.{sym, _∙_}
 use native.Mathlib.Omega.{arith}
 use borrow.Author.Tests.{not-true, not-false}
 use Rattle.element.proofs.Running.{Along, along-start, along-more, along-end, along-stop}
+use Rattle.element.proofs.LiteralPlaces.{literal-is}
 use Rattle.element.proofs.numeral.released_digits.Statement.{statement}
 use Rattle.element.proofs.numeral.released_digits.Tie as tie
 
@@ -17,10 +18,10 @@ loop-holds : tie.Need-loop-holds Inv-loop μ-loop
 loop-holds c = along-start _ _ _ _ _ (c .before .pre .1)
 
 literal-requires : tie.Need-literal-requires Inv-loop μ-loop
-literal-requires c κs = omega arith
+literal-requires c κs = tt
 
 returns : tie.Need-returns Inv-loop μ-loop
-returns c = along-end _ _ _ _ _ _ _ _ _ (c .before .before .loop .inv) (c .before .literal .ensures) (c .if1 .taken)
+returns c = along-end _ _ _ _ _ _ _ _ _ (c .before .before .loop .inv) (literal-is (c .before .literal .ensures) (omega arith)) (c .if1 .taken)
 
 shared-slice-read-x : tie.Need-shared-slice-read-x Inv-loop μ-loop
 shared-slice-read-x c = omega arith
@@ -32,7 +33,7 @@ returns-2 : tie.Need-returns-2 Inv-loop μ-loop
 returns-2 c =
     along-stop _ _ _ _ _ _ _ _ _
     (c .before .before .before .before .before .loop .inv)
-    (c .before .before .before .before .literal .ensures)
+    (literal-is (c .before .before .before .before .literal .ensures) (omega arith))
     (c .before .before .before .if1 .left)
     (sym (c .before .is-digit .ensures) ∙ not-true _ (c .if2 .taken))
 
@@ -41,19 +42,23 @@ pushed-requires c κs =
     (c .before .before .before .before .before .loop .inv .bounded, sym (c .before .is-digit .ensures) ∙ not-false _ (c .if2 .left))
 
 add-count : tie.Need-add-count Inv-loop μ-loop
-add-count c = omega arith
+add-count c =
+    let o = (literal-is (c .before .before .before .before .before .literal .ensures) (omega arith)) .onward in
+    omega arith
 
 add-i : tie.Need-add-i Inv-loop μ-loop
 add-i c = omega arith
 
 loop-less : tie.Need-loop-less Inv-loop μ-loop
-loop-less c = omega arith
+loop-less c =
+    let o = (literal-is (c .before .before .before .before .before .literal .ensures) (omega arith)) .onward in
+    omega arith
 
 loop-again : tie.Need-loop-again Inv-loop μ-loop
 loop-again c =
     along-more _ _ _ _ _ _ _ _ _
     (c .before .before .before .before .before .before .loop .inv)
-    (c .before .before .before .before .before .literal .ensures)
+    (literal-is (c .before .before .before .before .before .literal .ensures) (omega arith))
     (c .before .before .before .before .if1 .left)
     (sym (c .before .before .is-digit .ensures) ∙ not-false _ (c .before .if2 .left))
     _

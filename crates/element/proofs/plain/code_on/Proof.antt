@@ -5,6 +5,7 @@ use mathlib.Core.Path.{_≡_, refl, sym, _∙_}
 use lib.ListN.{length, drop, drop-of-length-le}
 use Rattle.element.specs.Plain.{decoded, same}
 use Rattle.element.proofs.Sameness.{same-long, same-differ, same-agree, ended-word, drop-next}
+use Rattle.element.proofs.LiteralPlaces.{literal-is}
 use Rattle.element.proofs.plain.code_on.Statement.{statement}
 use Rattle.element.proofs.plain.code_on.Tie as tie
 
@@ -19,19 +20,19 @@ loop-holds : tie.Need-loop-holds Inv-loop μ-loop
 loop-holds c = (c .before .before .pre .1, refl)
 
 literal-requires : tie.Need-literal-requires Inv-loop μ-loop
-literal-requires c κs = omega arith
+literal-requires c κs = tt
 
 returns : tie.Need-returns Inv-loop μ-loop
 returns c =
     sym
     (c .before .before .loop .inv .1
-    ∙ ended-word _ _ _ (c .before .before .loop .inv .0) (c .before .literal .ensures .none (c .if1 .taken)))
+    ∙ ended-word _ _ _ (c .before .before .loop .inv .0) ((literal-is (c .before .literal .ensures) (omega arith)) .none (c .if1 .taken)))
 
 returns-2 : tie.Need-returns-2 Inv-loop μ-loop
 returns-2 c =
     sym
     (c .before .before .before .loop .inv .1
-    ∙ same-long (c .before .before .literal .ensures .found (c .before .if1 .left)) (drop-of-length-le _ (c .if2 .taken)))
+    ∙ same-long ((literal-is (c .before .before .literal .ensures) (omega arith)) .found (c .before .if1 .left)) (drop-of-length-le _ (c .if2 .taken)))
 
 shared-slice-read-if3 : tie.Need-shared-slice-read-if3 Inv-loop μ-loop
 shared-slice-read-if3 c = omega arith
@@ -44,7 +45,7 @@ returns-3 c =
     sym
     (c .before .before .before .before .before .before .loop .inv .1
     ∙ same-differ
-    (c .before .before .before .before .before .literal .ensures .found (c .before .before .before .before .if1 .left))
+    ((literal-is (c .before .before .before .before .before .literal .ensures) (omega arith)) .found (c .before .before .before .before .if1 .left))
     (drop-next _ _ (c .before .before .before .if2 .left))
     (c .if3 .taken))
 
@@ -56,7 +57,7 @@ add-k c = omega arith
 
 loop-less : tie.Need-loop-less Inv-loop μ-loop
 loop-less c =
-    let o = c .before .before .before .before .before .literal .ensures .onward in
+    let o = (literal-is (c .before .before .before .before .before .literal .ensures) (omega arith)) .onward in
     omega arith
 
 loop-again : tie.Need-loop-again Inv-loop μ-loop
@@ -64,7 +65,7 @@ loop-again c = (
   omega arith,
   c .before .before .before .before .before .before .loop .inv .1
       ∙ same-agree
-      (c .before .before .before .before .before .literal .ensures .found (c .before .before .before .before .if1 .left))
+      ((literal-is (c .before .before .before .before .before .literal .ensures) (omega arith)) .found (c .before .before .before .before .if1 .left))
       (drop-next _ _ (c .before .before .before .if2 .left))
       (c .if3 .left),
 )

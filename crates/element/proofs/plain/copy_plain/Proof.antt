@@ -5,6 +5,7 @@ use mathlib.Core.Path.{sym}
 use Rattle.element.specs.Plain.{decoded}
 use Rattle.element.proofs.Decoding.{decoded-limited}
 use Rattle.element.proofs.Copying.{Copying, copying-start, copying-length, copying-end, copying-full, copying-more}
+use Rattle.element.proofs.LiteralPlaces.{literal-is}
 use Rattle.element.proofs.plain.copy_plain.Statement.{statement}
 use Rattle.element.proofs.plain.copy_plain.Tie as tie
 
@@ -21,13 +22,13 @@ loop-holds : tie.Need-loop-holds Inv-loop μ-loop
 loop-holds c = copying-start _ _ _ (sym (decoded-limited _ _ _ _ _ (c .limit-of .ensures)))
 
 literal-requires : tie.Need-literal-requires Inv-loop μ-loop
-literal-requires c κs = omega arith
+literal-requires c κs = tt
 
 same-length : tie.Need-same-length Inv-loop μ-loop
 same-length c = copying-length (c .before .before .loop .inv)
 
 returns : tie.Need-returns Inv-loop μ-loop
-returns c = copying-end (c .before .before .loop .inv) (c .before .literal .ensures .none (c .if1 .taken))
+returns c = copying-end (c .before .before .loop .inv) ((literal-is (c .before .literal .ensures) (omega arith)) .none (c .if1 .taken))
 
 same-length-2 : tie.Need-same-length-2 Inv-loop μ-loop
 same-length-2 c = copying-length (c .before .before .before .loop .inv)
@@ -48,7 +49,9 @@ add-i : tie.Need-add-i Inv-loop μ-loop
 add-i c = omega arith
 
 loop-less : tie.Need-loop-less Inv-loop μ-loop
-loop-less c = omega arith
+loop-less c =
+    let o = (literal-is (c .before .before .before .literal .ensures) (omega arith)) .onward in
+    omega arith
 
 loop-again : tie.Need-loop-again Inv-loop μ-loop
 loop-again c =
@@ -56,7 +59,7 @@ loop-again c =
     (c .before .before .before .before .loop .inv)
     _
     _
-    (c .before .before .before .literal .ensures .found (c .before .before .if1 .left))
+    ((literal-is (c .before .before .before .literal .ensures) (omega arith)) .found (c .before .before .if1 .left))
     (c .before .if2 .left)
 
 pub copy-plain-spec : {M : Type 1} → statement M

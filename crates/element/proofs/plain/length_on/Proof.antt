@@ -5,6 +5,7 @@ use mathlib.Core.Path.{_≡_, refl, ap}
 use lib.ListN.{length}
 use Rattle.element.specs.Plain.{decoded}
 use Rattle.element.proofs.Decoding.{count-more}
+use Rattle.element.proofs.LiteralPlaces.{literal-is}
 use Rattle.element.proofs.plain.length_on.Statement.{statement}
 use Rattle.element.proofs.plain.length_on.Tie as tie
 
@@ -18,16 +19,16 @@ loop-holds : tie.Need-loop-holds Inv-loop μ-loop
 loop-holds c = (c .before .pre .1, refl)
 
 literal-requires : tie.Need-literal-requires Inv-loop μ-loop
-literal-requires c κs = omega arith
+literal-requires c κs = tt
 
 returns : tie.Need-returns Inv-loop μ-loop
 returns c =
-    let l = ap length (c .before .literal .ensures .none (c .if1 .taken)) in
+    let l = ap length ((literal-is (c .before .literal .ensures) (omega arith)) .none (c .if1 .taken)) in
     omega arith
 
 add-n : tie.Need-add-n Inv-loop μ-loop
 add-n c =
-    let o = c .before .literal .ensures .onward in
+    let o = (literal-is (c .before .literal .ensures) (omega arith)) .onward in
     omega arith
 
 add-i : tie.Need-add-i Inv-loop μ-loop
@@ -35,14 +36,14 @@ add-i c = omega arith
 
 loop-less : tie.Need-loop-less Inv-loop μ-loop
 loop-less c =
-    let o = c .before .literal .ensures .onward in
+    let o = (literal-is (c .before .literal .ensures) (omega arith)) .onward in
     omega arith
 
 loop-again : tie.Need-loop-again Inv-loop μ-loop
 loop-again c =
-    let o = c .before .literal .ensures .onward in (
+    let o = (literal-is (c .before .literal .ensures) (omega arith)) .onward in (
       omega arith,
-      count-more _ _ (c .before .before .loop .inv .1) (c .before .literal .ensures .found (c .if1 .left)),
+      count-more _ _ (c .before .before .loop .inv .1) ((literal-is (c .before .literal .ensures) (omega arith)) .found (c .if1 .left)),
     )
 
 pub length-on-spec : {M : Type 1} → statement M

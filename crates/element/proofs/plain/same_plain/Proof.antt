@@ -5,6 +5,7 @@ use mathlib.Core.Path.{_≡_, ap₂, sym, _∙_}
 use Rattle.element.specs.Plain.{decoded, same}
 use Rattle.element.proofs.Decoding.{decoded-limited}
 use Rattle.element.proofs.Sameness.{same-long, same-differ, same-agree, ended-part}
+use Rattle.element.proofs.LiteralPlaces.{literal-is}
 use Rattle.element.proofs.plain.same_plain.Statement.{statement}
 use Rattle.element.proofs.plain.same_plain.Tie as tie
 
@@ -27,24 +28,24 @@ loop-holds c =
     (sym (decoded-limited _ _ _ _ _ (c .limit-of2 .ensures)))
 
 literal-requires : tie.Need-literal-requires Inv-loop μ-loop
-literal-requires c κs = omega arith
+literal-requires c κs = tt
 
 literal-requires-2 : tie.Need-literal-requires-2 Inv-loop μ-loop
-literal-requires-2 c κs = omega arith
+literal-requires-2 c κs = tt
 
 returns : tie.Need-returns Inv-loop μ-loop
 returns c =
     sym
     (c .before .before .before .loop .inv
-    ∙ ended-part _ _ _ _ _ _ (c .before .literal2 .ensures) (c .before .before .literal .ensures .none (c .if1 .taken)))
+    ∙ ended-part _ _ _ _ _ _ (literal-is (c .before .literal2 .ensures) (omega arith)) ((literal-is (c .before .before .literal .ensures) (omega arith)) .none (c .if1 .taken)))
 
 returns-2 : tie.Need-returns-2 Inv-loop μ-loop
 returns-2 c =
     sym
     (c .before .before .before .before .loop .inv
     ∙ same-long
-    (c .before .before .before .literal .ensures .found (c .before .if1 .left))
-    (c .before .before .literal2 .ensures .none (c .if2 .taken)))
+    ((literal-is (c .before .before .before .literal .ensures) (omega arith)) .found (c .before .if1 .left))
+    ((literal-is (c .before .before .literal2 .ensures) (omega arith)) .none (c .if2 .taken)))
 
 shared-slice-read-if3 : tie.Need-shared-slice-read-if3 Inv-loop μ-loop
 shared-slice-read-if3 c = omega arith
@@ -57,8 +58,8 @@ returns-3 c =
     sym
     (c .before .before .before .before .before .before .before .loop .inv
     ∙ same-differ
-    (c .before .before .before .before .before .before .literal .ensures .found (c .before .before .before .before .if1 .left))
-    (c .before .before .before .before .before .literal2 .ensures .found (c .before .before .before .if2 .left))
+    ((literal-is (c .before .before .before .before .before .before .literal .ensures) (omega arith)) .found (c .before .before .before .before .if1 .left))
+    ((literal-is (c .before .before .before .before .before .literal2 .ensures) (omega arith)) .found (c .before .before .before .if2 .left))
     (c .if3 .taken))
 
 add-i : tie.Need-add-i Inv-loop μ-loop
@@ -69,15 +70,15 @@ add-j c = omega arith
 
 loop-less : tie.Need-loop-less Inv-loop μ-loop
 loop-less c =
-    let o = c .before .before .before .before .before .before .literal .ensures .onward in
+    let o = (literal-is (c .before .before .before .before .before .before .literal .ensures) (omega arith)) .onward in
     omega arith
 
 loop-again : tie.Need-loop-again Inv-loop μ-loop
 loop-again c =
     c .before .before .before .before .before .before .before .loop .inv
     ∙ same-agree
-    (c .before .before .before .before .before .before .literal .ensures .found (c .before .before .before .before .if1 .left))
-    (c .before .before .before .before .before .literal2 .ensures .found (c .before .before .before .if2 .left))
+    ((literal-is (c .before .before .before .before .before .before .literal .ensures) (omega arith)) .found (c .before .before .before .before .if1 .left))
+    ((literal-is (c .before .before .before .before .before .literal2 .ensures) (omega arith)) .found (c .before .before .before .if2 .left))
     (c .if3 .left)
 
 pub same-plain-spec : {M : Type 1} → statement M

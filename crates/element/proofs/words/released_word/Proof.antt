@@ -5,6 +5,7 @@ use mathlib.Core.Path.{_≡_, sym, _∙_}
 use Rattle.element.specs.Plain.{decoded}
 use Rattle.element.specs.Words.{wordOf}
 use Rattle.element.proofs.Summing.{Begun, wordFrom, begun-none, begun-small, begun-fits, begun-more, word-start, word-end, word-long, word-more}
+use Rattle.element.proofs.LiteralPlaces.{literal-is}
 use Rattle.element.proofs.words.released_word.Statement.{statement}
 use Rattle.element.proofs.words.released_word.Tie as tie
 
@@ -19,17 +20,17 @@ loop-holds : tie.Need-loop-holds Inv-loop μ-loop
 loop-holds c = (begun-none, word-start _)
 
 literal-requires : tie.Need-literal-requires Inv-loop μ-loop
-literal-requires c κs = omega arith
+literal-requires c κs = tt
 
 add-result : tie.Need-add-result Inv-loop μ-loop
 add-result c = record { fits = omega (arith, begun-small (c .before .before .loop .inv .0)) }
 
 returns : tie.Need-returns Inv-loop μ-loop
-returns c = word-end (c .before .before .loop .inv .0) _ (c .before .literal .ensures .none (c .if1 .taken)) ∙ c .before .before .loop .inv .1
+returns c = word-end (c .before .before .loop .inv .0) _ ((literal-is (c .before .literal .ensures) (omega arith)) .none (c .if1 .taken)) ∙ c .before .before .loop .inv .1
 
 returns-2 : tie.Need-returns-2 Inv-loop μ-loop
 returns-2 c =
-    word-long (c .before .before .before .loop .inv .0) _ _ _ (c .before .before .literal .ensures .found (c .before .if1 .left)) (omega arith)
+    word-long (c .before .before .before .loop .inv .0) _ _ _ ((literal-is (c .before .before .literal .ensures) (omega arith)) .found (c .before .if1 .left)) (omega arith)
     ∙ c .before .before .before .loop .inv .1
 
 shared-slice-read-wide : tie.Need-shared-slice-read-wide Inv-loop μ-loop
@@ -55,7 +56,7 @@ add-i c = omega arith
 
 loop-less : tie.Need-loop-less Inv-loop μ-loop
 loop-less c =
-    let o = c .before .before .before .before .literal .ensures .onward in
+    let o = (literal-is (c .before .before .before .before .literal .ensures) (omega arith)) .onward in
     omega arith
 
 loop-again : tie.Need-loop-again Inv-loop μ-loop
@@ -64,7 +65,7 @@ loop-again c =
       begun-more (loop .loop .inv .0) _ (c .wide .ensures .1) (omega arith),
       sym
           (word-more (loop .loop .inv .0) _ (c .wide .ensures .1) (omega arith) _ _ _ (c .wide .ensures .0)
-          (c .before .before .before .before .literal .ensures .found (c .before .before .before .if1 .left)))
+          ((literal-is (c .before .before .before .before .literal .ensures) (omega arith)) .found (c .before .before .before .if1 .left)))
           ∙ loop .loop .inv .1,
     )
 
