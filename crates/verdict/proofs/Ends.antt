@@ -1,6 +1,6 @@
 -- The end of a message whose segments have no fault: 24, 23 or accepted.
 use Prim.Native.Nat.{ℕ, suc, _+_, _-_, _≤_}
-use mathlib.Core.Path.{_≡_, sym, _∙_}
+use mathlib.Core.Path.{_≡_, refl, sym, _∙_}
 use mathlib.Core.Bool.{Bool, true, false}
 use mathlib.Core.List.{List}
 use native.Mathlib.Omega.{arith}
@@ -11,7 +11,7 @@ use Rattle.cut.specs.Segments.{Segment, segmentsFrom, segmentsAt}
 use Rattle.cut.specs.Held.{unless}
 use Rattle.cut.specs.Messages.{lastEnd}
 use Rattle.element.proofs.Limits.{part-out, part-front}
-use Rattle.guide.specs.Editions.{guideOf, pagesOf}
+use Rattle.guide.specs.Editions.{guideOf}
 use Rattle.guide.specs.declared.edition.Edition.{Edition}
 use Rattle.guide.specs.Sheet.{isTag}
 use Rattle.agree.specs.AgreePositions.{positionsOf, firstAgreeing}
@@ -22,7 +22,7 @@ use Rattle.verdict.specs.declared.answers.Verdict.the-variants.{Accepted
 use Rattle.verdict.specs.declared.kept.Kept.{Kept}
 use Rattle.verdict.specs.Answers.{declared}
 use Rattle.verdict.specs.Verdicts.{nodeOf, unlessAgreeing}
-use Rattle.verdict.specs.Workers.{agreementAt, endedWith}
+use Rattle.verdict.specs.Workers.{NoneAgrees, agreementAt, endedWith}
 
 module _ (ed : Edition) (y : Syntax) (d : List ℕ) (start n at : ℕ) where
   abbrev ss : List Segment
@@ -55,6 +55,10 @@ module _ (ed : Edition) (y : Syntax) (d : List ℕ) (start n at : ℕ) where
       pub compared : kept .intervals ≡ false → (r : Verdict) → r ≡ declared (agreementAt ed y d start n at) → Ended r
       unfolding endedWith
       compared h r e = rw (← unt, ends, h) e
+
+      -- no article may have come twice
+      pub undoubted : kept .intervals ≡ false → NoneAgrees y d start at → Ended (Accepted n at)
+      undoubted h z = compared h (Accepted n at) (none-agrees _ refl z)
 
 -- the node of a segment of a part, from all segments from its start on
 module _ (ed : Edition) (y : Syntax) (d : List ℕ) (start end i r : ℕ) where

@@ -1,43 +1,50 @@
 -- The pass over a message's segments: what is left to judge gives the verdict of the whole.
-use Prim.Native.Nat.{ℕ, zero, suc, _+_, _-_, _≤_, _<_}
+use Prim.Native.Nat.{ℕ, zero, suc, _+_, _-_, _≤_}
 use mathlib.Core.Path.{_≡_, refl, sym, _∙_, ap, ap₂}
-use mathlib.Core.Bool.{Bool, true, false, _&&_, _||_}
+use mathlib.Core.Bool.{Bool, true, false, _||_}
 use mathlib.Core.List.{List, [], _∷_, map}
 use native.Mathlib.Omega.{arith}
-use lib.ListN.{length, replicate}
+use lib.ListN.{length, replicate, length-replicate}
 use Rattle.cut.specs.declared.service.Syntax.{Syntax}
-use Rattle.cut.specs.Bytes.{bytesOf, part}
+use Rattle.cut.specs.Bytes.{bytesOf, begins, part}
 use Rattle.cut.specs.Segments.{Segment, endOf, segmentsFrom, segmentsAt}
 use Rattle.cut.specs.Held.{unless, held}
 use Rattle.cut.specs.Messages.{lastEnd}
 use Rattle.cut.proofs.First.{Cutting}
 use Rattle.cut.proofs.Holding.{held-alone}
 use Rattle.cut.proofs.Parts.{length-part}
-use Rattle.element.specs.Plain.{same}
-use Rattle.element.specs.declared.components.Span.{Span}
 use Rattle.element.proofs.ValueFace.{decoded-none}
 use Rattle.guide.specs.Accepted.{seen}
 use Rattle.guide.specs.Answers.{Answer, placed, refused}
 use Rattle.guide.specs.Content.{text}
-use Rattle.guide.specs.Judging.{Memory, Verdict, accepts, refuses, pickVerdict, fresh, bytesFault, contentFault, unlessFault, thenContent, thenPlace, segmentAnswer, remember, decide, judgeFrom}
-use Rattle.guide.specs.Placing.{after, countsAfter, lastAfter, place, give, given}
+use Rattle.guide.specs.Judging.{Memory, accepts, refuses, pickVerdict, fresh, bytesFault, contentFault, unlessFault, thenContent, thenPlace, segmentAnswer, remember, decide, judgeFrom}
+use Rattle.guide.specs.Placing.{countsAfter, lastAfter, place, given}
 use Rattle.guide.specs.Nodes.{numberOf}
 use Rattle.guide.specs.Editions.{guideOf, pagesOf}
 use Rattle.guide.specs.declared.edition.Edition.{Edition}
 use Rattle.guide.specs.Sheet.{isTag}
 use Rattle.guide.specs.Tree.{one}
 use Rattle.guide.specs.Views.{viewOf}
-use Rattle.judge.specs.Answers.{answerOf}
-use Rattle.judge.specs.declared.placing.Placed.{Placed}
-use Rattle.judge.specs.declared.placing.Placed.the-variants as told
-use Rattle.judge.proofs.Face.{answer-at, answer-refused}
+use Rattle.agree.specs.AgreeArticles.{articlePrint, articlesIn, apartIn}
+use Rattle.agree.specs.AgreePositions.{positionsOf, firstAgreeing}
+use Rattle.agree.specs.declared.agree_first.Agreeing.the-variants.{Nothing}
+use Rattle.agree.proofs.AgreeApart.{articles-apart}
 use Rattle.verdict.specs.declared.answers.Judged.{Judged}
 use Rattle.verdict.specs.declared.answers.Verdict.{Verdict as Told}
 use Rattle.verdict.specs.declared.answers.Verdict.the-variants.{Refused}
 use Rattle.verdict.specs.declared.kept.Kept.{Kept}
+use Rattle.verdict.specs.declared.segment.Answered.{Answered}
+use Rattle.verdict.specs.declared.segment.Answered.the-variants as outcome
+use Rattle.verdict.specs.declared.segment.Found.{Found}
 use Rattle.verdict.specs.Answers.{declared, judgedAs}
 use Rattle.verdict.specs.Verdicts.{nodesOf, forIntervals, settled, verdictFrom}
-use Rattle.verdict.specs.Workers.{segmentIn, spanned, noted, KeptAfter, countsLeft, agreementAt, endedWith}
+use Rattle.verdict.specs.Workers.{segmentIn, spanned, noted, isLin, foundAt, answered, keptFirst, printAt, doubtAfter, cameAfter, keptAfter, countsLeft, NoneAgrees, agreementAt, endedWith}
+use Rattle.verdict.proofs.Answering.{answered-refused, answered-fits}
+use Rattle.verdict.proofs.Noting.{still-apart}
+use Rattle.verdict.proofs.Remembering.{KeptAfter, kept-after}
+use Rattle.verdict.proofs.RoleTags.{role-lin}
+use Rattle.verdict.proofs.TagGiven.{given-begins}
+use Rattle.verdict.proofs.Texts.{spanned-text}
 
 or-more : (a b c : Bool) → a || (b || c) ≡ (a || b) || c
 or-more true b c = refl
@@ -87,31 +94,33 @@ module _ (ed : Edition) (y : Syntax) (d : List ℕ) (start : ℕ) where
   abbrev aheadFor : List Segment → Kept → List ℕ → Bool
   aheadFor ss k cs = forIntervals y (guideOf ed) (given (guideOf ed) (map (seen y) ss) (record { last = k .last; counts = cs })) ss
 
-  -- n segments have been judged without a fault, up to the place `at`, and ss are the message's others
-  pub record Passed (ss : List Segment) (cs : List ℕ) (k : Kept) (at n : ℕ) : Type 0 where
+  -- n segments have been judged without a fault, up to the place `at`, ss are the message's others, and t is the table of the articles that came
+  pub record Passed (ss : List Segment) (cs t : List ℕ) (k : Kept) (at n : ℕ) : Type 0 where
     pub judged : judgeFrom y (guideOf ed) (pagesOf ed) n at (noted y k cs d) ss ≡ judgeFrom y (guideOf ed) (pagesOf ed) 0 start fresh all
     pub document : k .intervals || aheadFor ss k cs ≡ forIntervals y (guideOf ed) (nodesOf y (guideOf ed) all) all
+    pub apart : k .doubt ≡ false → apartIn t (articlesIn y ss) ≡ true → firstAgreeing y (positionsOf all) ≡ Nothing
     pub closes : lastEnd at ss ≡ lastEnd start all
     pub few : n ≤ at
     pub short : n ≤ length d
     pub lines : k .positions ≤ n
 
-  abbrev begun : Kept
-  begun = record { last = 0; positions = 0; reference = record { start = start; end = start }; intervals = false }
-
-  pub passed-first : Passed all (replicate 96 0) begun start 0
+  first-passed : Passed all (replicate 96 0) (replicate 8192 0) (keptFirst start) start 0
   unfolding nodesOf spanned
-  passed-first =
+  first-passed =
       record {
         judged = rw (decoded-none y d start start (omega arith));
         document = refl;
+        apart = λ e h. articles-apart y (replicate 8192 0) all (length-replicate {A = ℕ} 8192 0) h;
         closes = refl;
         few = omega arith;
         short = omega arith;
         lines = omega arith;
       }
 
-  module _ (ss : List Segment) (cs : List ℕ) (k : Kept) (at n : ℕ) (p : Passed ss cs k at n) where
+  pub passed-first : (k : Kept) → k ≡ keptFirst start → Passed all (replicate 96 0) (replicate 8192 0) k start 0
+  passed-first k e = rw e first-passed
+
+  module _ (ss : List Segment) (cs t : List ℕ) (k : Kept) (at n : ℕ) (p : Passed ss cs t k at n) where
     -- no segment is left
     module _ (none : ss ≡ []) where
       is-judged : judgeFrom y (guideOf ed) (pagesOf ed) 0 start fresh all ≡ pickVerdict (isTag (guideOf ed) (bytesOf "UNT") (k .last)) (accepts n at) (refuses 24 (suc n) at 0)
@@ -128,6 +137,11 @@ module _ (ed : Edition) (y : Syntax) (d : List ℕ) (start : ℕ) where
 
       alone : segmentsFrom y start false (part start at d) ≡ all
       alone = ap (λ (e : ℕ). segmentsFrom y start false (part start e d)) is-end ∙ held-alone y d start
+
+      -- where there is no doubt, no position agrees with an earlier one
+      pub none-agree : k .doubt ≡ false → NoneAgrees y d start at
+      unfolding articlesIn apartIn
+      none-agree e = rw alone (p .apart e (rw none))
 
       is-ended : endedWith ed y d start k n at ≡ verdictFrom y (guideOf ed) (pagesOf ed) start all
       unfolding endedWith agreementAt verdictFrom settled
@@ -175,28 +189,37 @@ module _ (ed : Edition) (y : Syntax) (d : List ℕ) (start : ℕ) where
       unfolding lastEnd
       more-closes = ap (λ (a : ℕ). lastEnd a rest) (sym ends) ∙ (rw next at (p .closes))
 
-      module _ (r : Placed) (is : r ≡ answerOf (segmentAnswer y (guideOf ed) (pagesOf ed) (n + 1) (noted y k cs d) (segmentIn s e piece d))) where
-        is-answer : r ≡ answerOf answer
-        is-answer = is ∙ ap answerOf same-answer
+      module _ (r : Answered) (is : r ≡ answered ed y d s e (segmentAnswer y (guideOf ed) (pagesOf ed) (n + 1) (noted y k cs d) (segmentIn s e piece d))) where
+        is-answer : r ≡ answered ed y d s e answer
+        is-answer = is ∙ ap (answered ed y d s e) same-answer
 
         is-refused
-            : (j m : ℕ) → r ≡ told.Refused j m
+            : (j m : ℕ) → r ≡ outcome.Refused j m
             → Refused j (n + 1) s (numberOf (guideOf ed) m) ≡ declared (verdictFrom y (guideOf ed) (pagesOf ed) start all)
         unfolding verdictFrom settled
         is-refused j m h =
-            let a : answer ≡ refused j m = answer-refused answer j m (sym is-answer ∙ h) in
+            let a : answer ≡ refused j m = answered-refused ed y d s e answer j m (sym is-answer ∙ h) in
             let z : n + 1 ≡ suc n = omega arith in
             rw (← judged-here, a, z, q .starts)
 
         pub passed-refused
-            : (j m : ℕ) → r ≡ told.Refused j m → (v : Told) → v ≡ Refused j (n + 1) s (numberOf (guideOf ed) m) → (c : ℕ) → c ≡ lastEnd e rest → (o : Judged)
+            : (j m : ℕ) → r ≡ outcome.Refused j m → (v : Told) → v ≡ Refused j (n + 1) s (numberOf (guideOf ed) m) → (c : ℕ) → c ≡ lastEnd e rest → (o : Judged)
             → o ≡ judgedAs v c → o ≡ judgedAs (declared (verdictFrom y (guideOf ed) (pagesOf ed) start all)) (lastEnd start all)
         passed-refused j m h v t c l o g = g ∙ ap₂ judgedAs (t ∙ is-refused j m h) (l ∙ more-closes)
 
-        module _ (m : ℕ) (taken : r ≡ told.At m) (cs′ : List ℕ) (k′ : Kept) (after-it : KeptAfter ed y d s e m k k′)
+        module _ (f : Found) (taken : r ≡ outcome.Fits f) (cs′ t′ : List ℕ) (k′ : Kept) (keeps : k′ ≡ keptAfter y d t f k) (notes : t′ ≡ cameAfter y d t f k)
             (left : cs′ ≡ countsLeft ed (bytesFault y (guideOf ed) (pagesOf ed) (segmentIn s e piece d)) (place (guideOf ed) (viewOf y (part s e d)) (k .last) cs) cs) where
+          abbrev m : ℕ
+          m = f .node
+
+          fits : (answer ≡ placed m) × (f ≡ foundAt ed y d s e m)
+          fits = answered-fits ed y d s e answer f (sym is-answer ∙ taken)
+
           is-placed : answer ≡ placed m
-          is-placed = answer-at answer m (sym is-answer ∙ taken)
+          is-placed = fits .0
+
+          after-it : KeptAfter ed y d s e m k k′
+          after-it = kept-after ed y d t s e m k f (fits .1) k′ keeps
 
           sound : (bytesFault y (guideOf ed) (pagesOf ed) here ≡ 0) × (sought ed y (suc n) (noted y k cs d) here ≡ placed m)
           sound = answer-placed ed y (suc n) (noted y k cs d) here m is-placed
@@ -219,7 +242,21 @@ module _ (ed : Edition) (y : Syntax) (d : List ℕ) (start : ℕ) where
               rw (after-it .intervals, after-it .last, is-left, q .starts)
               (sym (or-more (k .intervals) _ _) ∙ (rw (next, sound .1) at (p .document)))
 
-          pub passed-on : Passed rest cs′ k′ e (n + 1)
+          is-lin : begins (bytesOf "LIN") (here .bytes) ≡ isLin (f .role)
+          is-lin =
+              given-begins ed y here (k .last) cs m (sound .1) (bytesOf "LIN") refl ∙ sym (ap (λ (x : Found). isLin (x .role)) (fits .1) ∙ role-lin ed m)
+
+          prints : printAt y d f ≡ articlePrint (text y (here .bytes) 3 0)
+          prints = ap articlePrint (spanned-text y d s e 3 0 (f .third) (ap (λ (x : Found). x .third) (fits .1)) ∙ rw (q .starts))
+
+          more-apart : k′ .doubt ≡ false → apartIn t′ (articlesIn y rest) ≡ true → firstAgreeing y (positionsOf all) ≡ Nothing
+          unfolding doubtAfter cameAfter
+          more-apart h j =
+              let a =
+              still-apart y t here rest (printAt y d f) prints (isLin (f .role)) is-lin (k .intervals) (k .doubt) (sym (ap (λ (x : Kept). x .doubt) keeps) ∙ h) (rw notes at j) in
+              p .apart (a .0) (rw next (a .1))
+
+          pub passed-on : Passed rest cs′ t′ k′ e (n + 1)
           passed-on =
               let z : n + 1 ≡ suc n = omega arith in
               let h = q .some in
@@ -230,6 +267,7 @@ module _ (ed : Edition) (y : Syntax) (d : List ℕ) (start : ℕ) where
               record {
                 judged = rw z more-judged;
                 document = more-document;
+                apart = more-apart;
                 closes = more-closes;
                 few = omega arith;
                 short = omega arith;
@@ -237,10 +275,10 @@ module _ (ed : Edition) (y : Syntax) (d : List ℕ) (start : ℕ) where
               }
 
 -- a message whose UNT has been judged has no other segment; any other goes on with what its body takes
-module _ (ed : Edition) (y : Syntax) (d : List ℕ) (start : ℕ) (l : Bool) (ss : List Segment) (cs : List ℕ) (k : Kept) (at n : ℕ)
-    (p : Passed ed y d start (unless l ss) cs k at n) where
+module _ (ed : Edition) (y : Syntax) (d : List ℕ) (start : ℕ) (l : Bool) (ss : List Segment) (cs t : List ℕ) (k : Kept) (at n : ℕ)
+    (p : Passed ed y d start (unless l ss) cs t k at n) where
   pub none-left : l ≡ true → unless l ss ≡ []
   none-left h = rw h
 
-  pub passed-more : l ≡ false → Passed ed y d start ss cs k at n
+  pub passed-more : l ≡ false → Passed ed y d start ss cs t k at n
   passed-more h = rw h at p

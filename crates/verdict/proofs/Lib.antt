@@ -1,6 +1,9 @@
 pub mod Texts
+pub mod RoleTags
 pub mod Numbers
 pub mod Remembering
+pub mod Noting
+pub mod TagGiven
 pub mod Answering
 pub mod NodeSought
 pub mod Ends

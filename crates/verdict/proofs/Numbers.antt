@@ -1,33 +1,32 @@
 -- The faults of one segment, one law for each answer of the workers.
 use Prim.Native.Nat.{ℕ, zero, suc, _+_}
-use mathlib.Core.Path.{_≡_, refl, sym, _∙_, ap}
-use mathlib.Core.Bool.{Bool, true, false, _&&_}
-use mathlib.Core.List.{List, []}
+use mathlib.Core.Path.{_≡_, sym, _∙_, ap}
+use mathlib.Core.Bool.{Bool, true, false}
+use mathlib.Core.List.{List}
 use native.Mathlib.Omega.{arith}
-use native.Mathlib.Nat.{add-comm}
 use lib.Dec.{eqb}
 use Rattle.cut.specs.declared.service.Syntax.{Syntax}
-use Rattle.cut.specs.Bytes.{bytesOf, part}
+use Rattle.cut.specs.Bytes.{part}
 use Rattle.cut.specs.Segments.{Segment}
 use Rattle.element.specs.Clean.{allowedBytes, taggedBytes}
 use Rattle.element.specs.Components.{componentAt}
 use Rattle.element.specs.Digits.{countOf}
-use Rattle.element.specs.Plain.{decoded, same}
-use Rattle.element.specs.declared.components.Span.{Span}
+use Rattle.element.specs.Plain.{same}
 use Rattle.element.specs.declared.counts.Count.{Count}
 use Rattle.element.specs.declared.counts.Count.the-variants.{Is, Nothing}
-use Rattle.guide.specs.Choices.{pickℕ, orElse}
+use Rattle.guide.specs.Choices.{orElse}
 use Rattle.guide.specs.Content.{text}
-use Rattle.guide.specs.Judging.{Memory, is, bytesFault, endFault, lineFault, ruleFault, contentFault}
+use Rattle.guide.specs.Judging.{Memory, is, bytesFault, endFault, lineFault, contentFault}
 use Rattle.guide.specs.PageFault.{pageFault}
 use Rattle.guide.specs.Editions.{guideOf, pagesOf}
 use Rattle.guide.specs.declared.edition.Edition.{Edition}
-use Rattle.guide.specs.Sheet.{isTag}
-use Rattle.page.specs.Examined.{examinedOf}
+use Rattle.page.specs.Examined.{examinedBy, examinedOf}
 use Rattle.page.specs.declared.places.Examined.{Examined}
 use Rattle.page.proofs.PageResults.{result-fault}
-use Rattle.verdict.proofs.Texts.{decoded-text}
-use Rattle.verdict.specs.Workers.{spanned}
+use Rattle.verdict.specs.declared.roles.Role.{Role}
+use Rattle.verdict.specs.declared.roles.Role.the-variants.{Lin, Unt}
+use Rattle.verdict.specs.Workers.{roleOf, isLin, isUnt, ruleBy}
+use Rattle.verdict.proofs.RoleTags.{role-rule}
 
 -- 12, 10, 11
 module _ (ed : Edition) (y : Syntax) (s : Segment) where
@@ -52,17 +51,17 @@ module _ (ed : Edition) (y : Syntax) (s : Segment) where
       unfolding bytesFault
       no-bytes-fault h = rw (whole, ← allowed, clean, ← tagged, h)
 
--- the first component behind the tag as a count
-module _ (y : Syntax) (d : List ℕ) (start end n : ℕ) (span : Span) (found : span ≡ componentAt y d start end 1 0) (k : Count)
-    (counted : k ≡ countOf (decoded y (span .start) (span .end) d)) where
-  same-count : k ≡ countOf (text y (part start end d) 1 0)
-  same-count = counted ∙ ap countOf (decoded-text y d start end 1 0 span found)
+-- a component as a count
+module _ (n : ℕ) (t : List ℕ) (k : Count) (counted : k ≡ countOf t) where
+  pub count-is : (m : ℕ) → k ≡ Is m → eqb m n ≡ is n (countOf t)
+  count-is m h = ap (is n) (sym h ∙ counted)
 
-  pub count-is : (m : ℕ) → k ≡ Is m → eqb m n ≡ is n (countOf (text y (part start end d) 1 0))
-  count-is m h = ap (is n) (sym h ∙ same-count)
+  pub count-none : k ≡ Nothing → false ≡ is n (countOf t)
+  count-none h = ap (is n) (sym h ∙ counted)
 
-  pub count-none : k ≡ Nothing → false ≡ is n (countOf (text y (part start end d) 1 0))
-  count-none h = ap (is n) (sym h ∙ same-count)
+-- the first one behind the tag
+pub numbered : (n : ℕ) (t own : List ℕ) (c : Bool) → c ≡ is n (countOf t) → t ≡ own → c ≡ is n (countOf own)
+numbered n t own c h e = rw (← e) h
 
 -- 21
 module _ (ed : Edition) (y : Syntax) (i : ℕ) (r : List ℕ) (s : Segment) (c : Bool) (counts : c ≡ is i (countOf (text y (s .bytes) 1 0))) where
@@ -82,54 +81,59 @@ module _ (ed : Edition) (y : Syntax) (i : ℕ) (r : List ℕ) (s : Segment) (c :
     unfolding endFault
     no-end-fault h = rw (← counts, right, ← own, ← refers, h)
 
--- 22
-module _ (ed : Edition) (y : Syntax) (n : ℕ) (s : Segment) (c : Bool) (counts : c ≡ is n (countOf (text y (s .bytes) 1 0))) where
-  pub number-fault : c ≡ false → 22 ≡ lineFault y (guideOf ed) (pagesOf ed) n s
-  unfolding lineFault
-  number-fault h = rw (← counts, h)
+-- 21 or 22, by the role
+module _ (ed : Edition) (y : Syntax) (i : ℕ) (m : Memory) (role : Role) (s : Segment) where
+  pub rule-end : role ≡ Unt → (r : ℕ) → r ≡ endFault y (guideOf ed) (pagesOf ed) i (m .reference) s → r ≡ ruleBy ed y i m role s
+  unfolding ruleBy
+  rule-end h r e = rw h e
 
-  pub no-line-fault : c ≡ true → 0 ≡ lineFault y (guideOf ed) (pagesOf ed) n s
-  unfolding lineFault
-  no-line-fault h = rw (← counts, h)
+  module _ (lin : role ≡ Lin) (c : Bool) (counts : c ≡ is (m .positions + 1) (countOf (text y (s .bytes) 1 0))) where
+    counted : c ≡ is (suc (m .positions)) (countOf (text y (s .bytes) 1 0))
+    counted =
+        let z : suc (m .positions) ≡ m .positions + 1 = omega arith in
+        rw z counts
 
--- 21 or 22, by the tag of the node
-module _ (ed : Edition) (y : Syntax) (i : ℕ) (m : Memory) (n : ℕ) (s : Segment) (u : Bool) (unt : u ≡ isTag (guideOf ed) (bytesOf "UNT") n) where
-  abbrev rule : ℕ
-  rule = ruleFault y (guideOf ed) (pagesOf ed) i m n s
+    pub rule-line : c ≡ false → 22 ≡ ruleBy ed y i m role s
+    unfolding ruleBy lineFault
+    rule-line h = rw (lin, ← counted, h)
 
-  pub rule-end : u ≡ true → (r : ℕ) → r ≡ endFault y (guideOf ed) (pagesOf ed) i (m .reference) s → r ≡ rule
-  unfolding ruleFault
-  rule-end h r e = rw (← unt, h) e
+    pub no-line-fault : c ≡ true → 0 ≡ ruleBy ed y i m role s
+    unfolding ruleBy lineFault
+    no-line-fault h = rw (lin, ← counted, h)
 
-  module _ (no : u ≡ false) (l : Bool) (lin : l ≡ isTag (guideOf ed) (bytesOf "LIN") n) where
-    pub rule-line : l ≡ true → (r : ℕ) → r ≡ lineFault y (guideOf ed) (pagesOf ed) (m .positions + 1) s → r ≡ rule
-    unfolding ruleFault
-    rule-line h r e =
-        let z : m .positions + 1 ≡ suc (m .positions) = omega arith in
-        rw (← unt, no, ← lin, h, ← z) e
+  pub no-rule : isUnt role ≡ false → isLin role ≡ false → 0 ≡ ruleBy ed y i m role s
+  unfolding ruleBy
+  no-rule u l = rw (u, l)
 
-    pub no-rule : l ≡ false → 0 ≡ rule
-    unfolding ruleFault
-    no-rule h = rw (← unt, no, ← lin, h)
+-- the page: the fault of the components, or where two of them stand
+module _ (ed : Edition) (y : Syntax) (d : List ℕ) (start end n : ℕ) (p : Examined) (page : p ≡ examinedOf y (pagesOf ed n) d start end) where
+  pub page-fault : p .fault ≡ pageFault y (pagesOf ed n) (part start end d)
+  page-fault = ap (λ (q : Examined). q .fault) page ∙ result-fault y (pagesOf ed n) d start end
 
--- the fault of the components
-pub examined-fault
-    : (ed : Edition) (y : Syntax) (d : List ℕ) (start end n : ℕ) (p : Examined) → p ≡ examinedOf y (pagesOf ed n) d start end
-    → p .fault ≡ pageFault y (pagesOf ed n) (part start end d)
-examined-fault ed y d start end n p e = ap (λ (q : Examined). q .fault) e ∙ result-fault y (pagesOf ed n) d start end
+  module _ (none : p .fault ≡ 0) where
+    no-fault : pageFault y (pagesOf ed n) (part start end d) ≡ 0
+    no-fault = sym page-fault ∙ none
+
+    pub page-first : p .first ≡ componentAt y d start end 1 0
+    unfolding examinedOf examinedBy
+    page-first = ap (λ (q : Examined). q .first) page ∙ rw no-fault
+
+    pub page-third : p .third ≡ componentAt y d start end 3 0
+    unfolding examinedOf examinedBy
+    page-third = ap (λ (q : Examined). q .third) page ∙ rw no-fault
 
 -- the components, and then 21 or 22
 module _ (ed : Edition) (y : Syntax) (i : ℕ) (m : Memory) (n : ℕ) (s : Segment) where
-  page-first : (f p r : ℕ) → f ≡ p → (f ≡ 0 → ⊥) → f ≡ orElse p r
-  page-first f zero r h k = absurd (k h)
-  page-first f (suc p) r h k = h
+  before-rule : (f p r : ℕ) → f ≡ p → (f ≡ 0 → ⊥) → f ≡ orElse p r
+  before-rule f zero r h k = absurd (k h)
+  before-rule f (suc p) r h k = h
 
   pub content-page : (f : ℕ) → f ≡ pageFault y ((pagesOf ed) n) (s .bytes) → (f ≡ 0 → ⊥) → f ≡ contentFault y (guideOf ed) (pagesOf ed) i m n s
   unfolding contentFault
-  content-page f h k = page-first f _ _ h k
+  content-page f h k = before-rule f _ _ h k
 
   pub content-rule
-      : (f : ℕ) → f ≡ pageFault y ((pagesOf ed) n) (s .bytes) → f ≡ 0 → (r : ℕ) → r ≡ ruleFault y (guideOf ed) (pagesOf ed) i m n s
+      : (f : ℕ) → f ≡ pageFault y ((pagesOf ed) n) (s .bytes) → f ≡ 0 → (role : Role) → role ≡ roleOf ed n → (r : ℕ) → r ≡ ruleBy ed y i m role s
       → r ≡ contentFault y (guideOf ed) (pagesOf ed) i m n s
   unfolding contentFault
-  content-rule f h k r e = rw (← h, k) e
+  content-rule f h k role o r e = rw (← h, k) (e ∙ rw o (role-rule ed n y i m s))

@@ -1,42 +1,65 @@
 -- What is kept after a segment: one law for each answer of the workers.
 use Prim.Native.Nat.{ℕ, _+_}
-use mathlib.Core.Path.{_≡_, sym, _∙_}
+use mathlib.Core.Path.{_≡_, refl, _∙_}
 use mathlib.Core.Bool.{Bool, true, false, _&&_, _||_}
 use mathlib.Core.List.{List}
 use native.Mathlib.Omega.{arith}
-use Rattle.cut.specs.Bytes.{bytesOf}
+use Rattle.cut.specs.declared.service.Syntax.{Syntax}
+use Rattle.cut.specs.Bytes.{bytesOf, part}
 use Rattle.element.specs.Plain.{same}
+use Rattle.element.specs.declared.components.Span.{Span}
+use Rattle.guide.specs.Content.{text}
 use Rattle.guide.specs.Judging.{pickBytes}
-use Rattle.guide.specs.Editions.{guideOf, pagesOf}
+use Rattle.guide.specs.Editions.{guideOf}
 use Rattle.guide.specs.declared.edition.Edition.{Edition}
 use Rattle.guide.specs.Sheet.{isTag}
 use Rattle.guide.specs.Tree.{one}
+use Rattle.verdict.specs.declared.kept.Kept.{Kept}
+use Rattle.verdict.specs.declared.segment.Found.{Found}
+use Rattle.verdict.specs.Workers.{spanned, roleOf, isUnh, foundAt, pickSpan, keptAfter}
+use Rattle.verdict.proofs.RoleTags.{role-lin, role-unh, role-bgm}
+use Rattle.verdict.proofs.Texts.{spanned-text}
 
-module _ (ed : Edition) (n k : ℕ) (l : Bool) (lin : l ≡ isTag (guideOf ed) (bytesOf "LIN") n) where
-  pub one-more : l ≡ true → k + 1 ≡ k + one (isTag (guideOf ed) (bytesOf "LIN") n)
-  one-more h = rw (← lin, h)
+pub no-more : (k : ℕ) (b : Bool) → b ≡ false → k ≡ k + one b
+no-more k b h =
+    let z : k ≡ k + 0 = omega arith in
+    rw h z
 
-  pub no-more : l ≡ false → k ≡ k + one (isTag (guideOf ed) (bytesOf "LIN") n)
-  no-more h =
-      let z : k ≡ k + 0 = omega arith in
-      rw (← lin, h) z
+-- whether a message is one for intervals, where nothing before says so
+pub document : (z b s r : Bool) → z ≡ false → b ≡ true → r ≡ s → r ≡ z || (b && s)
+document z b s r h k e = rw (h, k) e
 
-module _ (ed : Edition) (n : ℕ) (own before : List ℕ) (u : Bool) (unh : u ≡ isTag (guideOf ed) (bytesOf "UNH") n) where
-  pub own-reference : u ≡ true → (s : List ℕ) → s ≡ own → s ≡ pickBytes (isTag (guideOf ed) (bytesOf "UNH") n) own before
-  own-reference h s e = rw (← unh, h) e
+pub no-document : (z b s : Bool) → z ≡ false → b ≡ false → false ≡ z || (b && s)
+no-document z b s h k = rw (h, k)
 
-  pub reference-stays : u ≡ false → before ≡ pickBytes (isTag (guideOf ed) (bytesOf "UNH") n) own before
-  reference-stays h = rw (← unh, h)
+picked-bytes : (y : Syntax) (d : List ℕ) (b : Bool) (s t : Span) → spanned y (pickSpan b s t) d ≡ pickBytes b (spanned y s d) (spanned y t d)
+picked-bytes y d true s t = refl
+picked-bytes y d false s t = refl
 
-pub already : (z x : Bool) → z ≡ true → true ≡ z || x
-already z x h = rw h
+-- r is kept after k and a segment that is given the node n
+pub record KeptAfter (ed : Edition) (y : Syntax) (d : List ℕ) (start end n : ℕ) (k r : Kept) : Type 0 where
+  pub last : r .last ≡ n
+  pub positions : r .positions ≡ k .positions + one (isTag (guideOf ed) (bytesOf "LIN") n)
+  pub reference :
+      spanned y (r .reference) d ≡ pickBytes (isTag (guideOf ed) (bytesOf "UNH") n) (text y (part start end d) 1 0) (spanned y (k .reference) d)
+  pub intervals :
+      r .intervals ≡ k .intervals || (isTag (guideOf ed) (bytesOf "BGM") n && same (text y (part start end d) 1 0) (bytesOf "Z04"))
 
-module _ (ed : Edition) (n : ℕ) (own : List ℕ) (z : Bool) (so-far : z ≡ false) (b : Bool) (bgm : b ≡ isTag (guideOf ed) (bytesOf "BGM") n) where
-  abbrev Intervals : Bool → Type 0
-  Intervals r = r ≡ z || (isTag (guideOf ed) (bytesOf "BGM") n && same own (bytesOf "Z04"))
+module _ (ed : Edition) (y : Syntax) (d t : List ℕ) (start end n : ℕ) (k : Kept) where
+  abbrev found : Found
+  found = foundAt ed y d start end n
 
-  pub no-document : b ≡ false → Intervals false
-  no-document h = rw (so-far, ← bgm, h)
+  own : spanned y (found .first) d ≡ text y (part start end d) 1 0
+  own = spanned-text y d start end 1 0 (found .first) refl
 
-  pub document : b ≡ true → (s : List ℕ) → s ≡ own → (r : Bool) → r ≡ same s (bytesOf "Z04") → Intervals r
-  document h s e r k = rw (so-far, ← bgm, h, ← e) k
+  kept-found : KeptAfter ed y d start end n k (keptAfter y d t found k)
+  kept-found =
+      record {
+        last = refl;
+        positions = rw (role-lin ed n);
+        reference = picked-bytes y d (isUnh (roleOf ed n)) (found .first) (k .reference) ∙ rw (own, role-unh ed n);
+        intervals = rw (own, role-bgm ed n);
+      }
+
+  pub kept-after : (f : Found) → f ≡ found → (r : Kept) → r ≡ keptAfter y d t f k → KeptAfter ed y d start end n k r
+  kept-after f e r h = rw (h, e) kept-found

@@ -1,23 +1,32 @@
 -- What the crate's own workers promise each other; no public call cites these.
 use Prim.Native.Nat.{ℕ, zero, suc, _+_}
 use mathlib.Core.Path.{_≡_}
-use mathlib.Core.Bool.{Bool, false, _&&_, _||_}
+use mathlib.Core.Bool.{Bool, true, false, cond, not, _&&_, _||_}
 use mathlib.Core.List.{List}
 use Rattle.cut.specs.declared.service.Syntax.{Syntax}
 use Rattle.cut.specs.Bytes.{bytesOf, part}
-use Rattle.cut.specs.Segments.{Segment, segmentsFrom, segmentsAt}
+use Rattle.cut.specs.Segments.{Segment, segmentsFrom}
+use Rattle.element.specs.Components.{componentAt}
 use Rattle.element.specs.Plain.{decoded, same}
 use Rattle.element.specs.declared.components.Span.{Span}
-use Rattle.guide.specs.Answers.{Answer}
-use Rattle.guide.specs.Content.{text}
-use Rattle.guide.specs.Judging.{Memory, Verdict, accepts, refuses, pickBytes, pickVerdict}
+use Rattle.guide.specs.Answers.{Answer, placed, refused}
+use Rattle.guide.specs.Choices.{pickℕ}
+use Rattle.guide.specs.Judging.{Memory, Verdict, accepts, refuses, pickVerdict, endFault, lineFault}
 use Rattle.guide.specs.Placing.{countsAfter}
-use Rattle.guide.specs.Editions.{guideOf}
+use Rattle.guide.specs.Editions.{guideOf, pagesOf}
 use Rattle.guide.specs.declared.edition.Edition.{Edition}
 use Rattle.guide.specs.Sheet.{isTag}
 use Rattle.guide.specs.Tree.{one}
+use Rattle.agree.specs.AgreeArticles.{articlePrint}
+use Rattle.agree.specs.AgreeMarks.{markedIn, markIn}
 use Rattle.agree.specs.AgreePositions.{positionsOf, firstAgreeing}
+use Rattle.agree.specs.declared.agree_first.Agreeing.the-variants.{Nothing}
 use Rattle.verdict.specs.declared.kept.Kept.{Kept}
+use Rattle.verdict.specs.declared.roles.Role.{Role}
+use Rattle.verdict.specs.declared.roles.Role.the-variants.{Lin, Unt, Unh, Bgm, Other}
+use Rattle.verdict.specs.declared.segment.Answered.{Answered}
+use Rattle.verdict.specs.declared.segment.Answered.the-variants.{Fits, Refused}
+use Rattle.verdict.specs.declared.segment.Found.{Found}
 use Rattle.verdict.specs.Verdicts.{unlessAgreeing}
 
 -- the segment from a place up to another
@@ -37,19 +46,103 @@ noted y k cs d =
       reference = spanned y (k .reference) d;
     }
 
--- r is kept after k and a segment that is given the node n
-pub record KeptAfter (ed : Edition) (y : Syntax) (d : List ℕ) (start end n : ℕ) (k r : Kept) : Type 0 where
-  pub last : r .last ≡ n
-  pub positions : r .positions ≡ k .positions + one (isTag (guideOf ed) (bytesOf "LIN") n)
-  pub reference :
-      spanned y (r .reference) d ≡ pickBytes (isTag (guideOf ed) (bytesOf "UNH") n) (text y (part start end d) 1 0) (spanned y (k .reference) d)
-  pub intervals :
-      r .intervals ≡ k .intervals || (isTag (guideOf ed) (bytesOf "BGM") n && same (text y (part start end d) 1 0) (bytesOf "Z04"))
+abbrev pub pickRole : Bool → Role → Role → Role
+pickRole true a b = a
+pickRole false a b = b
+
+-- what a segment is to the rules of a message, by the tag of its node
+unfoldable pub roleOf : Edition → ℕ → Role
+roleOf ed n =
+    pickRole (isTag (guideOf ed) (bytesOf "LIN") n) Lin
+    (pickRole (isTag (guideOf ed) (bytesOf "UNT") n) Unt
+    (pickRole (isTag (guideOf ed) (bytesOf "UNH") n) Unh
+    (pickRole (isTag (guideOf ed) (bytesOf "BGM") n) Bgm Other)))
+
+abbrev pub isLin : Role → Bool
+isLin Lin = true
+isLin Unt = false
+isLin Unh = false
+isLin Bgm = false
+isLin Other = false
+
+abbrev pub isUnt : Role → Bool
+isUnt Lin = false
+isUnt Unt = true
+isUnt Unh = false
+isUnt Bgm = false
+isUnt Other = false
+
+abbrev pub isUnh : Role → Bool
+isUnh Lin = false
+isUnh Unt = false
+isUnh Unh = true
+isUnh Bgm = false
+isUnh Other = false
+
+abbrev pub isBgm : Role → Bool
+isBgm Lin = false
+isBgm Unt = false
+isBgm Unh = false
+isBgm Bgm = true
+isBgm Other = false
+
+-- 21 or 22 of segment i, by its role
+unfoldable pub ruleBy : Edition → Syntax → ℕ → Memory → Role → Segment → ℕ
+ruleBy ed y i m r s =
+    pickℕ (isUnt r) (endFault y (guideOf ed) (pagesOf ed) i (m .reference) s)
+    (pickℕ (isLin r) (lineFault y (guideOf ed) (pagesOf ed) (suc (m .positions)) s) 0)
+
+-- the segment from a place up to another that is given the node n
+abbrev pub foundAt : Edition → Syntax → List ℕ → ℕ → ℕ → ℕ → Found
+foundAt ed y d a e n = record { node = n; role = roleOf ed n; first = componentAt y d a e 1 0; third = componentAt y d a e 3 0 }
+
+-- the answer for that segment: its node, with what goes with it, or the refusal
+unfoldable pub answered : Edition → Syntax → List ℕ → ℕ → ℕ → Answer → Answered
+answered ed y d a e (placed n) = Fits (foundAt ed y d a e n)
+answered ed y d a e (refused k n) = Refused k n
+
+abbrev pub pickSpan : Bool → Span → Span → Span
+pickSpan true s t = s
+pickSpan false s t = t
+
+-- what is kept before the first segment of the message that begins at a place
+abbrev pub keptFirst : ℕ → Kept
+keptFirst a = record { last = 0; positions = 0; reference = record { start = a; end = a }; intervals = false; doubt = false }
+
+-- articles are not looked at: positions are not compared, or there is a doubt already
+abbrev pub unasked : Kept → Bool
+unasked k = k .intervals || k .doubt
+
+-- the print of the article of a segment that is placed, if it is a LIN
+abbrev pub printAt : Syntax → List ℕ → Found → ℕ
+printAt y d s = articlePrint (spanned y (s .third) d)
+
+-- whether there is a doubt after k and a segment that is placed, and the table t of the articles that came after that one
+unfoldable pub doubtAfter : Syntax → List ℕ → List ℕ → Found → Kept → Bool
+doubtAfter y d t s k = unasked k || (isLin (s .role) && markedIn t (printAt y d s))
+
+unfoldable pub cameAfter : Syntax → List ℕ → List ℕ → Found → Kept → List ℕ
+cameAfter y d t s k = cond (not (unasked k) && isLin (s .role)) (markIn t (printAt y d s)) t
+
+-- what is kept after k and a segment that is placed
+abbrev pub keptAfter : Syntax → List ℕ → List ℕ → Found → Kept → Kept
+keptAfter y d t s k =
+    record {
+      last = s .node;
+      positions = k .positions + one (isLin (s .role));
+      reference = pickSpan (isUnh (s .role)) (s .first) (k .reference);
+      intervals = k .intervals || (isBgm (s .role) && same (spanned y (s .first) d) (bytesOf "Z04"));
+      doubt = doubtAfter y d t s k;
+    }
 
 -- the counts that a segment leaves: a fault of its bytes leaves them as they are
 unfoldable pub countsLeft : Edition → ℕ → Answer → List ℕ → List ℕ
 countsLeft ed zero a cs = countsAfter (guideOf ed) a cs
 countsLeft ed (suc k) a cs = cs
+
+-- no position agrees with an earlier one, among the segments from `start` up to `at`
+abbrev pub NoneAgrees : Syntax → List ℕ → ℕ → ℕ → Type 0
+NoneAgrees y d start at = firstAgreeing y (positionsOf (segmentsFrom y start false (part start at d))) ≡ Nothing
 
 -- 23 or accepted, for n segments from `start` up to `at`
 unfoldable pub agreementAt : Edition → Syntax → List ℕ → ℕ → ℕ → ℕ → Verdict

@@ -18,7 +18,7 @@ ghost use Rattle.cut.specs.Segments.{segmentsFrom, segmentsAt};
 ghost use Rattle.guide.specs.Editions.{guideOf};
 ghost use Rattle.verdict.specs.Answers.{declared};
 ghost use Rattle.verdict.specs.Verdicts.{nodeOf};
-ghost use Rattle.verdict.specs.Workers.{agreementAt, endedWith};
+ghost use Rattle.verdict.specs.Workers.{NoneAgrees, agreementAt, endedWith};
 
 // The verdict of n segments without a fault, which end at `at`: 24, 23 or accepted.
 pub(crate) fn ended(
@@ -31,6 +31,7 @@ pub(crate) fn ended(
     at: usize,
 ) -> Verdict
     requires { ⌜ suc n < 2 ^ 64 ⌝ }
+    requires { ⌜ (kept .doubt ≡ false → NoneAgrees y (now d) start at) ⌝ }
     ensures { λ r. ⌜ r ≡ declared (endedWith edition y (now (d .entry)) start kept n at) ⌝ }
 {
     if !has_tag(edition, kept.last, b'U', b'N', b'T') {
@@ -42,6 +43,12 @@ pub(crate) fn ended(
         };
     }
     if kept.intervals {
+        return Verdict::Accepted {
+            segments: n,
+            end: at,
+        };
+    }
+    if !kept.doubt {
         return Verdict::Accepted {
             segments: n,
             end: at,

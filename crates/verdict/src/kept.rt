@@ -1,101 +1,114 @@
 // What is kept of a message's segments from one to the next, beside the counts of placing.
+use crate::roles::Role;
+use crate::segment::Found;
+use agree::note_article;
 use cut::Syntax;
 use element::Span;
-use element::component_at;
 use element::is_code;
-use guide::Edition;
-use judge::has_tag;
 ghost use Prim.Native.Nat.{suc, _+_, _<_, _^_};
 ghost use mathlib.Core.Path.{_≡_};
 ghost use mathlib.Core.Bool.{_||_, _&&_};
-ghost use Rattle.cut.specs.Bytes.{part, bytesOf};
+ghost use Rattle.cut.specs.Bytes.{bytesOf};
 ghost use Rattle.element.specs.Plain.{same};
-ghost use Rattle.guide.specs.Content.{text};
-ghost use Rattle.guide.specs.Judging.{pickBytes};
-ghost use Rattle.guide.specs.Sheet.{isTag};
 ghost use Rattle.guide.specs.Tree.{one};
-ghost use Rattle.guide.specs.Editions.{guideOf};
-ghost use Rattle.verdict.specs.Workers.{spanned, KeptAfter};
+ghost use Rattle.verdict.specs.Workers.{isLin, isUnh, isBgm, pickSpan, spanned, keptFirst, doubtAfter, cameAfter, keptAfter};
 
-// The last node, how many positions there were, where the reference in UNH stands, and whether BGM has the code Z04.
+// The last node, how many positions there were, where the reference in UNH stands, whether BGM has the code Z04, and whether there is a doubt that no
+// two positions agree: an article may have come twice.
 pub struct Kept {
     pub last: usize,
     pub positions: usize,
     pub reference: Span,
     pub intervals: bool,
+    pub doubt: bool,
 }
 
-fn positions_after(edition: Edition, n: usize, positions: usize) -> usize
+// Before the first segment of the message that begins at `start`.
+pub(crate) fn begun(start: usize) -> Kept
+    ensures { λ r. ⌜ r ≡ keptFirst start ⌝ }
+{
+    Kept {
+        last: 0,
+        positions: 0,
+        reference: Span { start, end: start },
+        intervals: false,
+        doubt: false,
+    }
+}
+
+fn positions_after(role: Role, positions: usize) -> usize
     requires { ⌜ suc positions < 2 ^ 64 ⌝ }
-    ensures { λ r. ⌜ r ≡ positions + one (isTag (guideOf edition) (bytesOf "LIN") n) ⌝ }
+    ensures { λ r. ⌜ r ≡ positions + one (isLin role) ⌝ }
 {
-    if has_tag(edition, n, b'L', b'I', b'N') {
-        return positions + 1;
+    match role {
+        Role::Lin => positions + 1,
+        Role::Unt | Role::Unh | Role::Bgm | Role::Other => positions,
     }
-    positions
 }
 
-fn reference_after(
-    y: Syntax,
-    edition: Edition,
-    d: &[u8],
-    start: usize,
-    end: usize,
-    n: usize,
-    reference: Span,
-) -> Span
-    ensures { λ r. ⌜ spanned y r (now (d .entry)) ≡ pickBytes (isTag (guideOf edition) (bytesOf "UNH") n) (text y (part start end (now (d .entry))) 1 0) (spanned y reference (now (d .entry))) ⌝ }
+fn reference_after(role: Role, first: Span, reference: Span) -> Span
+    ensures { λ r. ⌜ r ≡ pickSpan (isUnh role) first reference ⌝ }
 {
-    if has_tag(edition, n, b'U', b'N', b'H') {
-        return component_at(y, d, start, end, 1, 0);
+    match role {
+        Role::Unh => first,
+        Role::Lin | Role::Unt | Role::Bgm | Role::Other => reference,
     }
-    reference
 }
 
-fn intervals_after(
-    y: Syntax,
-    edition: Edition,
-    d: &[u8],
-    start: usize,
-    end: usize,
-    n: usize,
-    intervals: bool,
-) -> bool
-    ensures { λ r. ⌜ r ≡ intervals || (isTag (guideOf edition) (bytesOf "BGM") n && same (text y (part start end (now (d .entry))) 1 0) (bytesOf "Z04")) ⌝ }
+fn intervals_after(y: Syntax, d: &[u8], role: Role, first: Span, intervals: bool) -> bool
+    ensures { λ r. ⌜ r ≡ intervals || (isBgm role && same (spanned y first (now (d .entry))) (bytesOf "Z04")) ⌝ }
 {
     if intervals {
         return true;
     }
-    if !has_tag(edition, n, b'B', b'G', b'M') {
-        return false;
+    let a = first.start;
+    let e = first.end;
+    match role {
+        Role::Bgm => is_code(y, d, a, e, b"Z04"),
+        Role::Lin | Role::Unt | Role::Unh | Role::Other => false,
     }
-    let span = component_at(y, d, start, end, 1, 0);
-    let a = span.start;
-    let e = span.end;
-    is_code(y, d, a, e, b"Z04")
 }
 
-// What is kept after a segment that is given the node n.
-pub(crate) fn keep(
-    y: Syntax,
-    edition: Edition,
-    d: &[u8],
-    start: usize,
-    end: usize,
-    n: usize,
-    kept: Kept,
-) -> Kept
-    requires { ⌜ suc (kept .positions) < 2 ^ 64 ⌝ }
-    ensures { λ r. ⌜ KeptAfter edition y (now (d .entry)) start end n kept r ⌝ }
+// Whether there is a doubt after a segment that is placed; if it is a LIN, its article is noted in the table of those that came. Where positions are not
+// compared, or there is a doubt already, no article is looked at.
+fn doubt_after(y: Syntax, d: &[u8], found: Found, kept: Kept, came: &mut [u8; 8192]) -> bool
+    ensures { λ r. ⌜ r ≡ doubtAfter y (now (d .entry)) (now (came .entry)) found kept ⌝ }
+    ensures { λ _. ⌜ now (came .exit) ≡ cameAfter y (now (d .entry)) (now (came .entry)) found kept ⌝ }
 {
+    if kept.intervals {
+        return true;
+    }
+    if kept.doubt {
+        return true;
+    }
+    let role = found.role;
+    let third = found.third;
+    let a = third.start;
+    let e = third.end;
+    match role {
+        Role::Lin => note_article(y, d, a, e, came),
+        Role::Unt | Role::Unh | Role::Bgm | Role::Other => false,
+    }
+}
+
+// What is kept after a segment that is placed; `came` are the articles that came before it, and then with its own.
+pub(crate) fn keep(y: Syntax, d: &[u8], found: Found, kept: Kept, came: &mut [u8; 8192]) -> Kept
+    requires { ⌜ suc (kept .positions) < 2 ^ 64 ⌝ }
+    ensures { λ r. ⌜ r ≡ keptAfter y (now (d .entry)) (now (came .entry)) found kept ⌝ }
+    ensures { λ _. ⌜ now (came .exit) ≡ cameAfter y (now (d .entry)) (now (came .entry)) found kept ⌝ }
+{
+    let role = found.role;
+    let first = found.first;
     let before = kept.reference;
-    let positions = positions_after(edition, n, kept.positions);
-    let reference = reference_after(y, edition, d, start, end, n, before);
-    let intervals = intervals_after(y, edition, d, start, end, n, kept.intervals);
+    let positions = positions_after(role, kept.positions);
+    let reference = reference_after(role, first, before);
+    let intervals = intervals_after(y, d, role, first, kept.intervals);
+    let doubt = doubt_after(y, d, found, kept, came);
     Kept {
-        last: n,
+        last: found.node,
         positions,
         reference,
         intervals,
+        doubt,
     }
 }

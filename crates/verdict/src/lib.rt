@@ -5,6 +5,7 @@ mod ended;
 mod faults;
 mod kept;
 mod message;
+mod roles;
 mod segment;
 
 pub use answers::Judged;

@@ -3,16 +3,15 @@ use crate::answers::Judged;
 use crate::answers::Verdict;
 use crate::edition::edition_at;
 use crate::ended::ended;
-use crate::kept::Kept;
+use crate::kept::begun;
 use crate::kept::keep;
+use crate::segment::Answered;
 use crate::segment::segment_answer;
 use cut::Member;
 use cut::Syntax;
 use cut::member_at;
 use cut::message_end;
-use element::Span;
 use guide::Edition;
-use judge::Placed;
 use judge::number_of;
 ghost use mathlib.Core.Bool.{false};
 ghost use mathlib.Core.Path.{_≡_};
@@ -61,12 +60,8 @@ fn judged_by(y: Syntax, edition: Edition, d: &[u8], start: usize) -> Judged
     ensures { λ r. ⌜ r ≡ judgedAs (declared (verdictFrom y (guideOf edition) (pagesOf edition) start (held (segmentsAt y (now (d .entry)) start)))) (lastEnd start (held (segmentsAt y (now (d .entry)) start))) ⌝ }
 {
     let mut counts = [0u32; 96];
-    let mut kept = Kept {
-        last: 0,
-        positions: 0,
-        reference: Span { start, end: start },
-        intervals: false,
-    };
+    let mut came = [0u8; 8192];
+    let mut kept = begun(start);
     let mut at = start;
     let mut n = 0;
     let mut first = true;
@@ -82,14 +77,13 @@ fn judged_by(y: Syntax, edition: Edition, d: &[u8], start: usize) -> Judged
             return with_end(ended(y, edition, d, start, kept, n, at), at);
         };
         let answer = segment_answer(y, edition, d, place, end, piece, n + 1, kept, &mut counts);
-        let node = match answer {
-            Placed::At(node) => node,
-            Placed::Refused { number, node } => {
+        match answer {
+            Answered::Fits(found) => kept = keep(y, d, found, kept, &mut came),
+            Answered::Refused { number, node } => {
                 let verdict = refused(edition, number, n + 1, place, node);
                 return with_end(verdict, close_of(y, d, end, last));
             }
-        };
-        kept = keep(y, edition, d, place, end, node, kept);
+        }
         n += 1;
         at = end;
         if last {

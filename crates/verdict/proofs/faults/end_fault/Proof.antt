@@ -2,7 +2,7 @@
 use borrow.Author.Tests.{not-true, not-false}
 use Rattle.verdict.specs.Workers.{spanned}
 use Rattle.verdict.proofs.Texts.{decoded-text}
-use Rattle.verdict.proofs.Numbers.{count-fault, reference-fault, no-end-fault}
+use Rattle.verdict.proofs.Numbers.{numbered, count-fault, reference-fault, no-end-fault}
 use borrow.Author.Needs.{needs}
 use Rattle.verdict.proofs.faults.end_fault.Statement.{statement}
 use Rattle.verdict.proofs.faults.end_fault.Tie as tie
@@ -11,7 +11,9 @@ is-numbered-requires : tie.Need-is-numbered-requires
 is-numbered-requires c κs = search needs
 
 returns : tie.Need-returns
-returns c = count-fault (c .before .before .before .args .edition) _ _ _ _ _ (c .before .is-numbered .ensures) (not-true _ (c .if1 .taken))
+returns c =
+    let start = c .before .before .before in
+    count-fault (start .args .edition) _ _ _ _ _ (numbered _ _ _ _ (c .before .is-numbered .ensures) (start .pre)) (not-true _ (c .if1 .taken))
 
 component-at-requires : tie.Need-component-at-requires
 component-at-requires c κs = search needs
@@ -23,14 +25,16 @@ returns-2 : tie.Need-returns-2
 unfolding spanned
 returns-2 c =
     let counted = c .before .before .before in
-    reference-fault (c .before .before .before .before .before .before .args .edition) _ _ _ _ _ (counted .before .is-numbered .ensures) (not-false _ (counted .if1 .left)) _
+    let start = counted .before .before .before in
+    reference-fault (start .args .edition) _ _ _ _ _ (numbered _ _ _ _ (counted .before .is-numbered .ensures) (start .pre)) (not-false _ (counted .if1 .left)) _
     (decoded-text _ _ _ _ _ _ _ (c .before .before .component-at .ensures)) _ (c .before .same-plain .ensures) (not-true _ (c .if2 .taken))
 
 returns-3 : tie.Need-returns-3
 unfolding spanned
 returns-3 c =
     let counted = c .before .before .before in
-    no-end-fault (c .before .before .before .before .before .before .args .edition) _ _ _ _ _ (counted .before .is-numbered .ensures) (not-false _ (counted .if1 .left)) _
+    let start = counted .before .before .before in
+    no-end-fault (start .args .edition) _ _ _ _ _ (numbered _ _ _ _ (counted .before .is-numbered .ensures) (start .pre)) (not-false _ (counted .if1 .left)) _
     (decoded-text _ _ _ _ _ _ _ (c .before .before .component-at .ensures)) _ (c .before .same-plain .ensures) (not-false _ (c .if2 .left))
 
 pub end-fault-spec : {M : Type 1} → statement M

@@ -1,12 +1,9 @@
 -- `verdict::faults::is_numbered` meets its contract: a count, or none.
-use mathlib.Core.Path.{sym, _∙_}
+use Rattle.verdict.specs.Workers.{spanned}
 use Rattle.verdict.proofs.Numbers.{count-is, count-none}
 use borrow.Author.Needs.{needs}
 use Rattle.verdict.proofs.faults.is_numbered.Statement.{statement}
 use Rattle.verdict.proofs.faults.is_numbered.Tie as tie
-
-component-at-requires : tie.Need-component-at-requires
-component-at-requires c κs = search needs
 
 count-of-requires : tie.Need-count-of-requires
 count-of-requires c κs = search needs
@@ -18,12 +15,12 @@ enum-told : tie.Need-enum-told
 enum-told c = search needs
 
 returns : tie.Need-returns
-returns c = count-is _ _ _ _ _ _ (c .before .before .before .before .component-at .ensures) _ (c .before .before .before .count-of .ensures) _ (c .before .k .given .1)
+unfolding spanned
+returns c = count-is _ _ _ (c .before .before .before .count-of .ensures) _ (c .before .k .given .1)
 
 returns-2 : tie.Need-returns-2
-returns-2 c = count-none _ _ _ _ _ _ (c .before .before .before .component-at .ensures) _ (c .before .before .count-of .ensures) (c .enum-told .given .1)
+unfolding spanned
+returns-2 c = count-none _ _ _ (c .before .before .count-of .ensures) (c .enum-told .given .1)
 
 pub is-numbered-spec : {M : Type 1} → statement M
-is-numbered-spec =
-    tie.close
-    (tie.spec component-at-requires count-of-requires enum-known-k enum-told returns returns-2)
+is-numbered-spec = tie.close (tie.spec count-of-requires enum-known-k enum-told returns returns-2)

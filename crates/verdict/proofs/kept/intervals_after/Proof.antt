@@ -1,22 +1,18 @@
 -- `verdict::kept::intervals_after` meets its contract.
-use borrow.Author.Tests.{not-true, not-false}
-use Rattle.verdict.proofs.Texts.{decoded-text}
-use Rattle.verdict.proofs.Remembering.{already, no-document, document}
+use mathlib.Core.List.{[], _∷_}
+use mathlib.Core.Path.{ap}
+use Rattle.verdict.specs.Workers.{isBgm, spanned}
+use Rattle.verdict.proofs.RoleTags.{not-bgm}
+use Rattle.verdict.proofs.Remembering.{document, no-document}
 use borrow.Author.Needs.{needs}
 use Rattle.verdict.proofs.kept.intervals_after.Statement.{statement}
 use Rattle.verdict.proofs.kept.intervals_after.Tie as tie
 
 returns : tie.Need-returns
-returns c = already _ _ (c .if1 .taken)
+returns c = search needs
 
-has-tag-requires : tie.Need-has-tag-requires
-has-tag-requires c κs = search needs
-
-returns-2 : tie.Need-returns-2
-returns-2 c = no-document (c .before .before .before .before .args .edition) _ _ _ (c .before .before .if1 .left) _ (c .before .has-tag .ensures) (not-true _ (c .if2 .taken))
-
-component-at-requires : tie.Need-component-at-requires
-component-at-requires c κs = search needs
+enum-told : tie.Need-enum-told
+enum-told c = search needs
 
 slice-aggregate-is-code : tie.Need-slice-aggregate-is-code
 slice-aggregate-is-code c = search needs
@@ -24,19 +20,14 @@ slice-aggregate-is-code c = search needs
 is-code-requires : tie.Need-is-code-requires
 is-code-requires c κs = search needs
 
+returns-2 : tie.Need-returns-2
+unfolding spanned
+returns-2 c = document _ _ _ _ (c .before .before .before .before .if1 .left) (ap isBgm (c .before .before .enum-told .given .1)) (c .is-code .ensures)
+
 returns-3 : tie.Need-returns-3
-returns-3 c =
-    let tag = c .before .before .before in
-    document (c .before .before .before .before .before .before .before .args .edition) _ _ _ (tag .before .before .if1 .left) _ (tag .before .has-tag .ensures) (not-false _ (tag .if2 .left)) _ (decoded-text _ _ _ _ _ _ _ (c .before .before .component-at .ensures)) _ (c .is-code .ensures)
+returns-3 c = no-document _ _ _ (c .before .if1 .left) (not-bgm (0 ∷ 1 ∷ 2 ∷ 4 ∷ []) tt (c .before .before .before .args .role) (c .match .keys2))
 
 pub intervals-after-spec : {M : Type 1} → statement M
 intervals-after-spec =
     tie.close
-    (tie.spec
-    returns
-    has-tag-requires
-    returns-2
-    component-at-requires
-    slice-aggregate-is-code
-    is-code-requires
-    returns-3)
+    (tie.spec returns enum-told slice-aggregate-is-code is-code-requires returns-2 returns-3)

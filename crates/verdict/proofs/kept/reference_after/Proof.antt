@@ -1,22 +1,18 @@
 -- `verdict::kept::reference_after` meets its contract.
-use Rattle.verdict.proofs.Texts.{spanned-text}
-use Rattle.verdict.proofs.Remembering.{own-reference, reference-stays}
+use mathlib.Core.List.{[], _∷_}
+use Rattle.verdict.proofs.RoleTags.{not-unh}
 use borrow.Author.Needs.{needs}
 use Rattle.verdict.proofs.kept.reference_after.Statement.{statement}
 use Rattle.verdict.proofs.kept.reference_after.Tie as tie
 
-has-tag-requires : tie.Need-has-tag-requires
-has-tag-requires c κs = search needs
-
-component-at-requires : tie.Need-component-at-requires
-component-at-requires c κs = search needs
+enum-told : tie.Need-enum-told
+enum-told c = search needs
 
 returns : tie.Need-returns
-returns c = own-reference (c .before .before .before .before .args .edition) _ _ _ _ (c .before .before .has-tag .ensures) (c .before .if1 .taken) _ (spanned-text _ _ _ _ _ _ _ (c .component-at .ensures))
+returns c = search needs
 
 returns-2 : tie.Need-returns-2
-returns-2 c = reference-stays (c .before .before .before .args .edition) _ _ _ _ (c .before .has-tag .ensures) (c .if1 .left)
+returns-2 c = rw (not-unh (0 ∷ 1 ∷ 3 ∷ 4 ∷ []) tt (c .before .args .role) (c .match .keys2))
 
 pub reference-after-spec : {M : Type 1} → statement M
-reference-after-spec =
-    tie.close (tie.spec has-tag-requires component-at-requires returns returns-2)
+reference-after-spec = tie.close (tie.spec enum-told returns returns-2)

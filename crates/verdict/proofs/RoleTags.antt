@@ -1,0 +1,147 @@
+-- What a segment is to the rules of a message: one law for each answer of the worker, and what a role says of the node's tag.
+use Prim.Native.Nat.{ℕ}
+use mathlib.Core.Path.{_≡_, refl, sym}
+use mathlib.Core.Bool.{Bool, true, false, not}
+use mathlib.Core.List.{List}
+use lib.Dec.{T}
+use denote.Enum.Declared.{tagOf}
+use mir.Val.{hasKey}
+use types.Run.{OneOf, miss}
+use Rattle.cut.specs.declared.service.Syntax.{Syntax}
+use Rattle.cut.specs.Bytes.{bytesOf}
+use Rattle.cut.specs.Segments.{Segment}
+use Rattle.element.specs.Plain.{same}
+use Rattle.element.proofs.ValueFace.{same-true}
+use Rattle.guide.specs.Judging.{Memory, ruleFault}
+use Rattle.guide.specs.Editions.{guideOf, pagesOf}
+use Rattle.guide.specs.declared.edition.Edition.{Edition}
+use Rattle.guide.specs.Sheet.{isTag}
+use Rattle.verdict.specs.declared.roles.Role.{Role}
+use Rattle.verdict.specs.declared.roles.Role.the-variants.{Lin, Unt, Unh, Bgm, Other}
+use Rattle.verdict.specs.Workers.{pickRole, roleOf, isLin, isUnt, isUnh, isBgm, ruleBy}
+use Rattle.verdict.proofs.roles.Role.{the-type}
+
+-- the worker's answers
+module _ (ed : Edition) (n : ℕ) (l : Bool) (lin : l ≡ isTag (guideOf ed) (bytesOf "LIN") n) where
+  pub is-lin : l ≡ true → Lin ≡ roleOf ed n
+  unfolding roleOf
+  is-lin h = rw (← lin, h)
+
+  module _ (no-lin : l ≡ false) (t : Bool) (unt : t ≡ isTag (guideOf ed) (bytesOf "UNT") n) where
+    pub is-unt : t ≡ true → Unt ≡ roleOf ed n
+    unfolding roleOf
+    is-unt h = rw (← lin, no-lin, ← unt, h)
+
+    module _ (no-unt : t ≡ false) (u : Bool) (unh : u ≡ isTag (guideOf ed) (bytesOf "UNH") n) where
+      pub is-unh : u ≡ true → Unh ≡ roleOf ed n
+      unfolding roleOf
+      is-unh h = rw (← lin, no-lin, ← unt, no-unt, ← unh, h)
+
+      module _ (no-unh : u ≡ false) (b : Bool) (bgm : b ≡ isTag (guideOf ed) (bytesOf "BGM") n) where
+        pub is-bgm : b ≡ true → Bgm ≡ roleOf ed n
+        unfolding roleOf
+        is-bgm h = rw (← lin, no-lin, ← unt, no-unt, ← unh, no-unh, ← bgm, h)
+
+        pub is-other : b ≡ false → Other ≡ roleOf ed n
+        unfolding roleOf
+        is-other h = rw (← lin, no-lin, ← unt, no-unt, ← unh, no-unh, ← bgm, h)
+
+-- a role among those of an arm of a match, which are told by their places in the enum
+module _ (ks : List ℕ) where
+  abbrev Among : Role → Type 0
+  Among r = OneOf ks (tagOf the-type r)
+
+  pub not-lin : T (not (hasKey ks 0)) → (r : Role) → Among r → isLin r ≡ false
+  not-lin t Lin h = absurd (miss ks 0 t h)
+  not-lin t Unt h = refl
+  not-lin t Unh h = refl
+  not-lin t Bgm h = refl
+  not-lin t Other h = refl
+
+  pub not-unt : T (not (hasKey ks 1)) → (r : Role) → Among r → isUnt r ≡ false
+  not-unt t Lin h = refl
+  not-unt t Unt h = absurd (miss ks 1 t h)
+  not-unt t Unh h = refl
+  not-unt t Bgm h = refl
+  not-unt t Other h = refl
+
+  pub not-unh : T (not (hasKey ks 2)) → (r : Role) → Among r → isUnh r ≡ false
+  not-unh t Lin h = refl
+  not-unh t Unt h = refl
+  not-unh t Unh h = absurd (miss ks 2 t h)
+  not-unh t Bgm h = refl
+  not-unh t Other h = refl
+
+  pub not-bgm : T (not (hasKey ks 3)) → (r : Role) → Among r → isBgm r ≡ false
+  not-bgm t Lin h = refl
+  not-bgm t Unt h = refl
+  not-bgm t Unh h = refl
+  not-bgm t Bgm h = absurd (miss ks 3 t h)
+  not-bgm t Other h = refl
+
+-- a node has one tag
+one-tag : (ed : Edition) (n : ℕ) (s t : List ℕ) → same s t ≡ false → isTag (guideOf ed) s n ≡ true → isTag (guideOf ed) t n ≡ false
+unfolding isTag
+one-tag ed n s t d h = rw (same-true _ s h) d
+
+-- of four tests of which at most one holds
+abbrev picked : Bool → Bool → Bool → Bool → Role
+picked l t u b = pickRole l Lin (pickRole t Unt (pickRole u Unh (pickRole b Bgm Other)))
+
+lin-picked : (l t u b : Bool) → isLin (picked l t u b) ≡ l
+lin-picked true t u b = refl
+lin-picked false true u b = refl
+lin-picked false false true b = refl
+lin-picked false false false true = refl
+lin-picked false false false false = refl
+
+unt-picked : (l t u b : Bool) → (l ≡ true → t ≡ false) → isUnt (picked l t u b) ≡ t
+unt-picked true t u b h = sym (h refl)
+unt-picked false true u b h = refl
+unt-picked false false true b h = refl
+unt-picked false false false true h = refl
+unt-picked false false false false h = refl
+
+unh-picked : (l t u b : Bool) → (l ≡ true → u ≡ false) → (t ≡ true → u ≡ false) → isUnh (picked l t u b) ≡ u
+unh-picked true t u b h k = sym (h refl)
+unh-picked false true u b h k = sym (k refl)
+unh-picked false false true b h k = refl
+unh-picked false false false true h k = refl
+unh-picked false false false false h k = refl
+
+bgm-picked : (l t u b : Bool) → (l ≡ true → b ≡ false) → (t ≡ true → b ≡ false) → (u ≡ true → b ≡ false) → isBgm (picked l t u b) ≡ b
+bgm-picked true t u b h k j = sym (h refl)
+bgm-picked false true u b h k j = sym (k refl)
+bgm-picked false false true b h k j = sym (j refl)
+bgm-picked false false false true h k j = refl
+bgm-picked false false false false h k j = refl
+
+-- a node's role says whether it has each of the tags
+module _ (ed : Edition) (n : ℕ) where
+  abbrev tag : List ℕ → Bool
+  tag t = isTag (guideOf ed) t n
+
+  pub role-lin : isLin (roleOf ed n) ≡ tag (bytesOf "LIN")
+  unfolding roleOf
+  role-lin = lin-picked (tag (bytesOf "LIN")) (tag (bytesOf "UNT")) (tag (bytesOf "UNH")) (tag (bytesOf "BGM"))
+
+  pub role-unt : isUnt (roleOf ed n) ≡ tag (bytesOf "UNT")
+  unfolding roleOf same
+  role-unt = unt-picked (tag (bytesOf "LIN")) (tag (bytesOf "UNT")) (tag (bytesOf "UNH")) (tag (bytesOf "BGM")) (one-tag ed n (bytesOf "LIN") (bytesOf "UNT") refl)
+
+  pub role-unh : isUnh (roleOf ed n) ≡ tag (bytesOf "UNH")
+  unfolding roleOf same
+  role-unh =
+      unh-picked (tag (bytesOf "LIN")) (tag (bytesOf "UNT")) (tag (bytesOf "UNH")) (tag (bytesOf "BGM"))
+      (one-tag ed n (bytesOf "LIN") (bytesOf "UNH") refl) (one-tag ed n (bytesOf "UNT") (bytesOf "UNH") refl)
+
+  pub role-bgm : isBgm (roleOf ed n) ≡ tag (bytesOf "BGM")
+  unfolding roleOf same
+  role-bgm =
+      bgm-picked (tag (bytesOf "LIN")) (tag (bytesOf "UNT")) (tag (bytesOf "UNH")) (tag (bytesOf "BGM"))
+      (one-tag ed n (bytesOf "LIN") (bytesOf "BGM") refl) (one-tag ed n (bytesOf "UNT") (bytesOf "BGM") refl) (one-tag ed n (bytesOf "UNH") (bytesOf "BGM") refl)
+
+  -- 21 or 22
+  pub role-rule : (y : Syntax) (i : ℕ) (m : Memory) (s : Segment) → ruleBy ed y i m (roleOf ed n) s ≡ ruleFault y (guideOf ed) (pagesOf ed) i m n s
+  unfolding ruleBy ruleFault
+  role-rule y i m s = rw (role-unt, role-lin)
