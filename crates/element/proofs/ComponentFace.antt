@@ -16,6 +16,10 @@ unfoldable pub use Rattle.element.proofs.components.Lookups.{bytesIn}
 pub use Rattle.element.proofs.components.Places.{Placed, components-placed, components-from}
 -- to the cursor that `Cursor::new` makes, all `components` of the segment are left
 pub use Rattle.element.proofs.cursor.Opening.{rest-opening, rest-new}
+-- in a segment that has a byte, all are what stands from its start on
+pub use Rattle.element.proofs.cursor.Opening.{components-some}
+-- what stands from a place on is the component there, and then what stands behind it, by what ends there
+pub use Rattle.element.proofs.cursor.Steps.{rest-last, rest-element, rest-component}
 -- what is left to a cursor is the component that its step gives, and then what is left to the next cursor
 pub use Rattle.element.proofs.cursor.Visits.{Visited, visited}
 -- where a step gives nothing, nothing is left

@@ -5,6 +5,8 @@ pub mod PageLookup
 pub mod KeyCodes
 pub mod PageFaults
 pub mod PageMoods
+pub mod PageStops
+pub mod PageSought
 pub mod PageSteps
 pub mod PageResults
 pub mod PageScans

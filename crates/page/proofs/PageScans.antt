@@ -1,22 +1,22 @@
 -- The service characters between two components, flagged word by word.
-use Prim.Native.Nat.{ℕ, zero, suc, _+_, _-_, _*_, _^_, _≤_, _<_, min}
+use Prim.Native.Nat.{ℕ, zero, suc, _+_, _-_, _*_, _≤_, _<_}
 use mathlib.Core.Path.{_≡_, refl, sym, ap, _∙_}
-use mathlib.Core.Bool.{Bool, true, false, _&&_, true≢false, false≢true}
+use mathlib.Core.Bool.{Bool, true, false, _&&_, false≢true}
 use mathlib.Core.List.{List}
 use native.Mathlib.Omega.{arith}
 use lib.Bits.{bitAnd, and-self, and-block}
 use lib.ListN.{length, getD}
-use lib.Dec.{leb, ltb}
-use borrow.Author.Tests.{le-leb, lt-leb, leb-true, leb-false, lt-ltb, le-ltb}
+use lib.Dec.{leb}
+use borrow.Author.Tests.{le-leb, lt-leb, leb-true, leb-false}
 use Rattle.cut.specs.Eights.{number, onFrom, flag, flags}
 use Rattle.cut.specs.declared.service.Syntax.{Syntax}
-use Rattle.cut.proofs.Bytewise.{FirstOf, flags-none, first-of}
+use Rattle.cut.proofs.Bytewise.{FirstOf, flags-none}
 use Rattle.element.specs.Components.{extentOf}
-use Rattle.element.specs.Services.{isService, Passed, Service}
+use Rattle.element.specs.Services.{isService, Service}
 use Rattle.element.specs.declared.scan.Extent.{Extent}
 use Rattle.element.proofs.ComponentFace.{extent-stop}
 use Rattle.page.specs.Scans.{waiting, Scanned, AheadOf}
-use Rattle.page.specs.declared.scan.Ahead.{Ahead}
+use Rattle.page.specs.declared.scan.Scan.{Scan}
 
 -- ---- flags
 
@@ -146,11 +146,14 @@ module _ (y : Syntax) (d : List ℕ) (a : ℕ) where
         -- where the component ends there
         pub ahead-found
             : (limit : ℕ) → limit ≤ length d → end < limit → (getD d end 0 ≡ y .release → ⊥)
-            → AheadOf y d a limit (record { end = end; length = end - a; next = n; left = bitAnd m (m - 1) })
-        ahead-found limit fits l r = record { extent = extent-stop y d a limit limit (omega arith) end (scan-service limit) l r; scanned = scan-on }
+            → AheadOf y d a limit (record { end = end; length = end - a; scan = record { at = end + 1; next = n; left = bitAnd m (m - 1) } })
+        ahead-found limit fits l r = record { extent = extent-stop y d a limit limit (omega arith) end (scan-service limit) l r; onward = refl; scanned = scan-on }
+
+pub scan-begins : (y : Syntax) (d : List ℕ) (a : ℕ) → a ≤ suc (length d) → (s : Scan) → s ≡ record { at = a; next = a; left = 0 } → Scanned y d (s .at) (s .next) (s .left)
+scan-begins y d a h s e = rw e (scan-none y d a h)
 
 -- what is found from the component's first byte on
 pub ahead-alone
-    : (y : Syntax) (d : List ℕ) (a limit : ℕ) (p : Extent) → p ≡ extentOf y d a limit → p .end ≤ length d
-    → AheadOf y d a limit (record { end = p .end; length = p .length; next = p .end + 1; left = 0 })
-ahead-alone y d a limit p h fits = record { extent = h; scanned = scan-none y d (p .end + 1) (omega arith) }
+    : (y : Syntax) (d : List ℕ) (a limit : ℕ) (p : Extent) → p ≡ extentOf y d a limit → p .end ≤ length d → (s : Scan) → s ≡ record { at = p .end + 1; next = p .end + 1; left = 0 }
+    → AheadOf y d a limit (record { end = p .end; length = p .length; scan = s })
+ahead-alone y d a limit p h fits s e = rw e (record { extent = h; onward = refl; scanned = scan-none y d (p .end + 1) (omega arith) })

@@ -1,27 +1,24 @@
 -- The pass over a segment's components, one step further.
-use Prim.Native.Nat.{ℕ, zero, suc, _+_, _≤_, _<_, min}
-use mathlib.Core.Bool.{Bool, true, false, cond, true≢false}
+use Prim.Native.Nat.{ℕ, zero, suc, _+_, _≤_, _<_}
+use mathlib.Core.Bool.{false}
 use mathlib.Core.Path.{_≡_, refl, sym, ap, _∙_}
 use mathlib.Core.List.{List, [], _∷_}
-use native.Mathlib.Decide.{decLe}
 use native.Mathlib.Omega.{arith}
 use lib.ListN.{length, getD, drop}
-use lib.Dec.{eqb}
-use borrow.Author.Tests.{le-leb, lt-leb, ne-eqb}
 use Rattle.cut.specs.Bytes.{part}
 use Rattle.cut.specs.declared.service.Syntax.{Syntax}
-use Rattle.cut.proofs.Parts.{part-none, length-part}
-use Rattle.element.specs.Elements.{Ending, ends-segment, ends-element, ends-component, ends-nothing, endingOf, stays, Split, before}
+use Rattle.cut.proofs.Parts.{length-part}
+use Rattle.element.specs.Elements.{Split}
 use Rattle.element.specs.Plain.{plain, decoded}
-use Rattle.element.proofs.Limits.{limited}
-use Rattle.element.proofs.ComponentFace.{from, Ended, Stop, ending-segment, ending-element}
+use Rattle.element.proofs.ComponentFace.{from, Ended}
 use Rattle.guide.specs.Page.{Row, unused, Page, elementOf, rowOf}
 use Rattle.guide.specs.PageFault.{pageFault}
 use Rattle.guide.specs.Choices.{orElse}
-use Rattle.guide.proofs.PageFace.{opened, moodAfter, moodFault, passFault, absentFault, behindFault, segment-pass, pass-component, pass-element, pass-absent, empty-pass}
-use Rattle.page.specs.PageWalk.{Stand, tag, inside, standOf, standFault, standAfter, standEnd, MoodAfter, EndFault, stopBy, stopOf}
-use Rattle.page.specs.PageWords.{rowIn, elementIn, ElementWord, pageIn, NodeWord}
+use Rattle.guide.proofs.PageFace.{opened, moodAfter, moodFault, passFault, absentFault, behindFault, segment-pass, pass-component, pass-element, pass-absent}
+use Rattle.page.specs.PageWalk.{Stand, tag, inside, standOf, standFault, standAfter, standEnd, MoodAfter, EndFault, stopOf}
+use Rattle.page.specs.PageWords.{rowIn, elementIn, ElementWord}
 use Rattle.page.proofs.PageLookup.{element-tag}
+use Rattle.page.proofs.PageStops.{stop-inner, stop-further, stop-none, stop-enters, stop-done}
 
 or-first : (f x : ℕ) → 0 < f → f ≡ orElse f x
 or-first zero x h = absurd (omega arith)
@@ -34,31 +31,6 @@ or-second (suc f) x h = absurd (omega arith)
 or-assoc : (a b c : ℕ) → orElse (orElse a b) c ≡ orElse a (orElse b c)
 or-assoc zero b c = refl
 or-assoc (suc a) b c = refl
-
-component-alone : (b : Bool) → stopBy (cond b ends-component ends-nothing) ≡ 2
-component-alone true = refl
-component-alone false = refl
-
--- what ends at a place, by the tests on it
-module _ (y : Syntax) (d : List ℕ) (n e : ℕ) where
-  pub stop-end : e ≤ n → 0 ≡ stopOf y d n e
-  unfolding stopOf
-  stop-end h = rw (le-leb e n h)
-
-  module _ (h : n < e) where
-    stop-before : stopOf y d n e ≡ stopBy (endingOf y false (getD d n 0))
-    unfolding stopOf
-    stop-before = rw (lt-leb e n h)
-
-    pub stop-segment : getD d n 0 ≡ y .terminator → 0 ≡ stopOf y d n e
-    stop-segment t = sym (stop-before ∙ ap stopBy (ending-segment y _ t))
-
-    pub stop-element : (getD d n 0 ≡ y .terminator → ⊥) → getD d n 0 ≡ y .element → 1 ≡ stopOf y d n e
-    stop-element t g = sym (stop-before ∙ ap stopBy (ending-element y _ t g))
-
-    pub stop-component : (getD d n 0 ≡ y .terminator → ⊥) → (getD d n 0 ≡ y .element → ⊥) → 2 ≡ stopOf y d n e
-    unfolding endingOf
-    stop-component t g = sym (stop-before ∙ rw (ne-eqb (getD d n 0) (y .terminator) t, ne-eqb (getD d n 0) (y .element) g) (component-alone (eqb (getD d n 0) (y .component))))
 
 module _ (y : Syntax) (page : Page) where
   -- what is found in the components bs, of which the first is on the first of the rows rs
@@ -101,11 +73,12 @@ module _ (y : Syntax) (page : Page) where
   pub record Behind (d : List ℕ) (limit ans a e c m : ℕ) : Type 0 where
     pub answer : leftFault e (c + 1) (standOf m) (from y d a limit .components) (from y d a limit .elements) ≡ ans
 
-  pub pass-begins : (d : List ℕ) (limit start : ℕ) → start < limit → limit ≤ length d → Before d limit (pageFault y page (part start limit d)) start 0 0 0 3
+  pub pass-begins : (d : List ℕ) (limit start : ℕ) → start < limit → limit ≤ length d → (a : ℕ) → a ≡ start → Before d limit (pageFault y page (part start limit d)) a 0 0 0 3
   unfolding leftFault standPass
-  pass-begins d limit start h fits =
+  pass-begins d limit start h fits a g =
       let l : 0 < length (part start limit d) = rw (length-part d start limit fits) (omega arith) in
-      record { ahead = omega arith; element = omega arith; component = omega arith; word = element-tag page; answer = segment-pass y page (part start limit d) l }
+      rw g
+      (record { ahead = omega arith; element = omega arith; component = omega arith; word = element-tag page; answer = segment-pass y page (part start limit d) l })
 
   module _ (d : List ℕ) (limit ans a e c w m : ℕ) (q : Before d limit ans a e c w m) (stop : ℕ) (z : Ended y d a limit stop) where
     -- what stands from the component on, and behind the byte that ends it
@@ -135,82 +108,29 @@ module _ (y : Syntax) (page : Page) where
       pass-on h n m′ l k = record { answer = rw (k (decoded y a stop d) l) (sym (or-second fault _ h) ∙ stepped) }
 
     -- what ends where it ends is known
-    module _ (m′ : ℕ) (b : Behind d limit ans a e c m′) (k : ℕ) (s : k ≡ stopOf y d stop limit) where
-      abbrev x : Ending
-      x = endingOf y false (getD d stop 0)
-
-      module _ (h : stop < limit) where
-        kind : k ≡ stopBy x
-        kind = s ∙ stop-before y d stop limit h
-
-        more : Stop y S (getD d stop 0) (part (stop + 1) limit d)
-        more = z .more h
-
-        stuck : {A : Type 0} → x ≡ ends-nothing → A
-        unfolding stays
-        stuck n = absurd (true≢false (sym (ap stays n) ∙ more .ends))
-
-        -- a component follows, or an element, or nothing
-        component-by : (g : Ending) → x ≡ g → stopBy g ≡ 2 → (S .components ≡ T .bytes ∷ T .components) × (S .elements ≡ T .elements)
-        unfolding before
-        component-by ends-segment n i = absurd (omega arith)
-        component-by ends-element n i = absurd (omega arith)
-        component-by ends-component n i = (rw n at (more .components), rw n at (more .elements))
-        component-by ends-nothing n i = stuck n
-
-        element-by : (g : Ending) → x ≡ g → (stopBy g ≡ 0 → ⊥) → (stopBy g ≡ 2 → ⊥) → S .elements ≡ (T .bytes ∷ T .components) ∷ T .elements
-        unfolding before
-        element-by ends-segment n i j = absurd (i refl)
-        element-by ends-element n i j = rw n at (more .elements)
-        element-by ends-component n i j = absurd (j refl)
-        element-by ends-nothing n i j = stuck n
-
-        none-by : (g : Ending) → x ≡ g → (stopBy g ≡ 2 → ⊥) → S .components ≡ []
-        unfolding before
-        none-by ends-segment n j = rw n at (more .components)
-        none-by ends-element n j = rw n at (more .components)
-        none-by ends-component n j = absurd (j refl)
-        none-by ends-nothing n j = stuck n
-
-        done-by : (g : Ending) → x ≡ g → stopBy g ≡ 0 → S .elements ≡ []
-        unfolding before
-        done-by ends-segment n j = rw n at (more .elements)
-        done-by ends-element n j = absurd (omega arith)
-        done-by ends-component n j = absurd (omega arith)
-        done-by ends-nothing n j = stuck n
-
-      inner-by : Dec (limit ≤ stop) → (k ≡ 0 → ⊥) → stop < limit
-      inner-by (yes h) i = absurd (i (s ∙ sym (stop-end y d stop limit h)))
-      inner-by (no h) i = omega arith
-
-      pub inner : (k ≡ 0 → ⊥) → stop < limit
-      inner = inner-by (decLe limit stop)
-
+    module _ (m′ : ℕ) (b : Behind d limit ans a e c m′) (k : ℕ) (s : k ≡ stopOf y d stop limit) (on : ℕ) (o : on ≡ stop + 1) where
       -- the next component of the element
-      pub pass-further : k ≡ 2 → Before d limit ans (stop + 1) e (c + 1) w m′
+      pub pass-further : k ≡ 2 → Before d limit ans on e (c + 1) w m′
       pass-further i =
-          let h = inner (λ j. omega arith) in
-          let n = component-by h x refl (sym (kind h) ∙ i) in
-          let o = z .ends in
-          record {
+          let h = stop-inner y d a limit stop z k s (λ j. omega arith) in
+          let n = stop-further y d a limit stop z k s i in
+          let g = z .ends in
+          rw o
+          (record {
             ahead = omega arith;
             element = omega (arith, q .element);
             component = omega (arith, q .component);
             word = q .word;
             answer = rw (← n .0, ← n .1) (b .answer);
-          }
+          })
 
       -- the element ends
       module _ (j : k ≡ 2 → ⊥) (f : ℕ) (t : EndFault w c m′ f) where
-        none-left : Dec (limit ≤ stop) → S .components ≡ []
-        none-left (yes h) = z .last h .components
-        none-left (no h) = none-by (omega arith) x refl (λ i. j (kind (omega arith) ∙ i))
-
         ended : orElse f (behindFault y page e (S .elements)) ≡ ans
         ended =
             ap (λ (g : ℕ). orElse g (behindFault y page e (S .elements))) (t (elementOf page e) (q .word))
             ∙ sym (left-end e (c + 1) (standOf m′) (S .elements))
-            ∙ ap (λ (bs : List (List ℕ)). leftFault e (c + 1) (standOf m′) bs (S .elements)) (sym (none-left (decLe limit stop)))
+            ∙ ap (λ (bs : List (List ℕ)). leftFault e (c + 1) (standOf m′) bs (S .elements)) (sym (stop-none y d a limit stop z k s j))
             ∙ b .answer
 
         pub pass-left : 0 < f → f ≡ ans
@@ -220,37 +140,21 @@ module _ (y : Syntax) (page : Page) where
           calm : behindFault y page e (S .elements) ≡ ans
           calm = sym (or-second f _ l) ∙ ended
 
-          done-left : k ≡ 0 → Dec (limit ≤ stop) → S .elements ≡ []
-          done-left i (yes h) = z .last h .elements
-          done-left i (no h) = done-by (omega arith) x refl (sym (kind (omega arith)) ∙ i)
-
           -- the segment too
           pub pass-done : k ≡ 0 → absentFault (drop e page) ≡ ans
-          pass-done i = sym (pass-absent y page e) ∙ ap (behindFault y page e) (sym (done-left i (decLe limit stop))) ∙ calm
+          pass-done i = sym (pass-absent y page e) ∙ ap (behindFault y page e) (sym (stop-done y d a limit stop z k s i)) ∙ calm
 
           -- or the next one begins
-          pub pass-enter : (k ≡ 0 → ⊥) → (w′ m″ : ℕ) → ElementWord w′ (elementOf page (e + 1)) → standOf m″ ≡ inside (opened (elementIn w′)) → Before d limit ans (stop + 1) (e + 1) 0 w′ m″
+          pub pass-enter : (k ≡ 0 → ⊥) → (w′ m″ : ℕ) → ElementWord w′ (elementOf page (e + 1)) → standOf m″ ≡ inside (opened (elementIn w′)) → Before d limit ans on (e + 1) 0 w′ m″
           unfolding leftFault standPass
-          pass-enter i w′ m″ v o =
-              let h = inner i in
-              let n = element-by h x refl (λ g. i (kind h ∙ g)) (λ g. j (kind h ∙ g)) in
+          pass-enter i w′ m″ v p =
+              let h = stop-inner y d a limit stop z k s i in
               let g = z .ends in
-              record {
+              rw o
+              (record {
                 ahead = omega arith;
                 element = omega (arith, q .element);
                 component = omega arith;
                 word = v;
-                answer = rw (o, v .element) (sym (pass-element y page e (T .bytes ∷ T .components) (T .elements)) ∙ ap (behindFault y page e) (sym n) ∙ calm);
-              }
-
--- the page of a node has the node's word, and an end past the delivery counts as the delivery's end
-module _ (w : ℕ) (page : Page) (n : NodeWord w page) where
-  pub own-word : NodeWord w (pageIn w)
-  own-word = record { page = refl; reach = rw (n .page) (n .reach) }
-
-  module _ (y : Syntax) (d : List ℕ) (start end limit : ℕ) (h : limit ≡ min end (length d)) where
-    pub passed-none : limit ≤ start → (r : ℕ) → r ≡ absentFault (drop 0 (pageIn w)) → r ≡ pageFault y page (part start end d)
-    passed-none l r p = p ∙ rw (n .page) (empty-pass y page (part start end d) (sym (limited d start end limit h) ∙ part-none d start limit l))
-
-    pub passed-some : (r : ℕ) → r ≡ pageFault y (pageIn w) (part start limit d) → r ≡ pageFault y page (part start end d)
-    passed-some r p = p ∙ rw (n .page, limited d start end limit h)
+                answer = rw (p, v .element) (sym (pass-element y page e (T .bytes ∷ T .components) (T .elements)) ∙ ap (behindFault y page e) (sym (stop-enters y d a limit stop z k s i j)) ∙ calm);
+              })

@@ -4,3 +4,4 @@ pub mod PageKeys
 pub mod PageWalk
 pub mod Examined
 pub mod Scans
+pub mod PagePlaces

@@ -26,4 +26,5 @@ pub record Scanned (y : Syntax) (d : List ℕ) (a next left : ℕ) : Type 0 wher
 -- r says of the component that begins at the place a where it ends and how long it is, and what is tested behind it
 pub record AheadOf (y : Syntax) (d : List ℕ) (a limit : ℕ) (r : Ahead) : Type 0 where
   pub extent : record { end = r .end; length = r .length } ≡ extentOf y d a limit
-  pub scanned : Scanned y d (r .end + 1) (r .next) (r .left)
+  pub onward : r .scan .at ≡ r .end + 1
+  pub scanned : Scanned y d (r .scan .at) (r .scan .next) (r .scan .left)

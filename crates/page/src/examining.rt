@@ -1,9 +1,12 @@
-// The segment's first fault against the page of its node, and the places of two of its components.
-use crate::pages::page_fault;
+// The segment's first fault against the page of a node of an edition, 18, 17, 19 or 20, or 0 and the places of two of its components.
+use crate::pages::absent;
+use crate::pages::pass;
 use crate::places::Examined;
+use crate::places::nowhere;
+use crate::places::told;
+use crate::words::node_word;
 use cut::Syntax;
-use element::Span;
-use element::component_at;
+use element::limit_of;
 use guide::Edition;
 ghost use mathlib.Core.Path.{_≡_};
 ghost use Rattle.guide.specs.Editions.{pagesOf};
@@ -19,17 +22,10 @@ pub fn examined(
 ) -> Examined
     ensures { λ r. ⌜ r ≡ examinedOf y (pagesOf edition node) (now (d .entry)) start end ⌝ }
 {
-    let fault = page_fault(y, edition, node, d, start, end);
-    if fault != 0 {
-        return Examined {
-            fault,
-            first: Span { start, end: start },
-            third: Span { start, end: start },
-        };
+    let page = node_word(edition, node);
+    let limit = limit_of(d, end);
+    if limit <= start {
+        return told(absent(page, 0), nowhere(start), start);
     }
-    Examined {
-        fault: 0,
-        first: component_at(y, d, start, end, 1, 0),
-        third: component_at(y, d, start, end, 3, 0),
-    }
+    pass(y, d, start, limit, page)
 }

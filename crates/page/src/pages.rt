@@ -1,28 +1,28 @@
-// The first fault of a segment against its page, in one pass over its components from left to right. The pass keeps plain numbers: the place of the component
-// that comes next, its element's number, its own, the word of its element, the mood: 0 idle, 1 asking, 2 owing, 3 in the tag, of which nothing is asked; and
-// what the scan has tested from this component on.
+// The first fault of a segment against its page, in one pass over its components from left to right. The pass keeps plain numbers: the scan before the
+// component that comes next, its element's number, its own, the word of its element, and the mood: 0 idle, 1 asking, 2 owing, 3 in the tag, of which nothing is
+// asked; and the places of two components.
 use crate::formed::is_must;
 use crate::formed::text_fault;
+use crate::places::Examined;
+use crate::places::nowhere;
+use crate::places::places_on;
+use crate::places::told;
 use crate::rows::element_behind;
 use crate::rows::row_at;
 use crate::scan::component_on;
-use crate::words::node_word;
+use crate::scan::untested;
 use cut::Syntax;
-use element::limit_of;
-use guide::Edition;
 ghost use Prim.Native.Nat.{_≤_, _<_};
 ghost use mathlib.Core.Path.{_≡_};
 ghost use lib.ListN.{length, drop};
-ghost use Rattle.cut.specs.Bytes.{part};
 ghost use Rattle.element.specs.Plain.{decoded};
-ghost use Rattle.guide.specs.Editions.{pagesOf};
-ghost use Rattle.guide.specs.PageFault.{pageFault};
 ghost use Rattle.guide.proofs.PageFace.{opened, absentFault};
+ghost use Rattle.page.specs.Examined.{examinedOf};
 ghost use Rattle.page.specs.PageWalk.{inside, standOf, standFault, MoodAfter, EndFault, stopOf};
 ghost use Rattle.page.specs.PageWords.{rowIn, elementIn, pageIn, NodeWord};
 
 // The fault of the elements behind element e of the page that has a word, where none of them stands.
-fn absent(page: usize, e: usize) -> u32
+pub(crate) fn absent(page: usize, e: usize) -> u32
     requires { ⌜ NodeWord page (pageIn page) ⌝ }
     ensures { λ r. ⌜ r ≡ absentFault (drop e (pageIn page)) ⌝ }
 {
@@ -111,28 +111,27 @@ fn stop_at(y: Syntax, d: &[u8], at: usize, limit: usize) -> usize
 }
 
 // The pass over a part that has a byte, against the page that has a word.
-fn pass(y: Syntax, d: &[u8], start: usize, limit: usize, page: usize) -> u32
+pub(crate) fn pass(y: Syntax, d: &[u8], start: usize, limit: usize, page: usize) -> Examined
     requires { ⌜ (start < limit) × (limit ≤ length (now d)) × NodeWord page (pageIn page) ⌝ }
-    ensures { λ r. ⌜ r ≡ pageFault y (pageIn page) (part start limit (now (d .entry))) ⌝ }
+    ensures { λ r. ⌜ r ≡ examinedOf y (pageIn page) (now (d .entry)) start limit ⌝ }
 {
-    let mut a = start;
+    let mut scan = untested(start);
+    let mut places = nowhere(start);
     let mut e = 0;
     let mut c = 0;
     let mut word = 0;
     let mut mood = 3;
-    let mut next = start;
-    let mut left = 0;
     loop {
-        let p = component_on(y, d, a, limit, next, left);
+        let a = scan.at;
+        let p = component_on(y, d, limit, scan);
         let row = row_at(word, c);
         let fault = known_fault(y, d, a, p.end, p.length, row, mood);
         if 0 < fault {
-            return fault;
+            return told(fault, places, start);
         }
+        places = places_on(e, c, a, p.end, places);
         mood = mood_after(p.length, row, mood);
-        a = p.end + 1;
-        next = p.next;
-        left = p.left;
+        scan = p.scan;
         let stop = stop_at(y, d, p.end, limit);
         if stop == 2 {
             c += 1;
@@ -140,33 +139,14 @@ fn pass(y: Syntax, d: &[u8], start: usize, limit: usize, page: usize) -> u32
         }
         let lack = ending(word, c, mood);
         if 0 < lack {
-            return lack;
+            return told(lack, places, start);
         }
         if stop == 0 {
-            return absent(page, e);
+            return told(absent(page, e), places, start);
         }
         word = element_behind(page, e);
         e += 1;
         c = 0;
         mood = opening(word);
     }
-}
-
-// 0, or the number of the segment's first fault against the page of a node of an edition: 18, 17, 19 or 20.
-pub(crate) fn page_fault(
-    y: Syntax,
-    edition: Edition,
-    node: usize,
-    d: &[u8],
-    start: usize,
-    end: usize,
-) -> u32
-    ensures { λ r. ⌜ r ≡ pageFault y (pagesOf edition node) (part start end (now (d .entry))) ⌝ }
-{
-    let page = node_word(edition, node);
-    let limit = limit_of(d, end);
-    if limit <= start {
-        return absent(page, 0);
-    }
-    pass(y, d, start, limit, page)
 }

@@ -4,16 +4,34 @@ use cut::Syntax;
 use element::component_from;
 use element::services_in;
 ghost use Prim.Native.Nat.{_≤_};
+ghost use mathlib.Core.Path.{_≡_};
 ghost use lib.ListN.{length};
 ghost use Rattle.page.specs.Scans.{Scanned, AheadOf};
 
-// The place after a component's last byte, its length with release marks removed, the place behind the last word that was tested, and the flags of this
-// word's service characters behind the byte that ends the component.
+// The place of the component that comes next, the place behind the last word that was tested, and the flags of those of this word's service characters that
+// are not before the component.
+pub(crate) struct Scan {
+    pub(crate) at: usize,
+    pub(crate) next: usize,
+    pub(crate) left: u64,
+}
+
+// The place after a component's last byte, its length with release marks removed, and the scan behind the byte that ends it.
 pub(crate) struct Ahead {
     pub(crate) end: usize,
     pub(crate) length: usize,
-    pub(crate) next: usize,
-    pub(crate) left: u64,
+    pub(crate) scan: Scan,
+}
+
+// Nothing is tested from the place `at` on.
+pub(crate) fn untested(at: usize) -> Scan
+    ensures { λ r. ⌜ r ≡ record { at = at; next = at; left = 0 } ⌝ }
+{
+    Scan {
+        at,
+        next: at,
+        left: 0,
+    }
 }
 
 // The component that begins at the place `a`, with nothing tested behind it.
@@ -25,30 +43,23 @@ fn alone(y: Syntax, d: &[u8], a: usize, limit: usize) -> Ahead
     Ahead {
         end: p.end,
         length: p.length,
-        next: p.end + 1,
-        left: 0,
+        scan: untested(p.end + 1),
     }
 }
 
-// The component that begins at the place `a`, of a part up to `limit`. It ends at the first service character that is flagged, unless this is the release
-// character or stands behind the part.
-pub(crate) fn component_on(
-    y: Syntax,
-    d: &[u8],
-    a: usize,
-    limit: usize,
-    next: usize,
-    left: u64,
-) -> Ahead
-    requires { ⌜ (a ≤ limit) × (limit ≤ length (now d)) × Scanned y (now d) a next left ⌝ }
-    ensures { λ r. ⌜ AheadOf y (now (d .entry)) a limit r ⌝ }
+// The component that comes next, of a part up to `limit`. It ends at the first service character that is flagged, unless this is the release character or
+// stands behind the part.
+pub(crate) fn component_on(y: Syntax, d: &[u8], limit: usize, scan: Scan) -> Ahead
+    requires { ⌜ (scan .at ≤ limit) × (limit ≤ length (now d)) × Scanned y (now d) (scan .at) (scan .next) (scan .left) ⌝ }
+    ensures { λ r. ⌜ AheadOf y (now (d .entry)) (scan .at) limit r ⌝ }
 {
+    let a = scan.at;
     if d.len() < 8 {
         return alone(y, d, a, limit);
     }
     let last = d.len() - 8;
-    let mut n = next;
-    let mut m = left;
+    let mut n = scan.next;
+    let mut m = scan.left;
     while m == 0 {
         if limit <= n {
             return alone(y, d, a, limit);
@@ -69,7 +80,10 @@ pub(crate) fn component_on(
     Ahead {
         end,
         length: end - a,
-        next: n,
-        left: m & (m - 1),
+        scan: Scan {
+            at: end + 1,
+            next: n,
+            left: m & (m - 1),
+        },
     }
 }

@@ -17,7 +17,7 @@ use Rattle.element.specs.declared.cursor.Cursor.{Cursor}
 use Rattle.element.proofs.Limits.{limited}
 use Rattle.element.proofs.cursor.Standing.{standing-of, rest-standing, rest-done}
 
-components-some : (y : Syntax) (p : ℕ) (s : List ℕ) → 0 < length s → components y p s ≡ restFrom 0 0 p (splitFrom y false s)
+pub components-some : (y : Syntax) (p : ℕ) (s : List ℕ) → 0 < length s → components y p s ≡ restFrom 0 0 p (splitFrom y false s)
 unfolding components elements inElements restFrom
 components-some y p [] h = absurd (omega arith)
 components-some y p (x ∷ xs) h = refl

@@ -15,11 +15,16 @@ ended
     → let a = c .before .before .args in Ended (a .y) (a .d .now) (a .a) (a .limit) (c .component-from .result .end)
 ended c = extent-ended _ _ _ _ _ (c .component-from .ensures) (c .before .before .pre .0) (c .before .before .pre .1)
 
-add-t6 : tie.Need-add-t6
-add-t6 c = omega (arith, ended (c .before) .within, c .before .before .before .pre .1)
+add-untested : tie.Need-add-untested
+add-untested c = omega (arith, ended (c .before) .within, c .before .before .before .pre .1)
+
+untested-requires : tie.Need-untested-requires
+untested-requires c κs = search needs
 
 returns : tie.Need-returns
-returns c = ahead-alone _ _ _ _ _ (c .before .component-from .ensures) (omega (arith, ended (c .before) .within, c .before .before .before .pre .1))
+returns c =
+    let f = c .before .before in
+    ahead-alone _ _ _ _ _ (f .component-from .ensures) (omega (arith, ended f .within, f .before .before .pre .1)) _ (c .untested .ensures)
 
 pub alone-spec : {M : Type 1} → statement M
-alone-spec = tie.close (tie.spec component-from-requires add-t6 returns)
+alone-spec = tie.close (tie.spec component-from-requires add-untested untested-requires returns)

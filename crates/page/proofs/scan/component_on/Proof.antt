@@ -11,10 +11,10 @@ use Rattle.page.proofs.scan.component_on.Statement.{statement}
 use Rattle.page.proofs.scan.component_on.Tie as tie
 
 abbrev Inv-loop : tie.InvT-loop
-Inv-loop y d a limit next left last n₀ m₀ n m = Scanned y d a n m
+Inv-loop y d limit a last n₀ m₀ n m = Scanned y d a n m
 
 abbrev μ-loop : tie.MeasureT-loop
-μ-loop y d a limit next left last n₀ m₀ n m = limit - n
+μ-loop y d limit a last n₀ m₀ n m = limit - n
 
 alone-requires : tie.Need-alone-requires Inv-loop μ-loop
 alone-requires c κs = search needs
@@ -69,7 +69,7 @@ first
     : (c : tie.After-first-of Inv-loop μ-loop)
     → let l = c .before .before in
     let a = l .before .before .before .args in
-    FirstOf 8 (waiting (a .y) (a .d .now) (a .a) (l .loop .n)) (c .first-of .result)
+    FirstOf 8 (waiting (a .y) (a .d .now) (a .scan .at) (l .loop .n)) (c .first-of .result)
 first c = first-of _ _ _ (c .before .before .loop .inv .flagged) (c .before .loop-test .left) (c .first-of .ensures)
 
 add-end : tie.Need-add-end Inv-loop μ-loop
@@ -93,13 +93,16 @@ alone-requires-5 c κs = search needs
 returns-5 : tie.Need-returns-5 Inv-loop μ-loop
 returns-5 c = c .alone5 .ensures
 
-sub-t15 : tie.Need-sub-t15 Inv-loop μ-loop
-sub-t15 c =
+sub-t14 : tie.Need-sub-t14 Inv-loop μ-loop
+sub-t14 c =
     let f = c .before .before .before .before in
     omega (arith, scan-flag _ _ _ _ _ (f .before .before .loop .inv) _ (first f))
 
-sub-t18 : tie.Need-sub-t18 Inv-loop μ-loop
-sub-t18 c = omega (arith, c .before .before .before .before .before .loop-test .left)
+add-t10 : tie.Need-add-t10 Inv-loop μ-loop
+add-t10 c = search needs
+
+sub-t17 : tie.Need-sub-t17 Inv-loop μ-loop
+sub-t17 c = omega (arith, c .before .before .before .before .before .loop-test .left)
 
 returns-6 : tie.Need-returns-6 Inv-loop μ-loop
 returns-6 c =
@@ -134,6 +137,7 @@ component-on-spec =
     shared-slice-read-if5
     alone-requires-5
     returns-5
-    sub-t15
-    sub-t18
+    sub-t14
+    add-t10
+    sub-t17
     returns-6)
