@@ -1,13 +1,13 @@
 -- What can come after a node: no two open instances have followers of one tag, so the level-by-level search finds the lowest follower that matches.
-use Prim.Native.Nat.{ℕ, suc, _-_, _%_, _^_, _≤_, _<_}
+use Prim.Native.Nat.{ℕ, suc, _-_, _≤_, _<_}
 use mathlib.Core.Path.{_≡_, refl, sym, _∙_, ap}
 use mathlib.Core.Bool.{Bool, true, false, not, _&&_, _||_, true≢false}
 use mathlib.Core.List.{List, [], _∷_}
 use native.Mathlib.Omega.{arith}
 use lib.ListN.{length, take}
-use lib.Dec.{T, T-not, eqb, ltb, leb, eqb→eq, ltb→lt}
-use lib.Bits.{bitAnd, and-le-l}
-use borrow.Author.Tests.{eq-eqb, lt-ltb, ltb-true, ltb-false}
+use lib.Dec.{T, T-not, eqb, ltb, leb, eqb→eq}
+use lib.Bits.{bitAnd}
+use borrow.Author.Tests.{eq-eqb, ltb-true, ltb-false}
 use Rattle.cut.specs.Bytes.{part}
 use Rattle.cut.specs.declared.service.Syntax.{Syntax}
 use Rattle.guide.specs.Nodes.{View, Guide, node, chosen, matches}
@@ -22,12 +22,12 @@ use Rattle.guide.specs.declared.edition.Edition.the-variants.{D, C}
 use Rattle.guide.specs.Editions.{guideOf}
 use Rattle.judge.specs.Words.{packed, Bytes}
 use Rattle.judge.specs.Rows.{childOf, dueOf}
-use Rattle.judge.specs.Sets.{someLevel, followsIn, followersOf, taggedOf, dueAfter, afterWord}
+use Rattle.judge.specs.Sets.{nodesThat, someLevel, followsIn, followersOf, taggedOf, dueAfter, afterWord}
 use Rattle.judge.proofs.Sound.{sound-at}
 use Rattle.judge.proofs.Matches.{match-tagged}
 use Rattle.judge.proofs.Links.{lowest-none, lowest-like, lowest-is}
 use Rattle.judge.proofs.Levels.{level-nowhere, seek-outside}
-use Rattle.judge.proofs.Members.{member, member-none, member-and, nodes-member, nodes-none, nodes-fit}
+use Rattle.judge.proofs.Members.{member-none, nodes-none, both-fit, both-inside, both-are}
 use Rattle.judge.proofs.Sought.{Sought, within}
 
 -- no node that can come in an open instance has the tag of one that can come further out
@@ -73,7 +73,7 @@ module _ (g : Guide) (v : View) (tag : ℕ) (alike : (n : ℕ) → 0 < n → n <
 
   seek-lowest : (ls : List Level) → T (apart g ls) → seek g v ls ≡ firstNode g (comes ls)
   unfolding seek apart someLevel
-  seek-lowest [] h = sym (lowest-none (comes []) 1 (length g - 1) (λ m l. refl))
+  seek-lowest [] h = sym (lowest-none (comes []) 1 (length g - 1) (λ m a b. refl))
   seek-lowest (l ∷ ls) h = go _ (searched (fitsIn g v (l .node) (l .reached)) 1 (length g - 1)) (seek-lowest ls (and-right (every clear (length g)) (apart g ls) h))
     where
       clear : ℕ → Bool
@@ -121,11 +121,6 @@ module _ (e : Edition) (last : ℕ) (past : length (guideOf e) ≤ last) where
   unfolding afterWord
   after-past = rw (followers-past, due-past)
 
--- the two sets of a node as one word
-pub after-lower : (e : Edition) (last w : ℕ) → w ≡ afterWord (guideOf e) last → w % 4294967296 ≡ followersOf (guideOf e) last
-unfolding afterWord followersOf
-after-lower e last w h = rw h (omega (arith, nodes-fit e (λ n. someLevel (followsIn (guideOf e) n) (levels (guideOf e) (suc last) last 0))))
-
 -- whether a segment has one of the codes of node n
 abbrev pub hasCode : Edition → View → ℕ → Bool
 hasCode e v n = chosen (node (guideOf e) n .selector .codes) (v .key (node (guideOf e) n .selector .element) (node (guideOf e) n .selector .component))
@@ -144,28 +139,18 @@ module _ (e : Edition) (y : Syntax) (d : List ℕ) (start end : ℕ) (bytes : By
   by-tag : (n : ℕ) → 0 < n → n < length (guideOf e) → matches (node (guideOf e) n) view ≡ eqb (packed (node (guideOf e) n .tag)) tag && coded n
   by-tag n a b = match-tagged y d start end bytes (guideOf e) n (sound-at e n a b) tag own
 
-  set-member
-      : (n : ℕ) → member s n
-      ≡ (ltb n (length (guideOf e)) && (ltb 0 n && follows n)) && (ltb n (length (guideOf e)) && (ltb 0 n && eqb (packed (node (guideOf e) n .tag)) tag))
+  abbrev named : ℕ → Bool
+  named n = eqb (packed (node (guideOf e) n .tag)) tag
+
+  both : s ≡ bitAnd (nodesThat (guideOf e) follows) (nodesThat (guideOf e) named)
   unfolding followersOf taggedOf
-  set-member n = rw (set, member-and _ _ n, nodes-member (guideOf e) follows n, nodes-member (guideOf e) (λ m. eqb (packed (node (guideOf e) m .tag)) tag) n)
-
-  fits : s < 2 ^ 32
-  unfolding followersOf
-  fits = omega (arith, set, and-le-l (followersOf (guideOf e) last) (taggedOf (guideOf e) tag), nodes-fit e follows)
-
-  inside : (n : ℕ) → member s n ≡ true → (0 < n) × (n < length (guideOf e))
-  inside n h =
-      let t = and-left (ltb n (length (guideOf e)) && (ltb 0 n && follows n)) _ (T-true (sym (set-member n) ∙ h)) in (
-        ltb→lt 0 n (and-left (ltb 0 n) _ (and-right (ltb n (length (guideOf e))) _ t)),
-        ltb→lt n _ (and-left (ltb n (length (guideOf e))) _ t),
-      )
+  both = set
 
   answer : firstNode (guideOf e) (within s coded) ≡ seek (guideOf e) view (levels (guideOf e) (suc last) last 0)
   answer = go (ltb last (length (guideOf e))) refl
     where
       same : (n : ℕ) → 0 < n → n < length (guideOf e) → within s coded n ≡ follows n && matches (node (guideOf e) n) view
-      same n a b = rw (set-member n, by-tag n a b, lt-ltb n (length (guideOf e)) b, lt-ltb 0 n a) (sym (and-over (follows n) _ (coded n)))
+      same n a b = rw (both-are e follows named s n both a b, by-tag n a b) (sym (and-over (follows n) _ (coded n)))
 
       go : (b : Bool) → ltb last (length (guideOf e)) ≡ b → firstNode (guideOf e) (within s coded) ≡ seek (guideOf e) view (levels (guideOf e) (suc last) last 0)
       go true h =
@@ -176,7 +161,7 @@ module _ (e : Edition) (y : Syntax) (d : List ℕ) (start end : ℕ) (bytes : By
       go false h =
           let past = ltb-false last (length (guideOf e)) h in
           let none : s ≡ 0 = set ∙ ap (λ (x : ℕ). bitAnd x (taggedOf (guideOf e) tag)) (followers-past e last past) in
-          lowest-none (within s coded) 1 (length (guideOf e) - 1) (λ m l. rw (none, member-none m)) ∙ sym (seek-outside e view last past)
+          lowest-none (within s coded) 1 (length (guideOf e) - 1) (λ m a b. rw (none, member-none m)) ∙ sym (seek-outside e view last past)
 
   pub seek-begins : Sought (guideOf e) (hasCode e view) (seek (guideOf e) view (levels (guideOf e) (suc last) last 0)) s
-  seek-begins = record { fits = fits; inside = inside; answer = answer }
+  seek-begins = record { fits = both-fit e follows named s both; inside = λ n h. both-inside e follows named s n both h; answer = answer }

@@ -11,29 +11,32 @@ use Rattle.guide.specs.Placing.{firstNode, levels, tally, lacking, missing}
 use Rattle.guide.specs.declared.edition.Edition.{Edition}
 use Rattle.guide.specs.Editions.{guideOf}
 use Rattle.judge.specs.Rows.{childOf, dueOf}
-use Rattle.judge.specs.Workers.{wanted, lacksDue}
+use Rattle.judge.specs.Workers.{wanted, missed, lacksDue}
 use Rattle.judge.proofs.Links.{Only, pick-none}
 use Rattle.judge.proofs.Levels.{orElse-some, levels-up, levels-root}
 
-module _ (g : Guide) (cs : List ℕ) (n p m : ℕ) where
-  pub lacks-there : (tally cs m ≡ 0 → ⊥) → false ≡ lacksDue g cs n p m
+module _ (g : Guide) (cs : List ℕ) (m : ℕ) where
+  pub missed-there : (tally cs m ≡ 0 → ⊥) → false ≡ missed g cs m
+  unfolding missed
+  missed-there h = rw (ne-eqb (tally cs m) 0 h)
+
+  pub missed-wanted : tally cs m ≡ 0 → (w : Bool) → w ≡ wanted g cs m → w ≡ missed g cs m
+  unfolding missed
+  missed-wanted none w want = rw (eq-eqb (tally cs m) 0 none) want
+
+module _ (g : Guide) (cs : List ℕ) (n p m : ℕ) (r : Bool) (gone : r ≡ missed g cs m) where
+  pub lacks-none : r ≡ false → false ≡ lacksDue g cs n p m
   unfolding lacksDue
-  lacks-there h = rw (ne-eqb (tally cs m) 0 h)
+  lacks-none h = rw (sym gone, h)
 
-  module _ (none : tally cs m ≡ 0) (w : Bool) (want : w ≡ wanted g cs m) where
-    pub lacks-unwanted : w ≡ false → false ≡ lacksDue g cs n p m
+  module _ (so : r ≡ true) (q : ℕ) (parent : q ≡ node g n .parent) where
+    pub lacks-closed : (p ≡ q → ⊥) → true ≡ lacksDue g cs n p m
     unfolding lacksDue
-    lacks-unwanted h = rw (eq-eqb (tally cs m) 0 none, sym want, h)
+    lacks-closed h = rw (sym gone, so, sym parent, ne-eqb p q h)
 
-    module _ (so : w ≡ true) (q : ℕ) (parent : q ≡ node g n .parent) where
-      pub lacks-closed : (p ≡ q → ⊥) → true ≡ lacksDue g cs n p m
-      unfolding lacksDue
-      lacks-closed h = rw (eq-eqb (tally cs m) 0 none, sym want, so, sym parent, ne-eqb p q h)
-
-      pub lacks-earlier
-          : (a b : ℕ) → p ≡ q → a ≡ node g m .counter → b ≡ node g n .counter → ltb a b ≡ lacksDue g cs n p m
-      unfolding lacksDue
-      lacks-earlier a b h i j = rw (eq-eqb (tally cs m) 0 none, sym want, so, sym parent, eq-eqb p q h, sym i, sym j)
+    pub lacks-earlier : (a b : ℕ) → p ≡ q → a ≡ node g m .counter → b ≡ node g n .counter → ltb a b ≡ lacksDue g cs n p m
+    unfolding lacksDue
+    lacks-earlier a b h i j = rw (sym gone, so, sym parent, eq-eqb p q h, sym i, sym j)
 
 pub and-left : (a b : Bool) → a && b ≡ true → a ≡ true
 and-left true b h = refl
@@ -48,12 +51,14 @@ due-fails true true pair came rest h = absurd (true≢false h)
 
 due-holds
     : (child must pair came none rest : Bool) → pair && must ≡ false → child && (must || pair) ≡ true
-    → child && ((must || (pair && came)) && (none && rest)) ≡ none && ((not pair || came) && rest)
+    → child && ((must || (pair && came)) && (none && rest)) ≡ (none && (not pair || came)) && rest
 due-holds false must pair came none rest k h = absurd (true≢false (sym h))
 due-holds true false false came none rest k h = absurd (true≢false (sym h))
 due-holds true true true came none rest k h = absurd (true≢false k)
-due-holds true true false came none rest k h = refl
-due-holds true false true true none rest k h = refl
+due-holds true true false came true rest k h = refl
+due-holds true true false came false rest k h = refl
+due-holds true false true true true rest k h = refl
+due-holds true false true true false rest k h = refl
 due-holds true false true false true rest k h = refl
 due-holds true false true false false rest k h = refl
 
@@ -68,7 +73,7 @@ module _ (g : Guide) (cs : List ℕ) (n p : ℕ) where
   pub lacks-due
       : (m : ℕ) (r b : Bool) → paired g m && node g m .must ≡ false → dueOf g p m ≡ true → r ≡ lacksDue g cs n p m → r ≡ b
       → lacking g cs n p m ≡ b
-  unfolding lacking required lacksDue wanted
+  unfolding lacking required lacksDue missed wanted
   lacks-due m r b k h e q =
       let came = ltb 0 (tally cs (node g m .partner)) in
       let first = not (eqb p (node g n .parent)) || ltb (node g m .counter) (node g n .counter) in

@@ -84,7 +84,7 @@ module _ (e : Edition) (v : View) where
   unfolding seek levels
   seek-nowhere zero p c h = refl
   seek-nowhere (suc k) p c h =
-      rw (lowest-none (fitsIn (guideOf e) v p c) 1 (length (guideOf e) - 1) (λ m l. fits-nowhere p c m h l))
+      rw (lowest-none (fitsIn (guideOf e) v p c) 1 (length (guideOf e) - 1) (λ m l k. fits-nowhere p c m h l))
       (go (eqb p 0) (seek-nowhere k (node (guideOf e) p .parent) (node (guideOf e) p .counter) outside))
     where
       outside : length (guideOf e) ≤ node (guideOf e) p .parent

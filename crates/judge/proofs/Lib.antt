@@ -11,6 +11,7 @@ pub mod Following
 pub mod Gaps
 pub mod Partners
 pub mod Counts
+pub mod Missed
 pub mod Outcomes
 pub mod Tagged
 pub mod Face

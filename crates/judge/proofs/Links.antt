@@ -58,10 +58,10 @@ lowest-least test i (suc k) x a b l t = go (test i) refl (lowest-least test (suc
         ih (omega arith) (omega arith) (omega arith) t
 
 -- a search in which nothing passes
-pub lowest-none : (test : ℕ → Bool) (i k : ℕ) → ((m : ℕ) → i ≤ m → test m ≡ false) → lowest test i k ≡ 0
+pub lowest-none : (test : ℕ → Bool) (i k : ℕ) → ((m : ℕ) → i ≤ m → m < i + k → test m ≡ false) → lowest test i k ≡ 0
 unfolding lowest
 lowest-none test i zero h = refl
-lowest-none test i (suc k) h = rw (h i (omega arith)) (lowest-none test (suc i) k (λ m l. h m (omega arith)))
+lowest-none test i (suc k) h = rw (h i (omega arith) (omega arith)) (lowest-none test (suc i) k (λ m a b. h m (omega arith) (omega arith)))
 
 -- two tests that agree where is sought
 pub lowest-like : (s t : ℕ → Bool) (i k : ℕ) → ((m : ℕ) → i ≤ m → m < i + k → s m ≡ t m) → lowest s i k ≡ lowest t i k

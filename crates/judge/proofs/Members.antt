@@ -5,22 +5,18 @@ use mathlib.Core.Bool.{Bool, true, false, not, _&&_, true≢false, and-false}
 use native.Mathlib.Nat.{pow-suc, le-trans}
 use native.Mathlib.Omega.{arith}
 use lib.ListN.{length}
-use lib.Dec.{lit≤, eqb, ltb, leb·suc-suc, eqb·suc-suc, eqb·suc-zero}
+use lib.Dec.{lit≤, eqb, ltb, ltb→lt, leb·suc-suc, eqb·suc-suc, eqb·suc-zero}
 use lib.Pow.{pow-mono}
-use lib.Bits.{bitAnd, and-shr, and-mod, and-le-r}
+use lib.Bits.{bitAnd, and-shr, and-mod, and-le-l, and-le-r}
 use lib.Count.{trailingZeros, under}
 use borrow.Author.Tests.{lt-ltb, le-ltb}
 use Rattle.guide.specs.Nodes.{Guide}
 use Rattle.guide.specs.Pricat.{pricat20d, pricat20c}
+use Rattle.guide.proofs.Basics.{T-true, and-left, and-right}
 use Rattle.guide.specs.declared.edition.Edition.{Edition}
 use Rattle.guide.specs.declared.edition.Edition.the-variants.{D, C}
 use Rattle.guide.specs.Editions.{guideOf}
-use Rattle.judge.specs.Sets.{bit, bits, nodesThat}
-
--- whether the number n is in the set s
-unfoldable pub member : ℕ → ℕ → Bool
-member s zero = eqb (s % 2) 1
-member s (suc n) = member (s / 2) n
+use Rattle.judge.specs.Sets.{bit, bits, member, nodesThat}
 
 pub member-none : (n : ℕ) → member 0 n ≡ false
 unfolding member
@@ -155,3 +151,32 @@ table-small C = lit≤ tt
 pub nodes-fit : (e : Edition) (test : ℕ → Bool) → nodesThat (guideOf e) test < 4294967296
 unfolding nodesThat
 nodes-fit e test = le-trans (bits-fit (length (guideOf e)) (λ n. ltb 0 n && test n)) (pow-mono (table-small e))
+
+module _ (e : Edition) (s t : ℕ → Bool) where
+  -- two sets as one word
+  pub lower-half : (w : ℕ) → w ≡ nodesThat (guideOf e) s + 4294967296 * nodesThat (guideOf e) t → w % 4294967296 ≡ nodesThat (guideOf e) s
+  lower-half w h = omega (arith, h, nodes-fit e s)
+
+  pub upper-half : (w : ℕ) → w ≡ nodesThat (guideOf e) s + 4294967296 * nodesThat (guideOf e) t → w / 4294967296 ≡ nodesThat (guideOf e) t
+  upper-half w h = omega (arith, h, nodes-fit e s)
+
+  -- the nodes that are in both
+  pub both-fit : (w : ℕ) → w ≡ bitAnd (nodesThat (guideOf e) s) (nodesThat (guideOf e) t) → w < 2 ^ 32
+  both-fit w h = omega (arith, h, and-le-l (nodesThat (guideOf e) s) (nodesThat (guideOf e) t), nodes-fit e s)
+
+  both-member
+      : (w n : ℕ) → w ≡ bitAnd (nodesThat (guideOf e) s) (nodesThat (guideOf e) t)
+      → member w n ≡ (ltb n (length (guideOf e)) && (ltb 0 n && s n)) && (ltb n (length (guideOf e)) && (ltb 0 n && t n))
+  both-member w n h = rw (h, member-and _ _ n, nodes-member (guideOf e) s n, nodes-member (guideOf e) t n)
+
+  pub both-inside
+      : (w n : ℕ) → w ≡ bitAnd (nodesThat (guideOf e) s) (nodesThat (guideOf e) t) → member w n ≡ true → (0 < n) × (n < length (guideOf e))
+  both-inside w n h m =
+      let t = and-left (ltb n (length (guideOf e)) && (ltb 0 n && s n)) _ (T-true (sym (both-member w n h) ∙ m)) in (
+        ltb→lt 0 n (and-left (ltb 0 n) _ (and-right (ltb n (length (guideOf e))) _ t)),
+        ltb→lt n _ (and-left (ltb n (length (guideOf e))) _ t),
+      )
+
+  pub both-are
+      : (w n : ℕ) → w ≡ bitAnd (nodesThat (guideOf e) s) (nodesThat (guideOf e) t) → 0 < n → n < length (guideOf e) → member w n ≡ s n && t n
+  both-are w n h a b = rw (both-member w n h, lt-ltb n (length (guideOf e)) b, lt-ltb 0 n a)

@@ -1,7 +1,7 @@
 -- Laws of placing: one for each answer, with the counts that it leaves.
 use Prim.Native.Nat.{ℕ, zero, suc, _≤_, _<_, _-_}
 use mathlib.Core.Path.{_≡_, refl, sym, _∙_, ap}
-use mathlib.Core.Bool.{Bool, true, false, _&&_, true≢false}
+use mathlib.Core.Bool.{Bool, true, false, _&&_, _||_, true≢false}
 use mathlib.Core.List.{List, [], _∷_}
 use lib.ListN.{length, getD, List·getD-eq-default}
 use lib.Dec.{eqb, ltb, leb}
@@ -15,8 +15,10 @@ use Rattle.judge.specs.declared.placing.Placed.{Placed}
 use Rattle.judge.specs.declared.placing.Placed.the-variants.{At, Refused}
 use Rattle.guide.specs.Editions.{guideOf}
 use Rattle.judge.specs.Answers.{answerOf}
+use Rattle.judge.specs.Sets.{someLevel, followsIn}
 use Rattle.judge.proofs.Links.{lowest-passes}
 use Rattle.judge.proofs.Levels.{seek-outside}
+use Rattle.judge.proofs.Gaps.{and-left}
 
 and-second : (a b : Bool) → a && b ≡ true → b ≡ true
 and-second true b h = h
@@ -40,6 +42,26 @@ module _ (g : Guide) (v : View) where
       orElse-either (λ n. matches (node g n) v ≡ true) (firstNode g (fitsIn g v (l .node) (l .reached))) (seek g v ls)
       (λ z. fits-matches (l .node) (l .reached) _ (lowest-passes (fitsIn g v (l .node) (l .reached)) 1 (length g - 1) z)) (seek-matches ls) h
 
+  -- and can come in one of the open instances
+  fits-follows : (l : Level) (n : ℕ) → fitsIn g v (l .node) (l .reached) n ≡ true → followsIn g n l ≡ true
+  unfolding fitsIn
+  fits-follows l n h = both (eqb (node g n .parent) (l .node)) (leb (l .reached) (node g n .counter)) _ h
+    where
+      both : (a b c : Bool) → a && (b && c) ≡ true → a && b ≡ true
+      both true b c k = and-left b c k
+      both false b c k = k
+
+  seek-follows : (ls : List Level) → (seek g v ls ≡ 0 → ⊥) → someLevel (followsIn g (seek g v ls)) ls ≡ true
+  unfolding seek someLevel
+  seek-follows [] h = absurd (h refl)
+  seek-follows (l ∷ ls) h =
+      orElse-either (λ n. followsIn g n l || someLevel (followsIn g n) ls ≡ true) (firstNode g (fitsIn g v (l .node) (l .reached))) (seek g v ls)
+      (λ z. rw (fits-follows l _ (lowest-passes (fitsIn g v (l .node) (l .reached)) 1 (length g - 1) z))) (λ z. or-second (followsIn g (seek g v ls) l) _ (seek-follows ls z)) h
+    where
+      or-second : (a b : Bool) → b ≡ true → a || b ≡ true
+      or-second true b k = refl
+      or-second false b k = k
+
   matches-inside : (n : ℕ) → matches (node g n) v ≡ true → n < length g
   unfolding matches
   matches-inside n h = go (ltb n (length g)) refl
@@ -56,6 +78,11 @@ module _ (e : Edition) (v : View) (last n : ℕ) (sought : n ≡ seek (guideOf e
   found-inside =
       matches-inside (guideOf e) v n
       (ap (λ (x : ℕ). matches (node (guideOf e) x) v) sought ∙ seek-matches (guideOf e) v (levels (guideOf e) (suc last) last 0) (λ z. some (sought ∙ z)))
+
+  pub found-follows : someLevel (followsIn (guideOf e) n) (levels (guideOf e) (suc last) last 0) ≡ true
+  found-follows =
+      ap (λ (x : ℕ). someLevel (followsIn (guideOf e) x) (levels (guideOf e) (suc last) last 0)) sought
+      ∙ seek-follows (guideOf e) v (levels (guideOf e) (suc last) last 0) (λ z. some (sought ∙ z))
 
   pub last-inside : last < length (guideOf e)
   last-inside = go (ltb last (length (guideOf e))) refl

@@ -10,8 +10,9 @@ use lib.Count.{trailingZeros}
 use borrow.Author.Tests.{eqb-true}
 use Rattle.guide.specs.Nodes.{Guide}
 use Rattle.guide.specs.Placing.{firstNode}
+use Rattle.judge.specs.Sets.{member}
 use Rattle.judge.proofs.Links.{lowest-none, lowest-like, lowest-is}
-use Rattle.judge.proofs.Members.{member, member-none, first-member, first-lowest, rest-member, rest-less}
+use Rattle.judge.proofs.Members.{member-none, first-member, first-lowest, rest-member, rest-less}
 
 -- the nodes of the set s that pass the test
 abbrev pub within : ℕ → (ℕ → Bool) → ℕ → Bool
@@ -25,7 +26,7 @@ pub record Sought (g : Guide) (test : ℕ → Bool) (found s : ℕ) : Type 0 whe
 
 module _ {g : Guide} {test : ℕ → Bool} {found s : ℕ} (w : Sought g test found s) where
   pub sought-out : s ≡ 0 → 0 ≡ found
-  sought-out h = sym (lowest-none (within s test) 1 (length g - 1) (λ m l. rw (h, member-none m))) ∙ w .answer
+  sought-out h = sym (lowest-none (within s test) 1 (length g - 1) (λ m a b. rw (h, member-none m))) ∙ w .answer
 
   -- n is the lowest of the set
   module _ (some : s ≡ 0 → ⊥) (n : ℕ) (first : n ≡ trailingZeros 32 s) where

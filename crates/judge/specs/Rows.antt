@@ -17,17 +17,11 @@ codesOf (x ∷ xs) = map packed (x .selector .codes) ++ codesOf xs
 abbrev pub childOf : Guide → ℕ → ℕ → Bool
 childOf g p m = eqb (node g m .parent) p
 
--- the first child of node p, and the next of the nodes that have n's parent; 0 where there is none
-unfoldable pub firstChild : Guide → ℕ → ℕ
-firstChild g p = firstNode g (childOf g p)
-
-unfoldable pub nextSibling : Guide → ℕ → ℕ
-nextSibling g n = lowest (childOf g (node g n .parent)) (suc n) (length g - suc n)
-
--- the same of those alone that may be missed: the required ones, and those of a pair
+-- ... that may be missed: a required one, or one of a pair
 abbrev pub dueOf : Guide → ℕ → ℕ → Bool
 dueOf g p m = childOf g p m && (node g m .must || paired g m)
 
+-- the first of these, and the next of those that have n's parent; 0 where there is none
 unfoldable pub firstDue : Guide → ℕ → ℕ
 firstDue g p = firstNode g (dueOf g p)
 
@@ -35,8 +29,8 @@ unfoldable pub nextDue : Guide → ℕ → ℕ
 nextDue g n = lowest (dueOf g (node g n .parent)) (suc n) (length g - suc n)
 
 -- a row as two words of the code, field above field
-unfoldable pub linkWord : Guide → ℕ → ℕ
-linkWord g n = firstChild g n + 256 * (nextSibling g n + 256 * (node g n .counter + 4096 * (node g n .refusal + 256 * packed (node g n .tag))))
+unfoldable pub tagWord : Guide → ℕ → ℕ
+tagWord g n = packed (node g n .tag) + 268435456 * (node g n .refusal + 256 * node g n .counter)
 
 unfoldable pub termWord : Guide → ℕ → ℕ
 termWord g n =

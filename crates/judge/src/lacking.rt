@@ -4,23 +4,37 @@ use crate::rows::counter_of;
 use crate::rows::first_due;
 use crate::rows::next_due;
 use crate::rows::parent_of;
+use crate::sets::due;
+use crate::sets::first_in;
+use crate::sets::preceding;
+use crate::sets::without_first;
 use guide::Edition;
 ghost use Prim.Native.Nat.{suc, _<_};
 ghost use mathlib.Core.Path.{_≡_};
+ghost use mathlib.Core.Bool.{true};
 ghost use lib.ListN.{length};
 ghost use Rattle.guide.specs.Placing.{firstNode, levels, lacking, missing};
 ghost use Rattle.guide.specs.Editions.{guideOf};
-ghost use Rattle.judge.specs.Workers.{lacksDue};
+ghost use Rattle.judge.specs.Sets.{someLevel, followsIn};
+ghost use Rattle.judge.specs.Workers.{missed, lacksDue};
+
+// Whether node m, which is required or one of a pair, has not come though it must.
+fn is_missed(edition: Edition, counts: &[u32; 96], m: usize) -> bool
+    requires { ⌜ m < length (guideOf edition) ⌝ }
+    ensures { λ r. ⌜ r ≡ missed (guideOf edition) (now (counts .entry)) m ⌝ }
+{
+    if counts[m] != 0 {
+        return false;
+    }
+    is_wanted(edition, counts, m)
+}
 
 // Whether the instance p lacks its child m, which is required or one of a pair, when n comes.
 fn lacks(edition: Edition, counts: &[u32; 96], n: usize, p: usize, m: usize) -> bool
     requires { ⌜ (n < length (guideOf edition)) × (m < length (guideOf edition)) ⌝ }
     ensures { λ r. ⌜ r ≡ lacksDue (guideOf edition) (now (counts .entry)) n p m ⌝ }
 {
-    if counts[m] != 0 {
-        return false;
-    }
-    if !is_wanted(edition, counts, m) {
+    if !is_missed(edition, counts, m) {
         return false;
     }
     if p != parent_of(edition, n) {
@@ -47,7 +61,7 @@ fn lacking_in(edition: Edition, counts: &[u32; 96], n: usize, p: usize) -> usize
 // The lowest missing node, looked for from the innermost open instance outward level by level, up to the one that takes n; 0 if none is
 // missing. The level is the open instance's node: a parent has a lower number, so it falls. The first gap ends the search, so the call
 // for the parent stands last, which the compiler can turn into a jump.
-pub(crate) fn missing_for(edition: Edition, counts: &[u32; 96], n: usize, level: usize) -> usize
+fn missing_for(edition: Edition, counts: &[u32; 96], n: usize, level: usize) -> usize
     requires { ⌜ (n < length (guideOf edition)) × (level < length (guideOf edition)) ⌝ }
     ensures { λ r. ⌜ r ≡ missing (guideOf edition) (now (counts .entry)) n (levels (guideOf edition) (suc level) level 0) ⌝ }
 {
@@ -63,4 +77,21 @@ pub(crate) fn missing_for(edition: Edition, counts: &[u32; 96], n: usize, level:
         return 0;
     }
     missing_for(edition, counts, n, parent_of(edition, level))
+}
+
+// The lowest missing node when n comes after the node `last`, or 0. Most often none is: a gap is a node that n must come behind and that may be missed, and
+// only where there is one is it looked for level by level which to name.
+pub(crate) fn missing_node(edition: Edition, counts: &[u32; 96], n: usize, last: usize) -> usize
+    requires { ⌜ (n < length (guideOf edition)) × (last < length (guideOf edition)) ⌝ }
+    requires { ⌜ someLevel (followsIn (guideOf edition) n) (levels (guideOf edition) (suc last) last 0) ≡ true ⌝ }
+    ensures { λ r. ⌜ r ≡ missing (guideOf edition) (now (counts .entry)) n (levels (guideOf edition) (suc last) last 0) ⌝ }
+{
+    let mut gaps = due(edition, last) & preceding(edition, n);
+    while gaps != 0 {
+        if is_missed(edition, counts, first_in(gaps)) {
+            return missing_for(edition, counts, n, last);
+        }
+        gaps = without_first(gaps);
+    }
+    0
 }

@@ -1,6 +1,6 @@
 // Places one segment after the other: its node, or the first fault in the order 13, 15 or 16 or 25, 14.
 use crate::counting::enter;
-use crate::lacking::missing_for;
+use crate::lacking::missing_node;
 use crate::pairs::number_over;
 use crate::rows::limit_of;
 use crate::seeking::node_for;
@@ -41,9 +41,9 @@ pub fn place(
         };
     }
     let full = limit_of(edition, n) <= counts[n];
-    let over = number_over(edition, counts, n);
-    let m = missing_for(edition, counts, n, last);
+    let m = missing_node(edition, counts, n, last);
     if full {
+        let over = number_over(edition, counts, n);
         return Placed::Refused {
             number: over,
             node: n,

@@ -1,5 +1,5 @@
 // What stands in a row of a table: a digit of one of its words.
-use crate::link_words::links;
+use crate::tag_words::tag_word;
 use crate::term_words::terms;
 use guide::Edition;
 ghost use Prim.Native.Nat.{_<_};
@@ -7,7 +7,7 @@ ghost use mathlib.Core.Path.{_≡_};
 ghost use lib.ListN.{length, take};
 ghost use Rattle.guide.specs.Nodes.{node};
 ghost use Rattle.guide.specs.Editions.{guideOf};
-ghost use Rattle.judge.specs.Rows.{codesOf, firstChild, nextSibling, firstDue, nextDue};
+ghost use Rattle.judge.specs.Rows.{codesOf, firstDue, nextDue};
 ghost use Rattle.judge.specs.Words.{packed};
 
 // The tag, as a number.
@@ -15,7 +15,7 @@ pub(crate) fn tag_of(edition: Edition, n: usize) -> u32
     requires { ⌜ n < length (guideOf edition) ⌝ }
     ensures { λ r. ⌜ r ≡ packed (node (guideOf edition) n .tag) ⌝ }
 {
-    (links(edition, n) / 0x10_0000_0000) as u32
+    (tag_word(edition, n) % 0x1000_0000) as u32
 }
 
 // The number of a passed limit.
@@ -23,7 +23,7 @@ pub(crate) fn refusal_of(edition: Edition, n: usize) -> u32
     requires { ⌜ n < length (guideOf edition) ⌝ }
     ensures { λ r. ⌜ r ≡ node (guideOf edition) n .refusal ⌝ }
 {
-    (links(edition, n) / 0x1000_0000 % 256) as u32
+    (tag_word(edition, n) / 0x1000_0000 % 256) as u32
 }
 
 // The counter.
@@ -31,23 +31,7 @@ pub(crate) fn counter_of(edition: Edition, n: usize) -> u32
     requires { ⌜ n < length (guideOf edition) ⌝ }
     ensures { λ r. ⌜ r ≡ node (guideOf edition) n .counter ⌝ }
 {
-    (links(edition, n) / 0x1_0000 % 0x1000) as u32
-}
-
-// The next node with the same parent, or 0.
-pub(crate) fn next_sibling(edition: Edition, n: usize) -> usize
-    requires { ⌜ n < length (guideOf edition) ⌝ }
-    ensures { λ r. ⌜ r ≡ nextSibling (guideOf edition) n ⌝ }
-{
-    (links(edition, n) / 256 % 256) as usize
-}
-
-// The first child, or 0.
-pub(crate) fn first_child(edition: Edition, n: usize) -> usize
-    requires { ⌜ n < length (guideOf edition) ⌝ }
-    ensures { λ r. ⌜ r ≡ firstChild (guideOf edition) n ⌝ }
-{
-    (links(edition, n) % 256) as usize
+    (tag_word(edition, n) / 0x10_0000_0000) as u32
 }
 
 // The first child that is required or one of a pair, or 0.

@@ -1,7 +1,6 @@
 -- `judge::counting::enter` meets its contract: one more of n, then its children cleared. Assumes nothing.
 use borrow.Author.Needs.{needs}
 use native.Mathlib.Omega.{arith}
-use Rattle.guide.specs.Editions.{guideOf}
 use Rattle.judge.proofs.Tables.{table-fits}
 use Rattle.judge.proofs.Sound.{sound-at}
 use Rattle.judge.proofs.Counts.{entered}
@@ -20,14 +19,18 @@ add-counts c = search needs
 element-write-counts : tie.Need-element-write-counts
 element-write-counts c = omega (arith, table-fits (c .before .args .edition))
 
-clear-children-requires : tie.Need-clear-children-requires
-clear-children-requires c κs = search needs
+children-requires : tie.Need-children-requires
+children-requires c κs = search needs
+
+clear-requires : tie.Need-clear-requires
+clear-requires c κs = search needs
 
 returns : tie.Need-returns
 returns c =
-    let start = c .before .before .before in
+    let asked = c .before .before in
+    let start = asked .before .before in
     let a = start .args in
-    entered (guideOf (a .edition)) (a .n) (a .counts .now) (sound-at (a .edition) (a .n) (start .pre .0 .0) (start .pre .0 .1) .lower) _ (c .clear-children .ensures)
+    entered (a .edition) (a .n) (a .counts .now) _ (start .pre .0 .1) (sound-at (a .edition) (a .n) (start .pre .0 .0) (start .pre .0 .1) .lower) (asked .children .ensures) _ (c .clear .ensures)
 
 pub enter-spec : {M : Type 1} → statement M
 enter-spec =
@@ -37,5 +40,6 @@ enter-spec =
     element-copy-out-counts
     add-counts
     element-write-counts
-    clear-children-requires
+    children-requires
+    clear-requires
     returns)

@@ -1,25 +1,24 @@
 -- `judge::rows::tag_of` meets its contract: its digit is, computed, the field in every row of both guides. Assumes nothing.
 use borrow.Author.Needs.{needs}
-use Prim.Native.Nat.{ℕ, _/_}
+use Prim.Native.Nat.{ℕ, _%_}
 use mathlib.Core.Path.{refl}
 use Rattle.guide.specs.Nodes.{Guide, node}
-use Rattle.guide.specs.Placing.{lowest}
 use Rattle.guide.specs.Pricat.{pricat20d, pricat20c}
 use Rattle.judge.specs.Words.{packed}
-use Rattle.judge.specs.Rows.{linkWord, firstChild, nextSibling}
+use Rattle.judge.specs.Rows.{tagWord}
 use Rattle.judge.proofs.Tables.{digit-at}
 use Rattle.judge.proofs.rows.tag_of.Statement.{statement}
 use Rattle.judge.proofs.rows.tag_of.Tie as tie
 
-links-requires : tie.Need-links-requires
-links-requires c κs = search needs
+tag-word-requires : tie.Need-tag-word-requires
+tag-word-requires c κs = search needs
 
 cast-result : tie.Need-cast-result
 cast-result c = search needs
 
 returns : tie.Need-returns
-unfolding pricat20d pricat20c linkWord firstChild nextSibling lowest packed
-returns c = digit-at linkWord (λ (g : Guide) (n : ℕ). packed (node g n .tag)) (λ (x : ℕ). x / 68719476736) refl refl (c .before .args .edition) (c .before .args .n) (c .before .pre) _ (c .links .ensures)
+unfolding pricat20d pricat20c tagWord packed
+returns c = digit-at tagWord (λ (g : Guide) (n : ℕ). packed (node g n .tag)) (λ (x : ℕ). x % 268435456) refl refl (c .before .args .edition) (c .before .args .n) (c .before .pre) _ (c .tag-word .ensures)
 
 pub tag-of-spec : {M : Type 1} → statement M
-tag-of-spec = tie.close (tie.spec links-requires cast-result returns)
+tag-of-spec = tie.close (tie.spec tag-word-requires cast-result returns)

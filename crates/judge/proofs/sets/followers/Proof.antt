@@ -1,6 +1,7 @@
 -- `judge::sets::followers` meets its contract: the lower half of the word. Assumes nothing.
 use borrow.Author.Needs.{needs}
-use Rattle.judge.proofs.Following.{after-lower}
+use Rattle.judge.specs.Sets.{followersOf, dueAfter, afterWord}
+use Rattle.judge.proofs.Members.{lower-half}
 use Rattle.judge.proofs.sets.followers.Statement.{statement}
 use Rattle.judge.proofs.sets.followers.Tie as tie
 
@@ -11,7 +12,8 @@ cast-result : tie.Need-cast-result
 cast-result c = search needs
 
 returns : tie.Need-returns
-returns c = after-lower (c .before .args .edition) (c .before .args .last) _ (c .after .ensures)
+unfolding afterWord followersOf dueAfter
+returns c = lower-half (c .before .args .edition) _ _ _ (c .after .ensures)
 
 pub followers-spec : {M : Type 1} → statement M
 followers-spec = tie.close (tie.spec after-requires cast-result returns)
