@@ -1,17 +1,17 @@
 -- Operations on eight bytes at once work on each byte apart, so that a fact about one byte, computed for each of the 256, is one about all eight.
 use Prim.Native.Nat.{ℕ, zero, suc, _+_, _-_, _*_, _/_, _%_, _^_, _≤_, _<_}
 use mathlib.Core.Path.{_≡_, refl, sym, ap, _∙_}
-use mathlib.Core.Bool.{Bool, true, false, _||_}
+use mathlib.Core.Bool.{Bool, true, false, cond, _||_}
 use mathlib.Core.List.{List}
 use native.Mathlib.Nat.{suc-add, suc-mul, add-comm, pow-suc, one-le-pow}
 use native.Mathlib.Omega.{arith}
 use lib.ListN.{length, getD}
 use lib.Dec.{eqb, eqb→eq, lit<}
-use lib.Bits.{bitAnd, bitOr, bitXor, and-block, or-block, xor-block, and-lt, or-lt, xor-lt, and-mask, and-zero-r, and-le-l, and-le-r, xor-self, xor-add-and, shifted-half, shifted-even}
-use lib.Count.{trailingZeros}
+use lib.Bits.{bitAnd, bitOr, bitXor, and-block, or-block, xor-block, and-lt, or-lt, xor-lt, and-mask, and-zero-r, and-le-l, and-le-r, xor-self, xor-add-and, shifted-half, shifted-even, block-half, block-odd}
+use lib.Count.{under, trailingZeros}
 use borrow.Author.Tests.{le-leb, lt-leb, eq-eqb, ne-eqb, eqb-true, eqb-false}
 use Rattle.cut.specs.Every.{every}
-use Rattle.cut.specs.Eights.{number, onFrom, eightAt, byteOf, flag, flags, Flagged, firstByte}
+use Rattle.cut.specs.Eights.{number, onFrom, eightAt, byteOf, flag, flags, Flagged, firstSome, firstByte}
 use Rattle.cut.proofs.Every.{every-at}
 
 -- w is the number of eight bytes, x
@@ -205,19 +205,8 @@ front-bytes (suc n) w =
     ∙ and-block 8 (w / 256) (256 ^ n - 1) (w % 256) 255 (omega arith) (omega arith)
     ∙ omega (arith, front-bytes n (w / 256), and-mask (w % 256) 8)
 
-number-none : (n : ℕ) (x : ℕ → ℕ) → number n x ≡ 0 → (k : ℕ) → k < n → x k ≡ 0
-unfolding number
-number-none zero x e k l = absurd (omega arith)
-number-none (suc n) x e zero l = omega arith
-number-none (suc n) x e (suc k) l = number-none n (λ k. x (suc k)) (omega arith) k (omega arith)
-
--- none of the first n is flagged
-pub front-none : (n : ℕ) (t : ℕ → Bool) → bitAnd (flags t) (256 ^ n - 1) ≡ 0 → n ≤ 8 → (k : ℕ) → k < n → t k ≡ false
-unfolding flags
-front-none n t e h k l =
-    flag-eq (t k) false
-    (sym (number-byte 8 (λ k. flag (t k)) (λ k. flag-byte (t k)) k (omega arith))
-    ∙ number-none n (byteOf (flags t)) (sym (front-bytes n (flags t)) ∙ e) k l)
+pub front-byte : (n w k : ℕ) → k < n → byteOf (bitAnd w (256 ^ n - 1)) k ≡ byteOf w k
+front-byte n w k l = ap (λ (v : ℕ). byteOf v k) (front-bytes n w) ∙ number-byte n (byteOf w) (byte-fits w) k l
 
 -- ---- bytes that are alike
 
@@ -264,6 +253,34 @@ alike-flags w b x h p =
     flags-of (eight-xor (eight-and (eight-or s q) high) high) (λ k. eqb (x k) b)
     (λ k. alike-byte (bitXor (x k) b) (q .bytes k) ∙ ap flag (xor-none (x k) b))
 
+-- ---- no byte that is alike
+
+split-byte : (v : ℕ) → v < 256 → bitAnd v 127 + bitAnd v 128 ≡ v
+unfolding every
+split-byte v h = eqb→eq (bitAnd v 127 + bitAnd v 128) v (every-at (λ v. eqb (bitAnd v 127 + bitAnd v 128) v) 256 v tt h)
+
+-- where no byte has its high bit, each is its low part
+low-only : (r : ℕ) → r < 2 ^ 64 → bitAnd r 0x8080_8080_8080_8080 ≡ 0 → bitAnd r 0x7f7f_7f7f_7f7f_7f7f ≡ r
+low-only r h z =
+    let w = eight-word r h in
+    let split : (k : ℕ) → bitAnd (byteOf r k) 127 + bitAnd (byteOf r k) 128 ≡ byteOf r k = λ k. split-byte (byteOf r k) (byte-fits r k) in
+    let s = eight-add (eight-and w low) (eight-and w high) (λ k. omega (arith, split k, byte-fits r k)) in
+    let e : bitAnd r 0x7f7f_7f7f_7f7f_7f7f + bitAnd r 0x8080_8080_8080_8080 ≡ r = s .worth ∙ (λ i. number 8 (λ k. split k i)) ∙ sym (w .worth) in
+    omega arith
+
+-- a difference of 0 less 1 has its high bit, so that where none has it after each lost 1, none of the eight is b
+pub none-alike
+    : (w b r : ℕ) → w < 2 ^ 64 → b < 256 → r < 2 ^ 64 → (r + 0x0101_0101_0101_0101) % 2 ^ 64 ≡ apartBy w b → bitAnd r 0x8080_8080_8080_8080 ≡ 0
+    → (k : ℕ) → k < 8 → byteOf w k ≡ b → ⊥
+none-alike w b r h l m e z k n q =
+    let p = low-only r m z in
+    let s = eight-add (eight-and (eight-word r m) low) (eight-each 1 (omega arith)) (λ k. omega (arith, and-le-r (byteOf r k) 127)) in
+    let d = eight-xor (eight-word w h) (eight-each b l) in
+    let g : apartBy w b ≡ bitAnd r 0x7f7f_7f7f_7f7f_7f7f + 0x0101_0101_0101_0101 * 1 = omega (arith, and-le-r r 0x7f7f_7f7f_7f7f_7f7f) in
+    let t = number-same 8 _ _ (d .bytes) (s .bytes) (sym (d .worth) ∙ g ∙ s .worth) k n in
+    let o : bitXor (byteOf w k) b ≡ 0 = rw q (xor-self b) in
+    omega arith
+
 -- ---- the first flag
 
 trailing-shift : (k m a : ℕ) → trailingZeros (k + m) (a * 2 ^ k) ≡ k + trailingZeros m a
@@ -274,19 +291,48 @@ trailing-shift zero m a =
     rw (z, o) (omega arith)
 trailing-shift (suc k) m a = rw (suc-add k m, shifted-even a k, shifted-half a k, trailing-shift k m a) (omega arith)
 
--- the lowest byte is flagged, or it is not
-trailing-flag : (m a : ℕ) → trailingZeros (8 + m) (a * 256 + 128) ≡ 7
+-- zeros that end among the first k digits are those of these digits
+trailing-front : (k j a b : ℕ) → trailingZeros k b < k → trailingZeros (k + j) (a * 2 ^ k + b) ≡ trailingZeros k b
 unfolding trailingZeros
-trailing-flag m a =
-    let n : 8 + m ≡ 7 + suc m = omega arith in
-    let w : a * 256 + 128 ≡ (a * 2 + 1) * 128 = omega arith in
-    let z : (a * 2 + 1) % 2 ≡ 1 = omega arith in
-    rw (n, w) (trailing-shift 7 (suc m) (a * 2 + 1) ∙ rw z)
+trailing-front zero j a b h = absurd (omega arith)
+trailing-front (suc k) j a b h = rw (suc-add k j, block-odd a k b, block-half a k b) (go (b % 2) (trailing-front k j a (b / 2)) h)
+  where
+    go
+        : (d : ℕ) → (trailingZeros k (b / 2) < k → trailingZeros (k + j) (a * 2 ^ k + b / 2) ≡ trailingZeros k (b / 2))
+        → under d (trailingZeros k (b / 2)) < suc k
+        → under d (trailingZeros (k + j) (a * 2 ^ k + b / 2)) ≡ under d (trailingZeros k (b / 2))
+    go zero f l = ap suc (f (omega arith))
+    go (suc d) f l = refl
 
-trailing-none : (m a : ℕ) → trailingZeros (8 + m) (a * 256 + 0) ≡ 8 + trailingZeros m a
-trailing-none m a =
-    let w : a * 256 + 0 ≡ a * 256 = omega arith in
-    rw w (trailing-shift 8 m a)
+byte-zeros : (b : ℕ) → b < 256 → (b ≡ 0 → ⊥) → trailingZeros 8 b < 8
+unfolding every trailingZeros
+byte-zeros b h n =
+    let t = eqb→eq (trailingZeros 8 b / 8) (cond (eqb b 0) 1 0) (every-at (λ b. eqb (trailingZeros 8 b / 8) (cond (eqb b 0) 1 0)) 256 b tt h) in
+    let z : trailingZeros 8 b / 8 ≡ 0 = rw (ne-eqb b 0 n) at t in
+    omega arith
+
+-- eight clear bits are a byte that is 0
+pub first-bits : (n m : ℕ) → trailingZeros (n * 8) m / 8 ≡ firstSome n (byteOf m)
+unfolding firstSome byteOf trailingZeros
+first-bits zero m = refl
+first-bits (suc n) m = rw (suc-mul n 8, add-comm (n * 8) 8) (go (eqb (m % 256) 0) refl (first-bits n (m / 256)))
+  where
+    go
+        : (b : Bool) → eqb (m % 256) 0 ≡ b → trailingZeros (n * 8) (m / 256) / 8 ≡ firstSome n (byteOf (m / 256))
+        → trailingZeros (8 + n * 8) m / 8 ≡ cond b (suc (firstSome n (byteOf (m / 256)))) 0
+    go true e f =
+        let z = eqb-true (m % 256) 0 e in
+        let w : m / 256 * 2 ^ 8 ≡ m = omega arith in
+        omega (arith, ap (trailingZeros (8 + n * 8)) w, trailing-shift 8 (n * 8) (m / 256))
+    go false e f =
+        let b = byte-zeros (m % 256) (omega arith) (eqb-false (m % 256) 0 e) in
+        let w : m / 256 * 2 ^ 8 + m % 256 ≡ m = omega arith in
+        omega (arith, ap (trailingZeros (8 + n * 8)) w, trailing-front 8 (n * 8) (m / 256) (m % 256) b)
+
+first-like : (n : ℕ) (x y : ℕ → ℕ) → ((k : ℕ) → k < n → x k ≡ y k) → firstSome n x ≡ firstSome n y
+unfolding firstSome
+first-like zero x y h = refl
+first-like (suc n) x y h = rw (h 0 (omega arith), first-like n (λ k. x (suc k)) (λ k. y (suc k)) (λ k l. h (suc k) (omega arith)))
 
 first-later : (n : ℕ) (t : ℕ → Bool) (j : ℕ) → t 0 ≡ false → FirstOf n (λ k. t (suc k)) j → FirstOf (suc n) t (suc j)
 first-later n t j e r = record { within = omega (arith, r .within); passes = r .passes; before = go }
@@ -295,26 +341,21 @@ first-later n t j e r = record { within = omega (arith, r .within); passes = r .
     go zero l = e
     go (suc k) l = r .before k (omega arith)
 
-first-flag
-    : (n : ℕ) (t : ℕ → Bool) → (number n (λ k. flag (t k)) ≡ 0 → ⊥)
-    → FirstOf n t (trailingZeros (n * 8) (number n (λ k. flag (t k))) / 8)
-unfolding number
+first-flag : (n : ℕ) (t : ℕ → Bool) → (number n (λ k. flag (t k)) ≡ 0 → ⊥) → FirstOf n t (firstSome n (λ k. flag (t k)))
+unfolding number firstSome
 first-flag zero t h = absurd (h refl)
-first-flag (suc n) t h = rw (suc-mul n 8, add-comm (n * 8) 8) (go (t 0) refl (first-flag n (λ k. t (suc k))))
+first-flag (suc n) t h = go (t 0) refl (first-flag n (λ k. t (suc k)))
   where
-    a : ℕ
-    a = number n (λ k. flag (t (suc k)))
-
     go
-        : (b : Bool) → t 0 ≡ b → ((a ≡ 0 → ⊥) → FirstOf n (λ k. t (suc k)) (trailingZeros (n * 8) a / 8))
-        → FirstOf (suc n) t (trailingZeros (8 + n * 8) (a * 256 + flag b) / 8)
-    go true e f =
-        rw (trailing-flag (n * 8) a) (record { within = omega arith; passes = e; before = λ k l. absurd (omega arith) })
-    go false e f =
-        let r = f (λ q. h (rw (q, e))) in
-        let z : (8 + trailingZeros (n * 8) a) / 8 ≡ suc (trailingZeros (n * 8) a / 8) = omega arith in
-        rw (trailing-none (n * 8) a, z) (first-later n t _ e r)
+        : (b : Bool) → t 0 ≡ b
+        → ((number n (λ k. flag (t (suc k))) ≡ 0 → ⊥) → FirstOf n (λ k. t (suc k)) (firstSome n (λ k. flag (t (suc k)))))
+        → FirstOf (suc n) t (cond (eqb (flag b) 0) (suc (firstSome n (λ k. flag (t (suc k))))) 0)
+    go true e f = record { within = omega arith; passes = e; before = λ k l. absurd (omega arith) }
+    go false e f = first-later n t _ e (f (λ q. h (rw (q, e))))
 
 pub first-of : (t : ℕ → Bool) (m j : ℕ) → m ≡ flags t → (m ≡ 0 → ⊥) → j ≡ firstByte m → FirstOf 8 t j
 unfolding flags firstByte
-first-of t m j e h q = rw (q, e) (first-flag 8 t (λ z. h (e ∙ z)))
+first-of t m j e h q =
+    let same : firstSome 8 (byteOf (flags t)) ≡ firstSome 8 (λ k. flag (t k)) =
+    first-like 8 (byteOf (flags t)) (λ k. flag (t k)) (λ k l. number-byte 8 (λ k. flag (t k)) (λ k. flag-byte (t k)) k l) in
+    rw (q, e, same) (first-flag 8 t (λ z. h (e ∙ z)))

@@ -4,8 +4,7 @@ use mathlib.Core.Path.{_≡_}
 use mathlib.Core.Bool.{Bool, true, false, cond}
 use mathlib.Core.List.{List}
 use lib.ListN.{length, getD}
-use lib.Dec.{leb}
-use lib.Count.{trailingZeros}
+use lib.Dec.{leb, eqb}
 
 -- the first n of a row of digits to the base 256 as one number, the first the lowest
 unfoldable pub number : ℕ → (ℕ → ℕ) → ℕ
@@ -38,6 +37,11 @@ flags t = number 8 (λ k. flag (t k))
 abbrev pub Flagged : ℕ → (ℕ → Bool) → ℕ → Type 0
 Flagged w test m = m ≡ flags (λ k. test (byteOf w k))
 
+-- the first of n bytes that is not 0, counted from 0; n, if there is none
+unfoldable pub firstSome : ℕ → (ℕ → ℕ) → ℕ
+firstSome zero x = 0
+firstSome (suc n) x = cond (eqb (x 0) 0) (suc (firstSome n (λ k. x (suc k)))) 0
+
 -- the first of the eight bytes of m that is not 0; 8, if there is none
 unfoldable pub firstByte : ℕ → ℕ
-firstByte m = trailingZeros 64 m / 8
+firstByte m = firstSome 8 (byteOf m)

@@ -50,7 +50,7 @@ fn pushed(value: u64, x: u8) -> u64
     value
 }
 
-// The digits from `from` on, put behind the value that was read so far. Up to the first release mark each byte is literal.
+// The digits from `from` on, put behind the value that was read so far. Up to the first byte that is the release character each is literal.
 pub(crate) fn digits_from(y: Syntax, d: &[u8], from: usize, e: usize, value: u64) -> Run
     requires { ⌜ e ≤ length (now d) ⌝ }
     requires { ⌜ value < 10 ^ 16 ⌝ }
@@ -61,7 +61,7 @@ pub(crate) fn digits_from(y: Syntax, d: &[u8], from: usize, e: usize, value: u64
     let mut sum = value;
     while i < e {
         let x = d[i];
-        if cut::releases(y, x) {
+        if x == y.release {
             let rest = released_digits(y, d, i, e, sum);
             return Run {
                 count: count + rest.count,

@@ -2,9 +2,12 @@
 use crate::limit::limit_of;
 use crate::literals::literal;
 use cut::Syntax;
+use std::num::wrapping_sub_u64;
 ghost use mathlib.Core.Path.{_≡_};
-ghost use Prim.Native.Nat.{_≤_, _<_};
+ghost use mathlib.Core.Bool.{false};
+ghost use Prim.Native.Nat.{ℕ, _≤_, _<_};
 ghost use lib.ListN.{length};
+ghost use Rattle.cut.specs.Eights.{byteOf};
 ghost use Rattle.element.specs.Inner.{FrontWord};
 ghost use Rattle.element.specs.Plain.{decoded};
 ghost use Rattle.element.specs.Words.{wordOf};
@@ -19,18 +22,17 @@ fn wide(x: u8) -> u64
 pub fn word_of(y: Syntax, d: &[u8], a: usize, e: usize) -> u64
     ensures { λ r. ⌜ r ≡ wordOf (decoded y a e (now (d .entry))) ⌝ }
 {
-    let end = limit_of(d, e);
-    let r = word_at_once(y, d, a, end);
+    let r = word_at_once(y, d, a, e);
     if r != 0 {
         return r;
     }
-    released_word(y, d, a, end)
+    released_word(y, d, a, limit_of(d, e))
 }
 
-// The same where the part has at most six bytes, eight stand from its first on, and none of its own is the release character; else 0.
-fn word_at_once(y: Syntax, d: &[u8], a: usize, end: usize) -> u64
-    requires { ⌜ end ≤ length (now d) ⌝ }
-    ensures { λ r. ⌜ ((r ≡ 0 → ⊥) → r ≡ wordOf (decoded y a end (now (d .entry)))) ⌝ }
+// The same where the part has at most six bytes and eight stand from its first on, so that none is past the delivery; 0 where that does not hold
+// or one of its bytes may be the release character.
+fn word_at_once(y: Syntax, d: &[u8], a: usize, e: usize) -> u64
+    ensures { λ r. ⌜ ((r ≡ 0 → ⊥) → r ≡ wordOf (decoded y a e (now (d .entry)))) ⌝ }
 {
     if d.len() < 8 {
         return 0;
@@ -38,29 +40,37 @@ fn word_at_once(y: Syntax, d: &[u8], a: usize, end: usize) -> u64
     if d.len() - 8 < a {
         return 0;
     }
-    if end < a {
+    if e < a {
         return 0;
     }
-    if 6 < end - a {
+    if 6 < e - a {
         return 0;
     }
-    front_word(y, cut::eight_at(d, a), end - a)
+    front_word(y, cut::eight_at(d, a), e - a)
 }
 
-// The number of the first n of eight bytes; 0 where one of them is the release character.
+// The number of the first n of eight bytes; 0 where one of them may be the release character.
 fn front_word(y: Syntax, w: u64, n: usize) -> u64
     requires { ⌜ n ≤ 6 ⌝ }
     ensures { λ r. ⌜ FrontWord y w n r ⌝ }
 {
     let scale = 1u64 << (8 * n);
-    let front = scale - 1;
-    if cut::alike(w, y.release) & front != 0 {
+    let front = w & (scale - 1);
+    if may_hold(front, y.release) {
         return 0;
     }
-    (w & front) + scale
+    front + scale
 }
 
-// The same where any byte may be a release mark. It reads from the start again: seven decoded bytes at most, and rarely.
+// Whether one of eight bytes may be x: a difference of 0, less 1, has its high bit set. So has one from 129 on, and no code holds such a byte.
+fn may_hold(w: u64, x: u8) -> bool
+    ensures { λ r. ⌜ (r ≡ false → (k : ℕ) → k < 8 → byteOf w k ≡ x → ⊥) ⌝ }
+{
+    let v = w ^ 0x0101_0101_0101_0101 * (x as u64);
+    wrapping_sub_u64(v, 0x0101_0101_0101_0101) & 0x8080_8080_8080_8080 != 0
+}
+
+// The same as `word_of` where any byte may be a release mark: seven decoded bytes at most, and rarely.
 fn released_word(y: Syntax, d: &[u8], a: usize, end: usize) -> u64
     requires { ⌜ end ≤ length (now d) ⌝ }
     ensures { λ r. ⌜ r ≡ wordOf (decoded y a end (now (d .entry))) ⌝ }

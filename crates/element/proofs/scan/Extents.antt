@@ -6,9 +6,7 @@ use mathlib.Core.List.{List, [], _∷_}
 use native.Mathlib.Nat.{add-zero}
 use native.Mathlib.Omega.{arith}
 use lib.ListN.{length, getD}
-use lib.Dec.{eqb}
 use Rattle.cut.specs.Bytes.{part}
-use Rattle.cut.specs.Segments.{frees}
 use Rattle.cut.specs.declared.service.Syntax.{Syntax}
 use Rattle.cut.proofs.Parts.{part-none, part-next}
 use Rattle.element.specs.declared.scan.Extent.{Extent}

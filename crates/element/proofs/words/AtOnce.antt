@@ -5,13 +5,13 @@ use mathlib.Core.List.{List}
 use native.Mathlib.Nat.{pow-suc, one-le-pow, pow-le-pow-right}
 use native.Mathlib.Omega.{arith}
 use lib.ListN.{length, getD}
-use lib.Dec.{eqb, eqb→eq, leb, lit<}
+use lib.Dec.{eqb, eqb→eq, lit<}
 use lib.Bits.{bitAnd, and-le-r}
-use borrow.Author.Tests.{eqb-false, le-leb}
-use Rattle.cut.specs.Eights.{number, onFrom, eightAt, byteOf, flags, Flagged}
+use borrow.Author.Tests.{le-leb}
+use Rattle.cut.specs.Eights.{number, onFrom, eightAt, byteOf}
 use Rattle.cut.specs.Every.{every}
 use Rattle.cut.specs.declared.service.Syntax.{Syntax}
-use Rattle.cut.proofs.Bytewise.{number-like, byte-there, front-bytes, front-none}
+use Rattle.cut.proofs.Bytewise.{number-like, byte-there, front-bytes, front-byte}
 use Rattle.cut.proofs.Every.{every-at}
 use Rattle.element.specs.Inner.{FrontWord}
 use Rattle.element.specs.Plain.{decoded}
@@ -36,13 +36,13 @@ module _ (n : ℕ) (h : n ≤ 6) (scale : ℕ) (s : scale ≡ 1 * 2 ^ (8 * n) % 
       omega (arith, and-le-r w (scale - 1), s ∙ scale-is n h)
 
   pub front-word
-      : (y : Syntax) (w m : ℕ) → Flagged w (λ b. eqb b (y .release)) m → bitAnd m (scale - 1) ≡ 0
-      → FrontWord y w n (bitAnd w (scale - 1) + scale)
-  front-word y w m f z =
+      : (y : Syntax) (w : ℕ) → ((k : ℕ) → k < 8 → byteOf (bitAnd w (scale - 1)) k ≡ y .release → ⊥) → FrontWord y w n (bitAnd w (scale - 1) + scale)
+  front-word y w f =
       let q = s ∙ scale-is n h in
+      let o : (k : ℕ) → k < n → byteOf (bitAnd w (scale - 1)) k ≡ byteOf w k = λ k l. rw q (front-byte n w k l) in
       record {
         worth = λ _. rw q (ap (λ (v : ℕ). v + 256 ^ n) (front-bytes n w));
-        plain = λ _ k l. eqb-false _ _ (front-none n (λ k. eqb (byteOf w k) (y .release)) (rw (f, q) at z) (omega arith) k l);
+        plain = λ _ k l e. f k (omega arith) (o k l ∙ e);
       }
 
 -- ---- the bytes of a part

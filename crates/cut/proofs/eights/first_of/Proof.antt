@@ -1,8 +1,8 @@
 -- `cut::eights::first_of` meets its contract: eight clear bits are a byte that is 0.
 use native.Mathlib.Omega.{arith}
 use lib.Count.{trailing-le}
-use mathlib.Core.Path.{refl}
 use Rattle.cut.specs.Eights.{firstByte}
+use Rattle.cut.proofs.Bytewise.{first-bits}
 use Rattle.cut.proofs.eights.first_of.Statement.{statement}
 use Rattle.cut.proofs.eights.first_of.Tie as tie
 
@@ -11,7 +11,7 @@ cast-result c = record { fits = omega (arith, trailing-le 64 (c .args .m)) }
 
 returns : tie.Need-returns
 unfolding firstByte
-returns c = refl
+returns c = first-bits 8 (c .args .m)
 
 pub first-of-spec : {M : Type 1} → statement M
 first-of-spec = tie.close (tie.spec cast-result returns)

@@ -3,7 +3,7 @@ use Prim.Native.Nat.{_-_}
 use mathlib.Core.Path.{sym, _∙_}
 use native.Mathlib.Omega.{arith}
 use borrow.Author.Tests.{not-true, not-false}
-use Rattle.element.proofs.Decoding.{literal-none, literal-byte}
+use Rattle.element.proofs.Decoding.{unmarked, literal-none, literal-byte}
 use Rattle.element.proofs.Running.{Along, along-start, along-join, along-more, along-end, along-stop}
 use Rattle.element.proofs.numeral.digits_from.Statement.{statement}
 use Rattle.element.proofs.numeral.digits_from.Tie as tie
@@ -20,14 +20,11 @@ loop-holds c = along-start _ _ _ _ _ (c .before .pre .1)
 shared-slice-read-x : tie.Need-shared-slice-read-x Inv-loop μ-loop
 shared-slice-read-x c = omega arith
 
-releases-requires : tie.Need-releases-requires Inv-loop μ-loop
-releases-requires c κs = tt
-
 released-digits-requires : tie.Need-released-digits-requires Inv-loop μ-loop
 released-digits-requires c κs = (omega arith, c .before .before .before .before .loop .inv .bounded)
 
-add-t15 : tie.Need-add-t15 Inv-loop μ-loop
-add-t15 c =
+add-t14 : tie.Need-add-t14 Inv-loop μ-loop
+add-t14 c =
     let p = c .before .before .before .before .before .before .loop .inv .passed in
     let q = c .before .released-digits .ensures .passed in
     omega arith
@@ -46,7 +43,7 @@ returns-2 c =
     let h = b .before .before .before .loop-test .taken in
     along-stop _ _ _ _ _ _ _ _ _
     (l .loop .inv)
-    (literal-byte _ _ _ _ h (l .before .before .pre .0) (sym (b .before .releases .ensures) ∙ b .if1 .left))
+    (literal-byte _ _ _ _ h (l .before .before .pre .0) (unmarked _ _ (b .if1 .left)))
     h
     (sym (c .before .is-digit .ensures) ∙ not-true _ (c .if2 .taken))
 
@@ -70,7 +67,7 @@ loop-again c =
     let h = b .before .before .before .loop-test .taken in
     along-more _ _ _ _ _ _ _ _ _
     (l .loop .inv)
-    (literal-byte _ _ _ _ h (l .before .before .pre .0) (sym (b .before .releases .ensures) ∙ b .if1 .left))
+    (literal-byte _ _ _ _ h (l .before .before .pre .0) (unmarked _ _ (b .if1 .left)))
     h
     (sym (c .before .before .is-digit .ensures) ∙ not-false _ (c .before .if2 .left))
     _
@@ -87,9 +84,8 @@ digits-from-spec =
     μ-loop
     loop-holds
     shared-slice-read-x
-    releases-requires
     released-digits-requires
-    add-t15
+    add-t14
     returns
     is-digit-requires
     returns-2

@@ -1,4 +1,4 @@
--- `element::words::front_word` meets its contract: the bytes behind the first n are cut off, of the eight and of their flags.
+-- `element::words::front_word` meets its contract: the bytes behind the first n are cut off.
 use mathlib.Core.Path.{refl}
 use borrow.Author.Needs.{needs}
 use Rattle.element.proofs.words.AtOnce.{scale-some, scale-fits, front-word}
@@ -14,8 +14,8 @@ shl-scale c = search needs
 sub-front : tie.Need-sub-front
 sub-front c = scale-some (c .args .n) (c .pre) _ refl
 
-alike-requires : tie.Need-alike-requires
-alike-requires c κs = search needs
+may-hold-requires : tie.Need-may-hold-requires
+may-hold-requires c κs = search needs
 
 returns : tie.Need-returns
 returns c = search needs
@@ -26,8 +26,9 @@ add-result c = record { fits = scale-fits (c .before .before .args .n) (c .befor
 returns-2 : tie.Need-returns-2
 returns-2 c =
     let a = c .before .before .args in
-    front-word (a .n) (c .before .before .pre) _ refl (a .y) (a .w) _ (c .before .alike .ensures) (c .if1 .left)
+    front-word (a .n) (c .before .before .pre) _ refl (a .y) (a .w) (c .before .may-hold .ensures (c .if1 .left))
 
 pub front-word-spec : {M : Type 1} → statement M
 front-word-spec =
-    tie.close (tie.spec mul-scale shl-scale sub-front alike-requires returns add-result returns-2)
+    tie.close
+    (tie.spec mul-scale shl-scale sub-front may-hold-requires returns add-result returns-2)

@@ -1,4 +1,4 @@
--- `element::words::word_at_once` meets its contract: a part that a test refuses is none to read so.
+-- `element::words::word_at_once` meets its contract: a part that a test refuses is not read so.
 use native.Mathlib.Omega.{arith}
 use borrow.Author.Needs.{needs}
 use Rattle.element.proofs.words.AtOnce.{word-at-once}

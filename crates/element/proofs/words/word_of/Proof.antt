@@ -6,22 +6,22 @@ use Rattle.element.proofs.Decoding.{decoded-limited}
 use Rattle.element.proofs.words.word_of.Statement.{statement}
 use Rattle.element.proofs.words.word_of.Tie as tie
 
-limit-of-requires : tie.Need-limit-of-requires
-limit-of-requires c κs = search needs
-
 word-at-once-requires : tie.Need-word-at-once-requires
 word-at-once-requires c κs = search needs
 
 returns : tie.Need-returns
-returns c = c .before .word-at-once .ensures (c .if1 .taken) ∙ ap wordOf (decoded-limited _ _ _ _ _ (c .before .before .limit-of .ensures))
+returns c = c .before .word-at-once .ensures (c .if1 .taken)
+
+limit-of-requires : tie.Need-limit-of-requires
+limit-of-requires c κs = search needs
 
 released-word-requires : tie.Need-released-word-requires
 released-word-requires c κs = search needs
 
 returns-2 : tie.Need-returns-2
-returns-2 c = c .released-word .ensures ∙ ap wordOf (decoded-limited _ _ _ _ _ (c .before .before .before .limit-of .ensures))
+returns-2 c = c .released-word .ensures ∙ ap wordOf (decoded-limited _ _ _ _ _ (c .before .limit-of .ensures))
 
 pub word-of-spec : {M : Type 1} → statement M
 word-of-spec =
     tie.close
-    (tie.spec limit-of-requires word-at-once-requires returns released-word-requires returns-2)
+    (tie.spec word-at-once-requires returns limit-of-requires released-word-requires returns-2)
