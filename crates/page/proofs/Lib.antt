@@ -10,3 +10,4 @@ pub mod PageSought
 pub mod PageSteps
 pub mod PageResults
 pub mod PageScans
+pub mod PageMarks
