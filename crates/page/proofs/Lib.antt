@@ -11,3 +11,4 @@ pub mod PageSought
 pub mod PageSteps
 pub mod PageResults
 pub mod PageScans
+pub mod PageMarks

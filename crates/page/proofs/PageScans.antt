@@ -14,8 +14,7 @@ use Rattle.cut.proofs.Bytewise.{FirstOf, flags-none}
 use Rattle.element.specs.Components.{extentOf}
 use Rattle.element.specs.Services.{isService, Service}
 use Rattle.element.specs.declared.scan.Extent.{Extent}
-use Rattle.element.proofs.ComponentFace.{extent-stop}
-use Rattle.page.specs.Scans.{waiting, Scanned, AheadOf}
+use Rattle.page.specs.Scans.{waiting, Scanned, Sought, AheadOf}
 use Rattle.page.specs.declared.scan.Scan.{Scan}
 
 -- ---- flags
@@ -55,7 +54,7 @@ first-cleared (suc n) t s (suc j) f h later none =
 
 -- ---- the bytes of a segment
 
-right-of : (a b : Bool) → a && b ≡ true → (a ≡ true) × (b ≡ true)
+pub right-of : (a b : Bool) → a && b ≡ true → (a ≡ true) × (b ≡ true)
 right-of true b h = (refl, h)
 right-of false b h = absurd (false≢true h)
 
@@ -109,7 +108,7 @@ module _ (y : Syntax) (d : List ℕ) (a : ℕ) where
         placed : n + j ≡ end + 8
         placed = omega (arith, scan-flag)
 
-        pub scan-service : (limit : ℕ) → Service y d a limit end
+        scan-service : (limit : ℕ) → Service y d a limit end
         scan-service limit = record { passed = record { onward = omega (arith, scan-flag); none = none }; here = λ l. sym (waits y d a n j end placed (omega (arith, scan-flag))) ∙ f .passes }
           where
             none : (k : ℕ) → a ≤ k → k < end → isService y (getD d k 0) ≡ false
@@ -122,7 +121,7 @@ module _ (y : Syntax) (d : List ℕ) (a : ℕ) where
                     sym (waits y d a n (k + 8 - n) k (omega arith) l) ∙ f .before (k + 8 - n) (omega arith)
                 go false g = s .passed k l (leb-false n (k + 8) g)
 
-        pub scan-on : Scanned y d (end + 1) n (bitAnd m (m - 1))
+        scan-on : Scanned y d (end + 1) n (bitAnd m (m - 1))
         unfolding flags
         scan-on =
             let p = placed in
@@ -143,11 +142,19 @@ module _ (y : Syntax) (d : List ℕ) (a : ℕ) where
             none : (k : ℕ) → k ≤ j → waiting y d (end + 1) n k ≡ false
             none k l = waits-not y d (end + 1) n k (omega (arith, placed))
 
-        -- where the component ends there
-        pub ahead-found
-            : (limit : ℕ) → limit ≤ length d → end < limit → (getD d end 0 ≡ y .release → ⊥)
-            → AheadOf y d a limit (record { end = end; length = end - a; scan = record { at = end + 1; next = n; left = bitAnd m (m - 1) } })
-        ahead-found limit fits l r = record { extent = extent-stop y d a limit limit (omega arith) end (scan-service limit) l r; onward = refl; scanned = scan-on }
+      -- the scan behind it
+      pub sought-flag : (m ≡ 0 → ⊥) → (limit at : ℕ) → at ≡ n + j - 7 → Sought y d a limit (record { at = at; next = n; left = bitAnd m (m - 1) })
+      sought-flag h limit at e =
+          let q = scan-flag in
+          let b : at - 1 ≡ n + j - 8 = omega arith in
+          let z : n + j - 8 + 1 ≡ at = omega arith in
+          record { onward = omega arith; service = λ l. rw b (scan-service h (n + j - 8) refl limit); scanned = rw z at (scan-on h (n + j - 8) refl) }
+
+-- where no word finds one
+pub sought-none
+    : (y : Syntax) (d : List ℕ) (a limit : ℕ) → a ≤ limit → limit ≤ length d → (s : Scan) → s ≡ record { at = limit + 1; next = limit + 1; left = 0 } → Sought y d a limit s
+sought-none y d a limit h fits s e =
+    rw e (record { onward = omega arith; service = λ l. absurd (omega arith); scanned = scan-none y d (limit + 1) (omega arith) })
 
 pub scan-begins : (y : Syntax) (d : List ℕ) (a : ℕ) → a ≤ suc (length d) → (s : Scan) → s ≡ record { at = a; next = a; left = 0 } → Scanned y d (s .at) (s .next) (s .left)
 scan-begins y d a h s e = rw e (scan-none y d a h)

@@ -9,8 +9,9 @@ use lib.Dec.{leb}
 use Rattle.cut.specs.Eights.{flags}
 use Rattle.cut.specs.declared.service.Syntax.{Syntax}
 use Rattle.element.specs.Components.{extentOf}
-use Rattle.element.specs.Services.{isService}
+use Rattle.element.specs.Services.{isService, Service}
 use Rattle.page.specs.declared.scan.Ahead.{Ahead}
+use Rattle.page.specs.declared.scan.Scan.{Scan}
 
 -- whether byte k of the word that ends before the place next is a service character and not before the place a
 unfoldable pub waiting : Syntax → List ℕ → ℕ → ℕ → ℕ → Bool
@@ -22,6 +23,12 @@ pub record Scanned (y : Syntax) (d : List ℕ) (a next left : ℕ) : Type 0 wher
   pub within : next ≤ suc (length d)
   pub passed : (k : ℕ) → a ≤ k → k + 8 < next → isService y (getD d k 0) ≡ false
   pub flagged : left ≡ flags (waiting y d a next)
+
+-- r is the scan behind the first service character from the place a on, if it is one that stands before limit
+pub record Sought (y : Syntax) (d : List ℕ) (a limit : ℕ) (r : Scan) : Type 0 where
+  pub onward : a < r .at
+  pub service : r .at ≤ limit → Service y d a limit (r .at - 1)
+  pub scanned : Scanned y d (r .at) (r .next) (r .left)
 
 -- r says of the component that begins at the place a where it ends and how long it is, and what is tested behind it
 pub record AheadOf (y : Syntax) (d : List ℕ) (a limit : ℕ) (r : Ahead) : Type 0 where

@@ -1,12 +1,14 @@
-// Where the components of a segment end, one after the other, with each word of eight bytes tested once: what a word's test found behind a component is
-// kept for the next one.
+// Where the components of a segment end, one after the other, with words of eight bytes tested at once: what a word's test found behind a component is kept
+// for the next one. Only behind a byte that is released the words begin anew.
 use cut::Syntax;
 use element::component_from;
 use element::services_in;
 ghost use Prim.Native.Nat.{_≤_};
+ghost use mathlib.Core.Bool.{false};
 ghost use mathlib.Core.Path.{_≡_};
 ghost use lib.ListN.{length};
-ghost use Rattle.page.specs.Scans.{Scanned, AheadOf};
+ghost use Rattle.element.specs.Elements.{releases};
+ghost use Rattle.page.specs.Scans.{Scanned, Sought, AheadOf};
 
 // The place of the component that comes next, the place behind the last word that was tested, and the flags of those of this word's service characters that
 // are not before the component.
@@ -47,43 +49,79 @@ fn alone(y: Syntax, d: &[u8], a: usize, limit: usize) -> Ahead
     }
 }
 
-// The component that comes next, of a part up to `limit`. It ends at the first service character that is flagged, unless this is the release character or
-// stands behind the part.
-pub(crate) fn component_on(y: Syntax, d: &[u8], limit: usize, scan: Scan) -> Ahead
+// The scan behind the service character that comes next, in a part up to `limit`; behind the part, if words of eight bytes find none in it.
+fn service_on(y: Syntax, d: &[u8], limit: usize, scan: Scan) -> Scan
     requires { ⌜ (scan .at ≤ limit) × (limit ≤ length (now d)) × Scanned y (now d) (scan .at) (scan .next) (scan .left) ⌝ }
-    ensures { λ r. ⌜ AheadOf y (now (d .entry)) (scan .at) limit r ⌝ }
+    ensures { λ r. ⌜ Sought y (now (d .entry)) (scan .at) limit r ⌝ }
 {
-    let a = scan.at;
     if d.len() < 8 {
-        return alone(y, d, a, limit);
+        return untested(limit + 1);
     }
     let last = d.len() - 8;
     let mut n = scan.next;
     let mut m = scan.left;
     while m == 0 {
         if limit <= n {
-            return alone(y, d, a, limit);
+            return untested(limit + 1);
         }
         if last < n {
-            return alone(y, d, a, limit);
+            return untested(limit + 1);
         }
         m = services_in(y, cut::eight_at(d, n));
         n += 8;
     }
-    let end = n + cut::first_of(m) - 8;
-    if limit <= end {
-        return alone(y, d, a, limit);
+    Scan {
+        at: n + cut::first_of(m) - 7,
+        next: n,
+        left: m & (m - 1),
     }
-    if d[end] == y.release {
-        return alone(y, d, a, limit);
+}
+
+// Whether the release character releases the next byte: it does not, where it also ends something.
+fn marks(y: Syntax) -> bool
+    ensures { λ r. ⌜ r ≡ releases y false (y .release) ⌝ }
+{
+    if y.release == y.terminator {
+        return false;
     }
-    Ahead {
-        end,
-        length: end - a,
-        scan: Scan {
-            at: end + 1,
-            next: n,
-            left: m & (m - 1),
-        },
+    if y.release == y.element {
+        return false;
+    }
+    if y.release == y.component {
+        return false;
+    }
+    true
+}
+
+// The component that comes next, of a part up to `limit`. It ends at the first service character that is no release mark; behind such a mark and the byte
+// that it releases, the component goes on as one that begins there.
+pub(crate) fn component_on(y: Syntax, d: &[u8], limit: usize, scan: Scan) -> Ahead
+    requires { ⌜ (scan .at ≤ limit) × (limit ≤ length (now d)) × Scanned y (now d) (scan .at) (scan .next) (scan .left) ⌝ }
+    ensures { λ r. ⌜ AheadOf y (now (d .entry)) (scan .at) limit r ⌝ }
+{
+    let a = scan.at;
+    let mut from = scan;
+    let mut removed = 0;
+    loop {
+        let behind = service_on(y, d, limit, from);
+        let end = behind.at - 1;
+        if limit <= end {
+            return alone(y, d, a, limit);
+        }
+        if d[end] != y.release {
+            return Ahead {
+                end,
+                length: end - a - removed,
+                scan: behind,
+            };
+        }
+        if limit < end + 2 {
+            return alone(y, d, a, limit);
+        }
+        if !marks(y) {
+            return alone(y, d, a, limit);
+        }
+        from = untested(end + 2);
+        removed += 1;
     }
 }
