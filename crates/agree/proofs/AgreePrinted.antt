@@ -8,7 +8,7 @@ use lib.Dec.{eqb}
 use Rattle.cut.specs.declared.service.Syntax.{Syntax}
 use Rattle.element.specs.Elements.{elements}
 use Rattle.element.specs.Plain.{plain}
-use Rattle.element.proofs.ValueFace.{same-true}
+use Rattle.element.proofs.ComponentFace.{same-true}
 use Rattle.agree.specs.Agreement.{sameText, allEmpty, sameComponents, emptyElements, sameElements, agreeBut, agreeIn, Heading, agree}
 use Rattle.agree.specs.AgreePrints.{mixedBy, namedBy, printBytes, printComponents, printElements, printSegment, printIn, printOf}
 use Rattle.agree.proofs.AgreeTexts.{and-both}

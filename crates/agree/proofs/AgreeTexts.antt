@@ -12,7 +12,7 @@ use Rattle.cut.specs.declared.service.Syntax.{Syntax}
 use Rattle.cut.specs.Segments.{Segment}
 use Rattle.element.specs.Elements.{elements, component}
 use Rattle.element.specs.Plain.{plain}
-use Rattle.element.proofs.ValueFace.{same-refl, same-true}
+use Rattle.element.proofs.ComponentFace.{same-refl, same-true}
 use Rattle.guide.specs.Content.{text}
 use Rattle.guide.specs.Sheet.{Position}
 use Rattle.guide.specs.Accepted.{AgreeBut, AgreeIn, Agree}

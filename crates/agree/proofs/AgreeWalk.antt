@@ -15,8 +15,7 @@ use Rattle.element.specs.declared.components.Span.{Span}
 use Rattle.element.specs.declared.cursor.Cursor.{Cursor}
 use Rattle.element.specs.declared.cursor.Visit.{Visit}
 use Rattle.element.specs.declared.cursor.Visit.the-variants.{At, Nothing}
-use Rattle.element.proofs.ComponentFace.{rest-new, visited, nothing-left}
-use Rattle.element.proofs.ValueFace.{decoded-none}
+use Rattle.element.proofs.ComponentFace.{decoded-none, rest-new, visited, nothing-left}
 use Rattle.agree.specs.Agreement.{sameText, agreeBut}
 use Rattle.agree.specs.AgreeInner.{bothEnded, inTime, emptySpan, shownBy, onwardBy}
 use Rattle.agree.proofs.AgreeSides.{shownOf, alone, beside, sideBySide, one-comes, components-beside}

@@ -1,5 +1,5 @@
--- The laws of a segment's components that the crates above cite. They hold for any bytes and places, and for any service
--- characters unless they say which.
+-- The laws of a segment's components, and of bytes without release marks, that the crates above cite. They hold for any bytes and
+-- places, and for any service characters unless they say which.
 
 -- what holds of each component of a list
 pub use Rattle.element.proofs.components.Each.{Each, none, more}
@@ -51,3 +51,7 @@ pub use Rattle.element.proofs.components.Released.{releases-frees}
 -- and then no byte of a segment is lost: its components joined again, and its terminator, are its bytes
 pub use Rattle.element.proofs.components.Whole.{segment-joined}
 unfoldable pub use Rattle.element.proofs.components.Whole.{lastOf}
+-- `same` is equality: it says true of a row and itself, and of equal rows only
+pub use Rattle.element.proofs.Sameness.{same-refl, same-true}
+-- an empty part has no bytes; what each byte of a part adds to the decoded ones
+pub use Rattle.element.proofs.Decoding.{decoded-none, plain-byte, plain-released, plain-last}

@@ -12,7 +12,6 @@ use Rattle.cut.specs.Bytes.{part}
 use Rattle.cut.specs.Segments.{frees}
 use Rattle.cut.proofs.Parts.{part-none, part-next}
 use Rattle.element.specs.Plain.{unlessMark, plain, decoded}
-use Rattle.element.specs.Inner.{Literal}
 use Rattle.element.proofs.Limits.{limited}
 
 -- a byte that is not the release character is no release mark
@@ -33,6 +32,13 @@ module _ (y : Syntax) (x : ℕ) where
   pub plain-last : frees y false x ≡ true → plain y false (x ∷ []) ≡ []
   unfolding plain unlessMark
   plain-last h = rw h
+
+-- r is where the first decoded byte of the part from i up to e stands; it is not before e where there is none
+pub record Literal (y : Syntax) (d : List ℕ) (i e r : ℕ) : Type 0 where
+  pub inside : i ≤ e → r ≤ e
+  pub onward : i ≤ r
+  pub found : r < e → decoded y i e d ≡ getD d r 0 ∷ decoded y (r + 1) e d
+  pub none : e ≤ r → decoded y i e d ≡ []
 
 module _ (y : Syntax) (d : List ℕ) where
   -- a part that is empty

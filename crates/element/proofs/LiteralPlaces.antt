@@ -10,8 +10,7 @@ use lib.ListN.{length, getD}
 use Rattle.cut.specs.declared.service.Syntax.{Syntax}
 use Rattle.cut.specs.Segments.{frees}
 use Rattle.element.specs.Plain.{literalOf}
-use Rattle.element.specs.Inner.{Literal}
-use Rattle.element.proofs.Decoding.{literal-none, literal-byte, literal-mark}
+use Rattle.element.proofs.Decoding.{Literal, literal-none, literal-byte, literal-mark}
 
 module _ (y : Syntax) (d : List ℕ) (i e : ℕ) where
   -- no byte stands there, or it stands behind the part

@@ -11,7 +11,7 @@ use lib.Dec.{eqb, leb}
 use borrow.Author.Tests.{eq-eqb, ne-eqb, eqb-true, eqb-false, leb-true, leb-false}
 use Rattle.cut.specs.declared.service.Syntax.{Syntax}
 use Rattle.element.specs.Plain.{decoded, same}
-use Rattle.element.specs.Inner.{Literal}
+use Rattle.element.proofs.Decoding.{Literal}
 
 pub same-refl : (s : List ℕ) → same s s ≡ true
 unfolding same

@@ -1,70 +1,10 @@
 -- What the crate's own readers promise each other; no public call cites these.
-use Prim.Native.Nat.{ℕ, _+_, _-_, _*_, _^_, _≤_, _<_}
-use mathlib.Core.Bool.{Bool, true, false, _&&_}
+use Prim.Native.Nat.{ℕ, _+_, _^_, _<_}
 use mathlib.Core.Path.{_≡_}
-use mathlib.Core.List.{List, [], _∷_, _++_}
-use lib.ListN.{length, getD, drop}
-use lib.Dec.{ltb}
 use Rattle.cut.specs.Eights.{number, byteOf}
 use Rattle.cut.specs.declared.service.Syntax.{Syntax}
-use Rattle.element.specs.declared.numeral.Run.{Run}
-use Rattle.element.specs.declared.numeral.Numeral.{Numeral}
-use Rattle.element.specs.declared.numeral.Numeral.the-variants.{Short, Long, Other}
-use Rattle.element.specs.Plain.{decoded}
-use Rattle.element.specs.Numeral.{some, digitsAhead, behindDigits, minus, unsigned, isTail, decimal}
-
--- r is where the first decoded byte of the part from i up to e stands; it is not before e where there is none
-pub record Literal (y : Syntax) (d : List ℕ) (i e r : ℕ) : Type 0 where
-  pub inside : i ≤ e → r ≤ e
-  pub onward : i ≤ r
-  pub found : r < e → decoded y i e d ≡ getD d r 0 ∷ decoded y (r + 1) e d
-  pub none : e ≤ r → decoded y i e d ≡ []
 
 -- r is the number of the first n of the eight bytes of w, and none of those is the release character; or r is 0
 pub record FrontWord (y : Syntax) (w n r : ℕ) : Type 0 where
   pub worth : (r ≡ 0 → ⊥) → r ≡ number n (byteOf w) + 256 ^ n
   pub plain : (r ≡ 0 → ⊥) → (k : ℕ) → k < n → byteOf w k ≡ y .release → ⊥
-
--- r is v with the digit x behind it, as long as that has at most sixteen digits
-pub record Pushed (v x r : ℕ) : Type 0 where
-  pub grown : v < 10 ^ 15 → r ≡ v * 10 + (x - 48)
-  pub bounded : r < 10 ^ 16
-
--- r is what the part from i up to e has of digits: how many, their value behind v's digits (n of them), and the place of the first
--- byte that is none
-pub record DigitRun (y : Syntax) (d : List ℕ) (i e v : ℕ) (r : Run) : Type 0 where
-  pub counted : r .count ≡ length (digitsAhead (decoded y i e d))
-  pub valued : (n : ℕ) → v < 10 ^ n → n + r .count ≤ 15 → r .value ≡ v * 10 ^ r .count + decimal (digitsAhead (decoded y i e d))
-  pub bounded : r .value < 10 ^ 16
-  pub inside : i ≤ e → r .next ≤ e
-  pub passed : i + r .count ≤ r .next
-  pub found : r .next < e → behindDigits (decoded y i e d) ≡ getD d (r .next) 0 ∷ decoded y (r .next + 1) e d
-  pub none : e ≤ r .next → behindDigits (decoded y i e d) ≡ []
-
-abbrev pub pickNumeral : Bool → Numeral → Numeral → Numeral
-pickNumeral true a b = a
-pickNumeral false a b = b
-
--- a number of n digits, k of them behind the mark: up to fifteen digits are valued, more are only counted
-abbrev pub countedAs : Bool → ℕ → ℕ → ℕ → Numeral
-countedAs m v n k = pickNumeral (ltb 15 n) (Long n) (Short m v n k)
-
--- the number with the digits w before and f behind the mark
-unfoldable pub numeralBy : Bool → List ℕ → List ℕ → Numeral
-numeralBy m w f = countedAs m (decimal (w ++ f)) (length (w ++ f)) (length f)
-
--- the bytes s, behind a minus or not, as a number
-unfoldable pub unsignedOf : Syntax → Bool → List ℕ → Numeral
-unsignedOf y m s =
-    pickNumeral (some (digitsAhead s) && isTail y (behindDigits s))
-    (numeralBy m (digitsAhead s) (digitsAhead (drop 1 (behindDigits s))))
-    Other
-
-unfoldable pub numeralOf : Syntax → List ℕ → Numeral
-numeralOf y s = unsignedOf y (minus s) (unsigned s)
-
--- whether a number has as many digits as the test wants
-abbrev pub judged : (ℕ → Bool) → Numeral → Bool
-judged h (Short m v n k) = h n
-judged h (Long n) = h n
-judged h Other = false

@@ -1,10 +1,5 @@
-pub mod Digits
-pub mod Format
 pub mod Inner
-pub mod Number
-pub mod Numeral
 pub mod Plain
-pub mod Text
 pub mod Words
 pub mod Clean
 pub mod Elements

@@ -1,39 +1,27 @@
-// Reads what stands in one segment: its bytes and tag, its components, bytes without release marks, formats, numbers. Every call answers
-// for any service characters and for any part of a delivery, from one place up to another.
+// Reads what stands in one segment: its bytes and tag, its components, bytes without release marks. Every call answers for any service
+// characters and for any part of a delivery, from one place up to another.
 mod clean;
 mod components;
-mod counts;
 mod cursor;
-mod formats;
 mod limit;
 mod literals;
-mod numeral;
 mod plain;
-mod prices;
 mod scan;
-mod text;
 mod words;
 
 pub use clean::allowed;
 pub use clean::tagged;
 pub use components::Span;
 pub use components::component_at;
-pub use counts::Count;
-pub use counts::count_of;
 pub use cursor::Cursor;
 pub use cursor::Visit;
-pub use formats::Format;
-pub use formats::fits;
 pub use limit::limit_of;
 pub use literals::literal;
 pub use plain::copy_plain;
 pub use plain::is_code;
 pub use plain::plain_length;
 pub use plain::same_plain;
-pub use prices::Number;
-pub use prices::number_of;
 pub use scan::Extent;
 pub use scan::component_from;
 pub use scan::services_in;
-pub use text::decimal_text;
 pub use words::word_of;

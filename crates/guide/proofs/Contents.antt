@@ -6,9 +6,9 @@ use mathlib.Core.Path.{_≡_, refl, sym, _∙_}
 use mathlib.Core.List.{List, [], _∷_, List·Memᴰ}
 use native.Mathlib.Omega.{arith}
 use Rattle.cut.specs.declared.service.Syntax.{Syntax}
-use Rattle.element.specs.Format.{fitsFormat}
-use Rattle.element.specs.declared.formats.Format.{Format}
-use Rattle.element.specs.declared.formats.Format.the-variants.{AnUpTo, NUpTo}
+use Rattle.value.specs.Format.{fitsFormat}
+use Rattle.value.specs.declared.formats.Format.{Format}
+use Rattle.value.specs.declared.formats.Format.the-variants.{AnUpTo, NUpTo}
 use Rattle.guide.specs.Page.{Status, must, Row, used, unused, Page, any, elementOf, rowOf}
 use Rattle.guide.specs.Composites.{C212, C509}
 use Rattle.guide.specs.PageMakers.{LIN, PRI}

@@ -8,8 +8,8 @@ use lib.Dec.{T}
 use Rattle.cut.specs.declared.service.Syntax.{Syntax}
 use Rattle.cut.specs.Bytes.{bytesOf}
 use Rattle.cut.specs.Segments.{Segment}
-use Rattle.element.specs.Digits.{countOf}
-use Rattle.element.specs.declared.counts.Count.the-variants.{Is}
+use Rattle.value.specs.Digits.{countOf}
+use Rattle.value.specs.declared.counts.Count.the-variants.{Is}
 use Rattle.guide.specs.Nodes.{Guide}
 use Rattle.guide.specs.Page.{Page}
 use Rattle.guide.specs.Content.{text, Holds}

@@ -8,8 +8,8 @@ use native.Mathlib.Omega.{arith}
 use lib.ListN.{getD}
 use Rattle.cut.specs.declared.service.Syntax.{Syntax}
 use Rattle.element.specs.Plain.{plain, same}
-use Rattle.element.specs.Numeral.{some}
-use Rattle.element.proofs.ValueFace.{same-refl, same-true}
+use Rattle.value.specs.Numeral.{some}
+use Rattle.element.proofs.ComponentFace.{same-refl, same-true}
 use Rattle.guide.specs.Nodes.{among, chosen}
 use Rattle.guide.specs.PageFault.{anyFilled}
 

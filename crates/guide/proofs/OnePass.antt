@@ -7,7 +7,7 @@ use mathlib.Core.List.{List, [], _∷_}
 use lib.ListN.{getD, drop}
 use Rattle.cut.specs.declared.service.Syntax.{Syntax}
 use Rattle.element.specs.Plain.{plain}
-use Rattle.element.specs.Numeral.{some, none}
+use Rattle.value.specs.Numeral.{some, none}
 use Rattle.guide.specs.Page.{must, may, Row, used, unused, Composite, beyond}
 use Rattle.guide.specs.PageFault.{firstOf, notUsed, missing, wrongFormat, wrongCode, textFault, componentFault, anyFilled, elementFault}
 use Rattle.guide.specs.Choices.{pickℕ, orElse}

@@ -8,9 +8,9 @@ use native.Mathlib.Omega.{arith}
 use lib.ListN.{getD}
 use Rattle.cut.specs.declared.service.Syntax.{Syntax}
 use Rattle.element.specs.Elements.{elements, component}
-use Rattle.element.specs.Numeral.{some, none}
-use Rattle.element.specs.Format.{fitsFormat}
-use Rattle.element.specs.declared.formats.Format.{Format}
+use Rattle.value.specs.Numeral.{some, none}
+use Rattle.value.specs.Format.{fitsFormat}
+use Rattle.value.specs.declared.formats.Format.{Format}
 use Rattle.guide.specs.Page.{Status, must, may, Row, used, unused, Page, elementOf, rowOf}
 use Rattle.guide.specs.Content.{text, Asked, by-status, by-content, Sound}
 use Rattle.guide.specs.FirstFault.{Fault, not-used, missing, wrong-format, wrong-code}

@@ -7,8 +7,8 @@ use Rattle.cut.specs.Base.{edifact}
 use Rattle.cut.specs.Segments.{frees}
 use Rattle.element.specs.Elements.{endingOf, stays, releases, before, splitFrom, elements}
 use Rattle.element.specs.Plain.{unlessMark, plain, same}
-use Rattle.element.specs.Numeral.{some, none, isDigit, digitsAhead, behindDigits, minus, unsigned, whole, fraction, digits, isTail, isNumber}
-use Rattle.element.specs.Format.{fitsFormat}
+use Rattle.value.specs.Numeral.{some, none, isDigit, digitsAhead, behindDigits, minus, unsigned, whole, fraction, digits, isTail, isNumber}
+use Rattle.value.specs.Format.{fitsFormat}
 use Rattle.guide.specs.Page.{must, Page, codes, optional, simple}
 use Rattle.cut.specs.Bytes.{bytesOf}
 use Rattle.guide.specs.Composites.{C273}

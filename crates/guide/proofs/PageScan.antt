@@ -6,7 +6,7 @@ use lib.ListN.{getD, drop}
 use Rattle.cut.specs.declared.service.Syntax.{Syntax}
 use Rattle.element.specs.Elements.{elements, component}
 use Rattle.element.specs.Plain.{plain}
-use Rattle.element.specs.Numeral.{some}
+use Rattle.value.specs.Numeral.{some}
 use Rattle.guide.specs.Page.{unused, Page, beyond, elementOf, rowOf}
 use Rattle.guide.specs.Content.{text, Sound}
 use Rattle.guide.specs.PageFault.{firstOf, notUsed, missing, wrongFormat, wrongCode, textFault, componentFault, elementFault, pageFault}

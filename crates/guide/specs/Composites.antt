@@ -2,8 +2,8 @@
 -- Each line is a data element, its number behind it.
 use Prim.Native.String.{String}
 use mathlib.Core.List.{List, [], _∷_}
-use Rattle.element.specs.declared.formats.Format.{Format}
-use Rattle.element.specs.declared.formats.Format.the-variants.{AnUpTo, NUpTo}
+use Rattle.value.specs.declared.formats.Format.{Format}
+use Rattle.value.specs.declared.formats.Format.the-variants.{AnUpTo, NUpTo}
 use Rattle.guide.specs.Page.{Status, must, may, Row, used, unused, codes, any}
 
 -- the kind of message, with its edition

@@ -7,8 +7,8 @@ use mathlib.Core.List.{List, [], List·Memᴰ}
 use Rattle.cut.specs.declared.service.Syntax.{Syntax}
 use Rattle.element.specs.Elements.{component}
 use Rattle.element.specs.Plain.{plain}
-use Rattle.element.specs.Format.{fitsFormat}
-use Rattle.element.specs.declared.formats.Format.{Format}
+use Rattle.value.specs.Format.{fitsFormat}
+use Rattle.value.specs.declared.formats.Format.{Format}
 use Rattle.guide.specs.Page.{Status, must, used, unused, Page, elementOf, rowOf}
 
 -- the bytes of component c of element e, "releases removed"; "a missing component equals an empty one"

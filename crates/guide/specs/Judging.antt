@@ -10,9 +10,9 @@ use Rattle.cut.specs.Segments.{Segment, endOf}
 use Rattle.cut.specs.Messages.{Message, startOf}
 use Rattle.element.specs.Clean.{allowedBytes, taggedBytes}
 use Rattle.element.specs.Plain.{same}
-use Rattle.element.specs.Digits.{countOf}
-use Rattle.element.specs.declared.counts.Count.{Count}
-use Rattle.element.specs.declared.counts.Count.the-variants.{Is, Nothing}
+use Rattle.value.specs.Digits.{countOf}
+use Rattle.value.specs.declared.counts.Count.{Count}
+use Rattle.value.specs.declared.counts.Count.the-variants.{Is, Nothing}
 use Rattle.guide.specs.Choices.{pickℕ, orElse}
 use Rattle.guide.specs.Nodes.{Guide, capacity, numberOf}
 use Rattle.guide.specs.Views.{viewOf}

@@ -5,7 +5,7 @@ use mathlib.Core.Bool.{Bool, true, false}
 use mathlib.Core.List.{List, [], _∷_}
 use lib.ListN.{getD}
 use Rattle.cut.specs.Bytes.{bytesOf}
-use Rattle.element.specs.declared.formats.Format.{Format}
+use Rattle.value.specs.declared.formats.Format.{Format}
 
 -- M and R are must; D and O (and C, where a page shows nothing else) are may: "D and O both mean 'may occur'"
 pub data Status : Type 0 where

@@ -6,8 +6,8 @@ use lib.ListN.{drop}
 use Rattle.cut.specs.declared.service.Syntax.{Syntax}
 use Rattle.element.specs.Elements.{elements}
 use Rattle.element.specs.Plain.{plain}
-use Rattle.element.specs.Numeral.{some, none}
-use Rattle.element.specs.Format.{fitsFormat}
+use Rattle.value.specs.Numeral.{some, none}
+use Rattle.value.specs.Format.{fitsFormat}
 use Rattle.guide.specs.Choices.{pickℕ, orElse}
 use Rattle.guide.specs.Nodes.{chosen}
 use Rattle.guide.specs.Page.{must, may, Row, used, unused, Composite, Page, beyond}

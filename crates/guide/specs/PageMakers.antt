@@ -2,8 +2,8 @@
 -- is an element, its number behind it where its composite does not give it.
 use Prim.Native.String.{String}
 use mathlib.Core.List.{List, [], _∷_}
-use Rattle.element.specs.declared.formats.Format.{Format}
-use Rattle.element.specs.declared.formats.Format.the-variants.{AnUpTo, NUpTo}
+use Rattle.value.specs.declared.formats.Format.{Format}
+use Rattle.value.specs.declared.formats.Format.the-variants.{AnUpTo, NUpTo}
 use Rattle.guide.specs.Page.{Status, must, may, Row, used, unused, Page, codes, any, required, optional, simple}
 use Rattle.guide.specs.Composites.{S009, C002, C106, C507, C506, C082, C517, C056, C076, C504, C212, C272, C273, C509, C280}
 

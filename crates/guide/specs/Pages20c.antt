@@ -3,7 +3,7 @@
 use Prim.Native.Nat.{ℕ}
 use mathlib.Core.List.{List, [], _∷_}
 use lib.ListN.{getD}
-use Rattle.element.specs.declared.formats.Format.the-variants.{AnUpTo, N}
+use Rattle.value.specs.declared.formats.Format.the-variants.{AnUpTo, N}
 use Rattle.guide.specs.Page.{must, Page}
 use Rattle.guide.specs.Composites.{basis}
 use Rattle.guide.specs.PageMakers.{UNH, BGM, DTM, RFF, NAD, LOC, CTA, COM, CUX, PGI, LIN, PIA, IMD, PRI, RNG, UNT}

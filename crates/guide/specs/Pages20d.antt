@@ -3,7 +3,7 @@
 use Prim.Native.Nat.{ℕ}
 use mathlib.Core.List.{List, [], _∷_}
 use lib.ListN.{getD}
-use Rattle.element.specs.declared.formats.Format.the-variants.{AnUpTo, N}
+use Rattle.value.specs.declared.formats.Format.the-variants.{AnUpTo, N}
 use Rattle.guide.specs.Page.{may, Page, codes, simple}
 use Rattle.guide.specs.Composites.{S009, C002, C106, C507, C506, C082, C517, C056, C076, C504, C212, services, C272, C273, C509, basis, C280}
 unfoldable pub use Rattle.guide.specs.PageMakers.{coded, UNH, BGM, DTM, RFF, NAD, LOC, CTA, COM, CUX, PGI, LIN, PIA, IMD, PRI, RNG, UNT}

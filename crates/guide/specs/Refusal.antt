@@ -11,8 +11,8 @@ use Rattle.cut.specs.Bytes.{bytesOf}
 use Rattle.cut.specs.Segments.{Segment}
 use Rattle.cut.specs.Messages.{Message, closeOf}
 use Rattle.element.specs.Clean.{allowedBytes, taggedBytes}
-use Rattle.element.specs.Digits.{countOf}
-use Rattle.element.specs.declared.counts.Count.the-variants.{Is}
+use Rattle.value.specs.Digits.{countOf}
+use Rattle.value.specs.declared.counts.Count.the-variants.{Is}
 use Rattle.guide.specs.Nodes.{Guide, numberOf}
 use Rattle.guide.specs.Page.{Page}
 use Rattle.guide.specs.Content.{text, Holds}

@@ -8,9 +8,9 @@ use lib.ListN.{length}
 use lib.Dec.{leb, eqb}
 use borrow.Author.Tests.{le-leb}
 use Rattle.cut.specs.declared.service.Syntax.{Syntax}
-use Rattle.element.specs.Format.{fitsFormat}
-use Rattle.element.specs.declared.formats.Format.{Format}
-use Rattle.element.specs.declared.formats.Format.the-variants.{NUpTo, N}
+use Rattle.value.specs.Format.{fitsFormat}
+use Rattle.value.specs.declared.formats.Format.{Format}
+use Rattle.value.specs.declared.formats.Format.the-variants.{NUpTo, N}
 use Rattle.guide.specs.Page.{Row}
 use Rattle.guide.specs.Nodes.{chosen}
 use Rattle.guide.specs.PageFault.{textFault}

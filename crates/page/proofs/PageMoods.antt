@@ -8,7 +8,7 @@ use lib.ListN.{length, drop}
 use lib.Dec.{eqb, ltb}
 use borrow.Author.Tests.{eq-eqb, ne-eqb, lt-ltb, le-ltb}
 use Rattle.cut.specs.declared.service.Syntax.{Syntax}
-use Rattle.element.specs.Numeral.{some}
+use Rattle.value.specs.Numeral.{some}
 use Rattle.guide.specs.Page.{Row, Composite}
 use Rattle.guide.specs.PageFault.{textFault}
 use Rattle.guide.specs.Choices.{pickℕ}

@@ -6,8 +6,8 @@ use mathlib.Core.Path.{_≡_}
 use mathlib.Core.List.{List, [], _∷_}
 use lib.ListN.{getD}
 use lib.Dec.{eqb}
-use Rattle.element.specs.declared.formats.Format.{Format}
-use Rattle.element.specs.declared.formats.Format.the-variants.{AnUpTo, An, NUpTo, N}
+use Rattle.value.specs.declared.formats.Format.{Format}
+use Rattle.value.specs.declared.formats.Format.the-variants.{AnUpTo, An, NUpTo, N}
 use Rattle.guide.specs.Page.{must, may, Row, used, unused, Composite, Page, beyond}
 use Rattle.guide.proofs.PageFace.{isMust, anyMust}
 use Rattle.page.specs.PageColumns.{allElements, allRows, allCodes}

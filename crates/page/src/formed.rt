@@ -1,13 +1,13 @@
 // The fault of one component, of n bytes with its releases removed, on the row that has a word.
 use crate::coded::listed;
 use cut::Syntax;
-use element::Format;
-use element::fits;
+use value::Format;
+use value::fits;
 ghost use Prim.Native.Nat.{_/_, _%_, _≤_, _<_};
 ghost use mathlib.Core.Path.{_≡_};
 ghost use mathlib.Core.Bool.{false, _&&_};
 ghost use lib.ListN.{length};
-ghost use Rattle.element.specs.Format.{fitsFormat};
+ghost use Rattle.value.specs.Format.{fitsFormat};
 ghost use Rattle.element.specs.Plain.{decoded};
 ghost use Rattle.guide.specs.PageFault.{textFault};
 ghost use Rattle.guide.specs.Choices.{pickℕ};

@@ -14,11 +14,11 @@ use Rattle.cut.specs.Bytes.{part, bytesOf}
 use Rattle.cut.specs.Segments.{Segment}
 use Rattle.element.specs.Components.{componentAt}
 use Rattle.element.specs.Plain.{decoded, plain, same}
-use Rattle.element.specs.Number.{numberOf}
+use Rattle.value.specs.Number.{numberOf}
 use Rattle.element.specs.Elements.{component}
 use Rattle.element.specs.declared.components.Span.{Span}
-use Rattle.element.specs.declared.prices.Number.{Number}
-use Rattle.element.specs.declared.prices.Number.the-variants as number
+use Rattle.value.specs.declared.prices.Number.{Number}
+use Rattle.value.specs.declared.prices.Number.the-variants as number
 use Rattle.element.proofs.ComponentFace as face
 use Rattle.element.proofs.ComponentFace.{component-bytes, component-within}
 use Rattle.price.specs.declared.kinds.Kind.{Kind}

@@ -19,11 +19,11 @@ use Rattle.element.specs.Elements.{component}
 use Rattle.element.specs.Components.{componentAt, spanIn}
 use Rattle.element.specs.Plain.{plain, same}
 use Rattle.element.specs.declared.components.Span.{Span}
-use Rattle.element.specs.declared.formats.Format.the-variants.{AnUpTo}
-use Rattle.element.specs.Numeral.{minus, fraction, digits, isNumber, decimal}
-use Rattle.element.specs.Number.{signed}
+use Rattle.value.specs.declared.formats.Format.the-variants.{AnUpTo}
+use Rattle.value.specs.Numeral.{minus, fraction, digits, isNumber, decimal}
+use Rattle.value.specs.Number.{signed}
 use Rattle.element.proofs.ComponentFace.{component-bytes}
-use Rattle.element.proofs.ValueFace.{n-up-to-fits, fits-amount}
+use Rattle.value.proofs.ValueFace.{n-up-to-fits, fits-amount}
 use Rattle.guide.specs.Nodes.{Guide}
 use Rattle.guide.specs.Page.{Page, Row, may, codes, elementOf, rowOf}
 use Rattle.guide.specs.Composites.{C509, basis}

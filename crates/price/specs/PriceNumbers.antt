@@ -10,10 +10,10 @@ use Rattle.cut.specs.Segments.{Segment}
 use Rattle.element.specs.Elements.{component}
 use Rattle.element.specs.Components.{components, spanIn}
 use Rattle.element.specs.Plain.{plain, same}
-use Rattle.element.specs.Number.{numberOf}
+use Rattle.value.specs.Number.{numberOf}
 use Rattle.element.specs.declared.components.Span.{Span}
-use Rattle.element.specs.declared.prices.Number.{Number}
-use Rattle.element.specs.declared.prices.Number.the-variants.{Amount, Nothing}
+use Rattle.value.specs.declared.prices.Number.{Number}
+use Rattle.value.specs.declared.prices.Number.the-variants.{Amount, Nothing}
 use Rattle.guide.specs.Sheet.{Price}
 use Rattle.price.specs.declared.numbers.Numbers.{Numbers}
 

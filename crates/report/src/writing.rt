@@ -15,7 +15,7 @@ pub(crate) fn put_count(n: usize) -> bool {
 // The same for a number with a sign.
 pub(crate) fn put_signed(n: i64) -> bool {
     let mut text = [0u8; 20];
-    let length = element::decimal_text(n, &mut text);
+    let length = value::decimal_text(n, &mut text);
     let start = 20 - length;
     put(b" ") && put(&text[start..])
 }

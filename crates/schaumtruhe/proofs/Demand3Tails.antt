@@ -13,11 +13,11 @@ use Rattle.cut.specs.Segments.{ends, frees, join, segmentsFrom}
 use Rattle.cut.specs.Messages.{Message, tagOf, body, messagesIn, messages}
 use Rattle.element.specs.Clean.{between, allowedByte, allowedBytes, capital, endsTag, lettered, taggedBytes}
 use Rattle.element.specs.Components.{inElement, width, inElements, components, spanIn}
-use Rattle.element.specs.Digits.{padded, isCount, countOf}
+use Rattle.value.specs.Digits.{padded, isCount, countOf}
 use Rattle.element.specs.Elements.{endingOf, stays, releases, before, splitFrom, elements, component}
-use Rattle.element.specs.Format.{fitsFormat}
-use Rattle.element.specs.Number.{numberOf}
-use Rattle.element.specs.Numeral.{some, none, isDigit, digitsAhead, behindDigits, minus, unsigned, whole, fraction, digits, isTail, isNumber, decimal}
+use Rattle.value.specs.Format.{fitsFormat}
+use Rattle.value.specs.Number.{numberOf}
+use Rattle.value.specs.Numeral.{some, none, isDigit, digitsAhead, behindDigits, minus, unsigned, whole, fraction, digits, isTail, isNumber, decimal}
 use Rattle.element.specs.Plain.{unlessMark, plain, same}
 use Rattle.guide.specs.Composites.{S009, C002, C106, C507, C506, C082, C212, services, C509, basis}
 use Rattle.guide.specs.Content.{text}

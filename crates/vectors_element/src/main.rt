@@ -1,12 +1,12 @@
-// Prints what the crate `element` answers at the base's service characters, for the papers' examples and both sides of each rule.
+// Prints what the crates `element` and `value` answer at the base's service characters, for the papers' examples and both sides of each rule.
 // The file stdout was worked out by hand from the papers.
 mod components;
 
 use cut::Syntax;
-use element::Count;
-use element::Format;
-use element::Number;
 use libc::STDOUT_FILENO;
+use value::Count;
+use value::Format;
+use value::Number;
 
 pub(crate) fn base() -> Syntax {
     cut::base::syntax()
@@ -22,7 +22,7 @@ pub(crate) fn put_count(n: u64) {
 
 fn put_amount(n: i64) {
     let mut text = [0u8; 20];
-    let length = element::decimal_text(n, &mut text);
+    let length = value::decimal_text(n, &mut text);
     let start = 20 - length;
     io::write_all(STDOUT_FILENO, &text[start..]);
 }
@@ -57,9 +57,9 @@ fn put_number(n: Number) {
 fn number_line(d: &[u8]) {
     put(b"number ");
     put(d);
-    put_answer(element::fits(base(), d, 0, d.len(), Format::NUpTo(15)));
+    put_answer(value::fits(base(), d, 0, d.len(), Format::NUpTo(15)));
     put(b" ");
-    put_number(element::number_of(base(), d, 0, d.len()));
+    put_number(value::number_of(base(), d, 0, d.len()));
     put(b"\n");
 }
 
@@ -68,7 +68,7 @@ fn format_line(name: &[u8], format: Format, d: &[u8]) {
     put(name);
     put(b" ");
     put(d);
-    put_answer(element::fits(base(), d, 0, d.len(), format));
+    put_answer(value::fits(base(), d, 0, d.len(), format));
     put(b"\n");
 }
 
@@ -91,7 +91,7 @@ fn count_line(d: &[u8]) {
     put(b"count ");
     put(d);
     put(b" ");
-    put_value(element::count_of(base(), d, 0, d.len()));
+    put_value(value::count_of(base(), d, 0, d.len()));
     put(b"\n");
 }
 

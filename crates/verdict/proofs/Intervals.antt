@@ -8,7 +8,7 @@ use Rattle.cut.specs.declared.service.Syntax.{Syntax}
 use Rattle.cut.specs.Bytes.{bytesOf}
 use Rattle.cut.specs.Segments.{Segment}
 use Rattle.element.specs.Plain.{same}
-use Rattle.element.proofs.ValueFace.{same-refl, same-true}
+use Rattle.element.proofs.ComponentFace.{same-refl, same-true}
 use Rattle.guide.specs.Nodes.{Guide, capacity}
 use Rattle.guide.specs.Content.{text}
 use Rattle.guide.specs.Tree.{Given, assigned, Whole}

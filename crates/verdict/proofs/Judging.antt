@@ -13,7 +13,7 @@ use Rattle.cut.specs.Messages.{lastEnd}
 use Rattle.cut.proofs.First.{Cutting}
 use Rattle.cut.proofs.Holding.{held-alone}
 use Rattle.cut.proofs.Parts.{length-part}
-use Rattle.element.proofs.ValueFace.{decoded-none}
+use Rattle.element.proofs.ComponentFace.{decoded-none}
 use Rattle.guide.specs.Accepted.{seen}
 use Rattle.guide.specs.Answers.{Answer, placed, refused}
 use Rattle.guide.specs.Content.{text}

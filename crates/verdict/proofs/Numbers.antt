@@ -10,10 +10,10 @@ use Rattle.cut.specs.Bytes.{part}
 use Rattle.cut.specs.Segments.{Segment}
 use Rattle.element.specs.Clean.{allowedBytes, taggedBytes}
 use Rattle.element.specs.Components.{componentAt}
-use Rattle.element.specs.Digits.{countOf}
+use Rattle.value.specs.Digits.{countOf}
 use Rattle.element.specs.Plain.{same}
-use Rattle.element.specs.declared.counts.Count.{Count}
-use Rattle.element.specs.declared.counts.Count.the-variants.{Is, Nothing}
+use Rattle.value.specs.declared.counts.Count.{Count}
+use Rattle.value.specs.declared.counts.Count.the-variants.{Is, Nothing}
 use Rattle.guide.specs.Choices.{orElse}
 use Rattle.guide.specs.Content.{text}
 use Rattle.guide.specs.Judging.{Memory, is, bytesFault, endFault, lineFault, contentFault}

@@ -11,7 +11,7 @@ use Rattle.cut.specs.declared.service.Syntax.{Syntax}
 use Rattle.cut.specs.Bytes.{bytesOf}
 use Rattle.cut.specs.Segments.{Segment}
 use Rattle.element.specs.Plain.{same}
-use Rattle.element.proofs.ValueFace.{same-true}
+use Rattle.element.proofs.ComponentFace.{same-true}
 use Rattle.guide.specs.Judging.{Memory, ruleFault}
 use Rattle.guide.specs.Editions.{guideOf, pagesOf}
 use Rattle.guide.specs.declared.edition.Edition.{Edition}

@@ -2,7 +2,7 @@
 use mathlib.Core.Path.{refl}
 use native.Mathlib.Omega.{arith}
 use borrow.Author.Needs.{needs}
-use Rattle.element.proofs.ValueFace.{text-begins, text-row}
+use Rattle.value.proofs.ValueFace.{text-begins, text-row}
 use Rattle.vectors_element.proofs.put_amount.Statement.{statement}
 use Rattle.vectors_element.proofs.put_amount.Tie as tie
 

@@ -1,7 +1,7 @@
 -- `page::formed::is_formed` meets its contract: each return by the kind.
 use mathlib.Core.Path.{ap, _∙_}
-use Rattle.element.specs.declared.formats.Format.{Format}
-use Rattle.element.specs.Format.{fitsFormat}
+use Rattle.value.specs.declared.formats.Format.{Format}
+use Rattle.value.specs.Format.{fitsFormat}
 use Rattle.element.specs.Plain.{decoded}
 use Rattle.page.proofs.PageFaults.{formed-up-to, formed-exactly}
 use borrow.Author.Needs.{needs}

@@ -1,6 +1,6 @@
 -- `report::articles::whole` is safe: a number that is not below 0 fits.
 use borrow.Author.Needs.{needs}
-use Rattle.element.proofs.Signs.{as-it-is}
+use Rattle.value.proofs.Signs.{as-it-is}
 use Rattle.report.proofs.articles.whole.Statement.{statement}
 use Rattle.report.proofs.articles.whole.Tie as tie
 

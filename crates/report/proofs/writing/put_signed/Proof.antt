@@ -2,7 +2,7 @@
 use mathlib.Core.Path.{refl}
 use native.Mathlib.Omega.{arith}
 use borrow.Author.Needs.{needs}
-use Rattle.element.proofs.ValueFace.{text-begins, text-row}
+use Rattle.value.proofs.ValueFace.{text-begins, text-row}
 use Rattle.report.proofs.writing.put_signed.Statement.{statement}
 use Rattle.report.proofs.writing.put_signed.Tie as tie
 

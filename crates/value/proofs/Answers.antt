@@ -1,0 +1,138 @@
+-- What formats, prices and counts make of the numeral that was read.
+use Prim.Native.Nat.{ℕ, _^_, _≤_, _<_}
+use mathlib.Core.Bool.{Bool, true, false, _&&_}
+use mathlib.Core.Path.{_≡_, refl, sym, ap, _∙_}
+use mathlib.Core.List.{List, _++_}
+use native.Mathlib.Nat.{suc-mul, mul-le-mul-right, pow-le-pow-right, lt-of-lt-of-le}
+use native.Mathlib.Omega.{arith}
+use lib.ListN.{length, drop, length-append}
+use lib.Dec.{ltb, leb, eqb, lit<}
+use lib.IntN.{ℤ}
+use lib.Pow.{pow-add}
+use borrow.Author.Tests.{ltb-true, ltb-false, lt-leb, le-leb}
+use Rattle.cut.specs.declared.service.Syntax.{Syntax}
+use Rattle.value.specs.declared.numeral.Numeral.{Numeral}
+use Rattle.value.specs.declared.numeral.Numeral.the-variants.{Short, Long, Other}
+use Rattle.value.specs.declared.prices.Number.{Number}
+use Rattle.value.specs.declared.prices.Number.the-variants.{Amount, Nothing}
+use Rattle.value.specs.declared.formats.Format.{Format}
+use Rattle.value.specs.declared.formats.Format.the-variants.{AnUpTo, An, NUpTo, N}
+use Rattle.value.specs.Format.{fitsFormat}
+use Rattle.value.specs.Numeral.{digitsAhead, behindDigits, unsigned, minus, whole, fraction, digits, isNumber, decimal}
+use Rattle.value.specs.Number.{signed, pickNumber, numberOf}
+use Rattle.value.specs.Inner.{pickNumeral, countedAs, numeralBy, unsignedOf, numeralOf, judged}
+use Rattle.value.proofs.Digitwise.{onto-is, decimal-append}
+use Rattle.value.proofs.Numerals.{decimal-below}
+
+-- formats: the test is made of the digits that count
+judged-by : (h : ℕ → Bool) (m : Bool) (v n k : ℕ) (long b : Bool)
+    → judged h (pickNumeral b (pickNumeral long (Long n) (Short m v n k)) Other) ≡ b && h n
+judged-by h m v n k true true = refl
+judged-by h m v n k false true = refl
+judged-by h m v n k long false = refl
+
+pub numeral-is
+    : (y : Syntax) (s : List ℕ)
+    → numeralOf y s ≡ pickNumeral (isNumber y s) (countedAs (minus s) (decimal (digits s)) (length (digits s)) (length (fraction s))) Other
+unfolding numeralOf unsignedOf numeralBy isNumber digits whole fraction
+numeral-is y s = refl
+
+pub judged-number : (h : ℕ → Bool) (y : Syntax) (s : List ℕ) → judged h (numeralOf y s) ≡ isNumber y s && h (length (digits s))
+judged-number h y s =
+    ap (judged h) (numeral-is y s)
+    ∙ judged-by h (minus s) (decimal (digits s)) (length (digits s)) (length (fraction s)) (ltb 15 (length (digits s))) (isNumber y s)
+
+module _ (y : Syntax) (s : List ℕ) (f : Format) (k : ℕ) where
+  pub fits-an-up-to : (n : ℕ) → f ≡ AnUpTo k → n ≡ length s → leb 1 n && leb n k ≡ fitsFormat y f s
+  unfolding fitsFormat
+  fits-an-up-to n p q = rw (p, q)
+
+  pub fits-an : (n : ℕ) → f ≡ An k → n ≡ length s → eqb n k ≡ fitsFormat y f s
+  unfolding fitsFormat
+  fits-an n p q = rw (p, q)
+
+  pub fits-n-up-to : (x : Numeral) → f ≡ NUpTo k → x ≡ numeralOf y s → judged (λ c. leb c k) x ≡ fitsFormat y f s
+  unfolding fitsFormat
+  fits-n-up-to x p q = rw (p, q) (judged-number (λ c. leb c k) y s)
+
+  pub fits-n : (x : Numeral) → f ≡ N k → x ≡ numeralOf y s → judged (λ c. eqb c k) x ≡ fitsFormat y f s
+  unfolding fitsFormat
+  fits-n x p q = rw (p, q) (judged-number (λ c. eqb c k) y s)
+
+-- prices: the numeral's amount and decimals
+abbrev pub amountIn : Numeral → Number
+amountIn (Short m v n k) = Amount (signed m v) k
+amountIn (Long n) = Nothing
+amountIn Other = Nothing
+
+amount-by : (m : Bool) (v n k : ℕ) (long b : Bool) → ltb 15 n ≡ long
+    → amountIn (pickNumeral b (pickNumeral long (Long n) (Short m v n k)) Other) ≡ pickNumber (b && leb n 15) (Amount (signed m v) k) Nothing
+amount-by m v n k true true e = rw (lt-leb n 15 (ltb-true 15 n e))
+amount-by m v n k false true e = rw (le-leb n 15 (ltb-false 15 n e))
+amount-by m v n k long false e = refl
+
+amount-number : (y : Syntax) (s : List ℕ) → amountIn (numeralOf y s) ≡ numberOf y s
+unfolding numberOf
+amount-number y s =
+    ap amountIn (numeral-is y s)
+    ∙ amount-by (minus s) (decimal (digits s)) (length (digits s)) (length (fraction s)) (ltb 15 (length (digits s))) (isNumber y s) refl
+
+module _ (y : Syntax) (s : List ℕ) where
+  pub number-short
+      : (m : Bool) (v n k : ℕ) (z : ℤ) → numeralOf y s ≡ Short m v n k → z ≡ signed m v → Amount z k ≡ numberOf y s
+  number-short m v n k z e h = ap (λ (i : ℤ). Amount i k) h ∙ ap amountIn (sym e) ∙ amount-number y s
+
+  pub number-long : (n : ℕ) → numeralOf y s ≡ Long n → Nothing ≡ numberOf y s
+  number-long n e = ap amountIn (sym e) ∙ amount-number y s
+
+  pub number-other : numeralOf y s ≡ Other → Nothing ≡ numberOf y s
+  number-other e = ap amountIn (sym e) ∙ amount-number y s
+
+-- a numeral with its value has at most fifteen digits, so both numbers are small
+abbrev valueIn : Numeral → ℕ
+valueIn (Short m v n k) = v
+valueIn (Long n) = 0
+valueIn Other = 0
+
+abbrev decimalsIn : Numeral → ℕ
+decimalsIn (Short m v n k) = k
+decimalsIn (Long n) = 0
+decimalsIn Other = 0
+
+both-below : (s t : List ℕ) → decimal (digitsAhead s ++ digitsAhead t) < 10 ^ length (digitsAhead s ++ digitsAhead t)
+both-below s t =
+    let w = mul-le-mul-right (10 ^ length (digitsAhead t)) (decimal-below s) in
+    let u = suc-mul (decimal (digitsAhead s)) (10 ^ length (digitsAhead t)) in
+    let f = decimal-below t in
+    rw (
+      length-append (digitsAhead s) (digitsAhead t),
+      pow-add 10 (length (digitsAhead s)) (length (digitsAhead t)),
+      decimal-append (digitsAhead s) (digitsAhead t),
+      onto-is (decimal (digitsAhead s)) (digitsAhead t) (length (digitsAhead t)) refl,
+    )
+    (omega arith)
+
+small : (m : Bool) (v n k : ℕ) (long b : Bool) → v < 10 ^ n → k ≤ n → ltb 15 n ≡ long
+    → (valueIn (pickNumeral b (pickNumeral long (Long n) (Short m v n k)) Other) < 10 ^ 15)
+    × (decimalsIn (pickNumeral b (pickNumeral long (Long n) (Short m v n k)) Other) ≤ 15)
+small m v n k true true h l e = omega arith
+small m v n k false true h l e =
+    let f : n ≤ 15 = ltb-false 15 n e in
+    (lt-of-lt-of-le h (pow-le-pow-right (lit< tt) f), omega arith)
+small m v n k long false h l e = omega arith
+
+digits-below : (s : List ℕ) → decimal (digits s) < 10 ^ length (digits s)
+unfolding digits whole fraction
+digits-below s = both-below (unsigned s) (drop 1 (behindDigits (unsigned s)))
+
+fraction-within : (s : List ℕ) → length (fraction s) ≤ length (digits s)
+unfolding digits
+fraction-within s = rw (length-append (whole s) (fraction s)) (omega arith)
+
+pub short-bounds : (y : Syntax) (s : List ℕ) {m : Bool} {v n k : ℕ} → numeralOf y s ≡ Short m v n k → (v < 10 ^ 15) × (k ≤ 15)
+short-bounds y s e =
+    let q = sym (numeral-is y s) ∙ e in
+    let b = small (minus s) (decimal (digits s)) (length (digits s)) (length (fraction s)) (ltb 15 (length (digits s))) (isNumber y s) (digits-below s) (fraction-within s) refl in
+    let v = ap valueIn q in
+    let k = ap decimalsIn q in
+    omega arith

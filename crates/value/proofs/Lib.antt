@@ -1,0 +1,12 @@
+pub mod Grammar
+pub mod Digitwise
+pub mod Running
+pub mod Numerals
+pub mod Answers
+pub mod Counting
+pub mod Signs
+pub mod Texts
+pub mod TextOnly
+pub mod TextValue
+pub mod ValueSamples
+pub mod ValueFace
