@@ -58,6 +58,7 @@ roleOf ed n =
     (pickRole (isTag (guideOf ed) (bytesOf "UNH") n) Unh
     (pickRole (isTag (guideOf ed) (bytesOf "BGM") n) Bgm Other)))
 
+-- whether it is LIN, UNT, UNH, BGM
 abbrev pub isLin : Role → Bool
 isLin Lin = true
 isLin Unt = false
@@ -117,7 +118,7 @@ unasked k = k .intervals || k .doubt
 abbrev pub printAt : Syntax → List ℕ → Found → ℕ
 printAt y d s = articlePrint (spanned y (s .third) d)
 
--- whether there is a doubt after k and a segment that is placed, and the table t of the articles that came after that one
+-- after k and a segment that is placed: whether there is a doubt, and the table of the articles that came, which was t before it
 unfoldable pub doubtAfter : Syntax → List ℕ → List ℕ → Found → Kept → Bool
 doubtAfter y d t s k = unasked k || (isLin (s .role) && markedIn t (printAt y d s))
 

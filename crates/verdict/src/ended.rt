@@ -20,7 +20,7 @@ ghost use Rattle.verdict.specs.Answers.{declared};
 ghost use Rattle.verdict.specs.Verdicts.{nodeOf};
 ghost use Rattle.verdict.specs.Workers.{NoneAgrees, agreementAt, endedWith};
 
-// The verdict of n segments without a fault, which end at `at`: 24, 23 or accepted.
+// The verdict of n segments without a fault, which end at `at`: 24, 23 or accepted. Without a doubt no position agrees with an earlier one.
 pub(crate) fn ended(
     y: Syntax,
     edition: Edition,

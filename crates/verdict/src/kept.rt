@@ -69,8 +69,8 @@ fn intervals_after(y: Syntax, d: &[u8], role: Role, first: Span, intervals: bool
     }
 }
 
-// Whether there is a doubt after a segment that is placed; if it is a LIN, its article is noted in the table of those that came. Where positions are not
-// compared, or there is a doubt already, no article is looked at.
+// Whether there is a doubt after a segment that is placed; the article of a LIN is noted in the table of those that came. Where positions are not
+// compared, or there is a doubt already, no article is looked at: the answer is that of `agree` then, or is not asked for.
 fn doubt_after(y: Syntax, d: &[u8], found: Found, kept: Kept, came: &mut [u8; 8192]) -> bool
     ensures { λ r. ⌜ r ≡ doubtAfter y (now (d .entry)) (now (came .entry)) found kept ⌝ }
     ensures { λ _. ⌜ now (came .exit) ≡ cameAfter y (now (d .entry)) (now (came .entry)) found kept ⌝ }
@@ -91,7 +91,7 @@ fn doubt_after(y: Syntax, d: &[u8], found: Found, kept: Kept, came: &mut [u8; 81
     }
 }
 
-// What is kept after a segment that is placed; `came` are the articles that came before it, and then with its own.
+// What is kept after a segment that is placed; `came` is the table of the articles that came.
 pub(crate) fn keep(y: Syntax, d: &[u8], found: Found, kept: Kept, came: &mut [u8; 8192]) -> Kept
     requires { ⌜ suc (kept .positions) < 2 ^ 64 ⌝ }
     ensures { λ r. ⌜ r ≡ keptAfter y (now (d .entry)) (now (came .entry)) found kept ⌝ }

@@ -1,4 +1,5 @@
-// The verdict of a message: one pass over its segments, which finds its end too.
+// The verdict of a message: one pass over its segments, which finds its end too. Its positions are gone over again only where an article may have come
+// twice.
 use crate::answers::Judged;
 use crate::answers::Verdict;
 use crate::edition::edition_at;
