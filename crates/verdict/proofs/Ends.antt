@@ -1,6 +1,6 @@
 -- The end of a message whose segments have no fault: 24, 23 or accepted.
-use Prim.Native.Nat.{ℕ, suc, _+_, _-_, _≤_}
-use mathlib.Core.Path.{_≡_, refl, sym, _∙_}
+use Prim.Native.Nat.{ℕ, suc, _+_, _-_, _^_, _≤_, _<_}
+use mathlib.Core.Path.{_≡_, refl, sym, _∙_, ap}
 use mathlib.Core.Bool.{Bool, true, false}
 use mathlib.Core.List.{List}
 use native.Mathlib.Omega.{arith}
@@ -17,12 +17,15 @@ use Rattle.guide.specs.Sheet.{isTag}
 use Rattle.agree.specs.AgreePositions.{positionsOf, firstAgreeing}
 use Rattle.agree.specs.declared.agree_first.Agreeing.{Agreeing}
 use Rattle.agree.specs.declared.agree_first.Agreeing.the-variants.{At, Nothing}
+use Rattle.verdict.specs.declared.answers.Judged.{Judged}
 use Rattle.verdict.specs.declared.answers.Verdict.{Verdict}
 use Rattle.verdict.specs.declared.answers.Verdict.the-variants.{Accepted, Refused}
 use Rattle.verdict.specs.declared.kept.Kept.{Kept}
-use Rattle.verdict.specs.Answers.{declared}
+use Rattle.verdict.specs.declared.message.Walked.{Walked}
+use Rattle.verdict.specs.declared.message.Walked.the-variants as walked
+use Rattle.verdict.specs.Answers.{declared, judgedAs}
 use Rattle.verdict.specs.Verdicts.{nodeOf, unlessAgreeing}
-use Rattle.verdict.specs.Workers.{NoneAgrees, agreementAt, endedWith}
+use Rattle.verdict.specs.Workers.{NoneAgrees, agreementAt, endedWith, closedBy, Closable}
 
 module _ (ed : Edition) (y : Syntax) (d : List ℕ) (start n at : ℕ) where
   abbrev ss : List Segment
@@ -79,3 +82,19 @@ module _ (e : ℕ) (b : Bool) (ss : List Segment) where
 
   pub close-more : b ≡ false → (r : ℕ) → r ≡ lastEnd e ss → r ≡ lastEnd e (unless b ss)
   close-more h r k = rw h k
+
+-- m is the answer for the message of which w is the walk
+module _ (ed : Edition) (y : Syntax) (d : List ℕ) (start : ℕ) (w : Walked) (m : Judged) (closed : closedBy ed y d start w ≡ m) where
+  pub closed-refused : (o : Judged) → w ≡ walked.Refused o → o ≡ m
+  closed-refused o e = sym (ap (closedBy ed y d start) e) ∙ closed
+
+  pub closed-ended
+      : (k : Kept) (n at : ℕ) → w ≡ walked.Fits k n at → (v : Verdict) → v ≡ declared (endedWith ed y d start k n at) → (r : Judged) → r ≡ judgedAs v at
+      → r ≡ m
+  closed-ended k n at e v t r j = j ∙ ap (λ (x : Verdict). judgedAs x at) t ∙ sym (ap (closedBy ed y d start) e) ∙ closed
+
+-- where all segments fit, their end may be judged
+pub can-end
+    : (y : Syntax) (d : List ℕ) (start : ℕ) (w : Walked) → Closable y d start w → (k : Kept) (n at : ℕ) → w ≡ walked.Fits k n at
+    → (suc n < 2 ^ 64) × (k .doubt ≡ false → NoneAgrees y d start at)
+can-end y d start w h k n at e = rw e at h

@@ -1,5 +1,5 @@
 -- The pass over a message's segments: what is left to judge gives the verdict of the whole.
-use Prim.Native.Nat.{ℕ, zero, suc, _+_, _-_, _≤_}
+use Prim.Native.Nat.{ℕ, zero, suc, _+_, _-_, _^_, _≤_, _<_}
 use mathlib.Core.Path.{_≡_, refl, sym, _∙_, ap, ap₂}
 use mathlib.Core.Bool.{Bool, true, false, _||_}
 use mathlib.Core.List.{List, [], _∷_, map}
@@ -33,12 +33,13 @@ use Rattle.verdict.specs.declared.answers.Judged.{Judged}
 use Rattle.verdict.specs.declared.answers.Verdict.{Verdict as Told}
 use Rattle.verdict.specs.declared.answers.Verdict.the-variants.{Refused}
 use Rattle.verdict.specs.declared.kept.Kept.{Kept}
+use Rattle.verdict.specs.declared.message.Walked.the-variants as walked
 use Rattle.verdict.specs.declared.segment.Answered.{Answered}
 use Rattle.verdict.specs.declared.segment.Answered.the-variants as outcome
 use Rattle.verdict.specs.declared.segment.Found.{Found}
 use Rattle.verdict.specs.Answers.{declared, judgedAs}
 use Rattle.verdict.specs.Verdicts.{nodesOf, forIntervals, settled, verdictFrom}
-use Rattle.verdict.specs.Workers.{segmentIn, spanned, noted, isLin, foundAt, answered, keptFirst, printAt, doubtAfter, cameAfter, keptAfter, countsLeft, NoneAgrees, agreementAt, endedWith}
+use Rattle.verdict.specs.Workers.{segmentIn, spanned, noted, isLin, foundAt, answered, keptFirst, printAt, doubtAfter, cameAfter, keptAfter, countsLeft, NoneAgrees, agreementAt, endedWith, closedBy, Closable}
 use Rattle.verdict.proofs.Answering.{answered-refused, answered-fits}
 use Rattle.verdict.proofs.Noting.{still-apart}
 use Rattle.verdict.proofs.Remembering.{KeptAfter, kept-after}
@@ -139,7 +140,7 @@ module _ (ed : Edition) (y : Syntax) (d : List ℕ) (start : ℕ) where
       alone = ap (λ (e : ℕ). segmentsFrom y start false (part start e d)) is-end ∙ held-alone y d start
 
       -- where there is no doubt, no position agrees with an earlier one
-      pub none-agree : k .doubt ≡ false → NoneAgrees y d start at
+      none-agree : k .doubt ≡ false → NoneAgrees y d start at
       unfolding articlesIn apartIn
       none-agree e = rw alone (p .apart e (rw none))
 
@@ -154,10 +155,12 @@ module _ (ed : Edition) (y : Syntax) (d : List ℕ) (start : ℕ) where
           go true = rw (is-document, alone)
           go false = refl
 
-      pub all-ended
-          : (v : Told) → v ≡ declared (endedWith ed y d start k n at) → (r : Judged) → r ≡ judgedAs v at
-          → r ≡ judgedAs (declared (verdictFrom y (guideOf ed) (pagesOf ed) start all)) (lastEnd start all)
-      all-ended v h r j = j ∙ ap₂ judgedAs (h ∙ ap declared is-ended) is-end
+      -- what the walk promises where all segments fit
+      pub all-fit
+          : suc n < 2 ^ 64
+          → (closedBy ed y d start (walked.Fits k n at) ≡ judgedAs (declared (verdictFrom y (guideOf ed) (pagesOf ed) start all)) (lastEnd start all))
+          × Closable y d start (walked.Fits k n at)
+      all-fit h = (ap₂ judgedAs (ap declared is-ended) is-end, (h, none-agree))
 
     -- the next segment, and the message's others after it
     module _ (s e : ℕ) (piece : Bool) (q : Cutting y d at false s e piece) (rest : List Segment) (next : ss ≡ segmentIn at e piece d ∷ rest) where

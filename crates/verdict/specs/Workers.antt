@@ -1,5 +1,5 @@
 -- What the crate's own workers promise each other; no public call cites these.
-use Prim.Native.Nat.{ℕ, zero, suc, _+_}
+use Prim.Native.Nat.{ℕ, zero, suc, _+_, _<_, _^_}
 use mathlib.Core.Path.{_≡_}
 use mathlib.Core.Bool.{Bool, true, false, cond, not, _&&_, _||_}
 use mathlib.Core.List.{List}
@@ -21,12 +21,16 @@ use Rattle.agree.specs.AgreeArticles.{articlePrint}
 use Rattle.agree.specs.AgreeMarks.{markedIn, markIn}
 use Rattle.agree.specs.AgreePositions.{positionsOf, firstAgreeing}
 use Rattle.agree.specs.declared.agree_first.Agreeing.the-variants.{Nothing}
+use Rattle.verdict.specs.declared.answers.Judged.{Judged}
 use Rattle.verdict.specs.declared.kept.Kept.{Kept}
+use Rattle.verdict.specs.declared.message.Walked.{Walked}
+use Rattle.verdict.specs.declared.message.Walked.the-variants as walked
 use Rattle.verdict.specs.declared.roles.Role.{Role}
 use Rattle.verdict.specs.declared.roles.Role.the-variants.{Lin, Unt, Unh, Bgm, Other}
 use Rattle.verdict.specs.declared.segment.Answered.{Answered}
 use Rattle.verdict.specs.declared.segment.Answered.the-variants.{Fits, Refused}
 use Rattle.verdict.specs.declared.segment.Found.{Found}
+use Rattle.verdict.specs.Answers.{declared, judgedAs}
 use Rattle.verdict.specs.Verdicts.{unlessAgreeing}
 
 -- the segment from a place up to another
@@ -157,3 +161,13 @@ endedWith ed y d start k n at =
     pickVerdict (isTag (guideOf ed) (bytesOf "UNT") (k .last))
     (pickVerdict (k .intervals) (accepts n at) (agreementAt ed y d start n at))
     (refuses 24 (suc n) at 0)
+
+-- the answer for the message that begins at `start`, once its segments have been walked
+abbrev pub closedBy : Edition → Syntax → List ℕ → ℕ → Walked → Judged
+closedBy ed y d start (walked.Refused o) = o
+closedBy ed y d start (walked.Fits k n at) = judgedAs (declared (endedWith ed y d start k n at)) at
+
+-- where all segments fit, one more can be counted, and without a doubt no position agrees with an earlier one
+abbrev pub Closable : Syntax → List ℕ → ℕ → Walked → Type 0
+Closable y d start (walked.Refused o) = Unit {0}
+Closable y d start (walked.Fits k n at) = (suc n < 2 ^ 64) × (k .doubt ≡ false → NoneAgrees y d start at)

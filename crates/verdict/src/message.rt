@@ -4,6 +4,7 @@ use crate::answers::Judged;
 use crate::answers::Verdict;
 use crate::edition::edition_at;
 use crate::ended::ended;
+use crate::kept::Kept;
 use crate::kept::begun;
 use crate::kept::keep;
 use crate::segment::Answered;
@@ -26,6 +27,14 @@ ghost use Rattle.guide.specs.Editions.{guideOf, pagesOf};
 ghost use Rattle.verdict.specs.Answers.{declared, judgedAs};
 ghost use Rattle.verdict.specs.Named.{verdictNamed};
 ghost use Rattle.verdict.specs.Verdicts.{verdictFrom};
+ghost use Rattle.verdict.specs.Workers.{closedBy, Closable};
+
+// What comes of a message's segments: if one is refused, the answer for the message; or else what is kept of them, how many there are, and where they
+// end.
+pub enum Walked {
+    Refused(Judged),
+    Fits(Kept, usize, usize),
+}
 
 fn with_end(verdict: Verdict, end: usize) -> Judged
     ensures { λ r. ⌜ r ≡ judgedAs verdict end ⌝ }
@@ -56,9 +65,11 @@ fn close_of(y: Syntax, d: &[u8], end: usize, last: bool) -> usize
     message_end(y, d, end)
 }
 
-// The verdict and the end of the message that the segment at `start` begins, by the guide of an edition.
-fn judged_by(y: Syntax, edition: Edition, d: &[u8], start: usize) -> Judged
-    ensures { λ r. ⌜ r ≡ judgedAs (declared (verdictFrom y (guideOf edition) (pagesOf edition) start (held (segmentsAt y (now (d .entry)) start)))) (lastEnd start (held (segmentsAt y (now (d .entry)) start))) ⌝ }
+// The segments of the message that begins at `start`, one after the other. It returns before positions are compared: that takes a table of its own, which
+// would not fit beside `came`.
+fn walk(y: Syntax, edition: Edition, d: &[u8], start: usize) -> Walked
+    ensures { λ r. ⌜ closedBy edition y (now (d .entry)) start r ≡ judgedAs (declared (verdictFrom y (guideOf edition) (pagesOf edition) start (held (segmentsAt y (now (d .entry)) start)))) (lastEnd start (held (segmentsAt y (now (d .entry)) start))) ⌝ }
+    ensures { λ r. ⌜ Closable y (now (d .entry)) start r ⌝ }
 {
     let mut counts = [0u32; 96];
     let mut came = [0u8; 8192];
@@ -75,22 +86,32 @@ fn judged_by(y: Syntax, edition: Edition, d: &[u8], start: usize) -> Judged
             last,
         } = s
         else {
-            return with_end(ended(y, edition, d, start, kept, n, at), at);
+            return Walked::Fits(kept, n, at);
         };
         let answer = segment_answer(y, edition, d, place, end, piece, n + 1, kept, &mut counts);
         match answer {
             Answered::Fits(found) => kept = keep(y, d, found, kept, &mut came),
             Answered::Refused { number, node } => {
                 let verdict = refused(edition, number, n + 1, place, node);
-                return with_end(verdict, close_of(y, d, end, last));
+                return Walked::Refused(with_end(verdict, close_of(y, d, end, last)));
             }
         }
         n += 1;
         at = end;
         if last {
-            return with_end(ended(y, edition, d, start, kept, n, at), at);
+            return Walked::Fits(kept, n, at);
         }
         first = false;
+    }
+}
+
+// The verdict and the end of the message that the segment at `start` begins, by the guide of an edition.
+fn judged_by(y: Syntax, edition: Edition, d: &[u8], start: usize) -> Judged
+    ensures { λ r. ⌜ r ≡ judgedAs (declared (verdictFrom y (guideOf edition) (pagesOf edition) start (held (segmentsAt y (now (d .entry)) start)))) (lastEnd start (held (segmentsAt y (now (d .entry)) start))) ⌝ }
+{
+    match walk(y, edition, d, start) {
+        Walked::Refused(told) => told,
+        Walked::Fits(kept, n, at) => with_end(ended(y, edition, d, start, kept, n, at), at),
     }
 }
 
