@@ -1,7 +1,7 @@
 -- The table of prints: a mark stays, and a position whose print is not marked agrees with none that is.
 use Prim.Native.Nat.{ℕ, _+_, _<_}
 use mathlib.Core.Path.{_≡_, refl, sym, ap, _∙_}
-use mathlib.Core.Bool.{Bool, true, false, cond, _||_, or-true, true≢false}
+use mathlib.Core.Bool.{Bool, true, false, cond, _&&_, _||_, or-true, true≢false}
 use mathlib.Core.List.{List, [], _∷_, _++_}
 use native.Mathlib.Omega.{arith}
 use lib.ListN.{length, getD, set, length-set}
@@ -12,7 +12,7 @@ use Rattle.cut.specs.declared.service.Syntax.{Syntax}
 use Rattle.agree.specs.Agreement.{Heading, agree}
 use Rattle.agree.specs.AgreePositions.{agreesAny}
 use Rattle.agree.specs.AgreePrints.{printOf}
-use Rattle.agree.specs.AgreeMarks.{cellOf, markOf, mergedBy, heldBy, heldIn, setIn, secondOf, markedIn, markIn, allMarked}
+use Rattle.agree.specs.AgreeMarks.{cellOf, markOf, mergedBy, heldBy, heldIn, setIn, secondOf, thirdOf, markedIn, markIn, allMarked}
 use Rattle.agree.proofs.AgreeTexts.{and-both, both-and}
 use Rattle.agree.proofs.AgreePrinted.{agree-print}
 
@@ -65,48 +65,66 @@ module _ (t : List ℕ) (f : ℕ) where
   unfolding setIn
   set-length = length-set t _ _
 
-  set-holds : cellOf f < length t → heldIn (setIn t f) f ≡ true
+  set-holds : length t ≡ 8192 → heldIn (setIn t f) f ≡ true
   unfolding heldIn setIn
-  set-holds h = rw (getD-set-same t (cellOf f) (mergedBy (getD t (cellOf f) 0) (markOf f)) 0 h) (merged-holds (getD t (cellOf f) 0) (markOf f))
+  set-holds l =
+      rw (getD-set-same t (cellOf f) (mergedBy (getD t (cellOf f) 0) (markOf f)) 0 (omega (arith, cell-inside f))) (merged-holds (getD t (cellOf f) 0) (markOf f))
 
-  set-keeps : (g : ℕ) → cellOf f < length t → heldIn t g ≡ true → heldIn (setIn t f) g ≡ true
+  set-keeps : (g : ℕ) → length t ≡ 8192 → heldIn t g ≡ true → heldIn (setIn t f) g ≡ true
   unfolding heldIn setIn
-  set-keeps g h k = go (eqb (cellOf g) (cellOf f)) refl
+  set-keeps g l k = go (eqb (cellOf g) (cellOf f)) refl
     where
       go : (b : Bool) → eqb (cellOf g) (cellOf f) ≡ b → heldBy (getD (set t (cellOf f) (mergedBy (getD t (cellOf f) 0) (markOf f))) (cellOf g) 0) (markOf g) ≡ true
       go true e =
           let z = eqb-true (cellOf g) (cellOf f) e in
-          let l : heldBy (getD t (cellOf f) 0) (markOf g) ≡ true = rw (← z) k in
-          rw (z, getD-set-same t (cellOf f) (mergedBy (getD t (cellOf f) 0) (markOf f)) 0 h) (merged-keeps (getD t (cellOf f) 0) (markOf f) (markOf g) (mark-some g) l)
+          let h : heldBy (getD t (cellOf f) 0) (markOf g) ≡ true = rw (← z) k in
+          rw (z, getD-set-same t (cellOf f) (mergedBy (getD t (cellOf f) 0) (markOf f)) 0 (omega (arith, cell-inside f)))
+          (merged-keeps (getD t (cellOf f) 0) (markOf f) (markOf g) (mark-some g) h)
       go false e = rw (getD-set-other t (cellOf f) (cellOf g) (mergedBy (getD t (cellOf f) 0) (markOf f)) 0 (eqb-false (cellOf g) (cellOf f) e)) k
 
 module _ (t : List ℕ) (f : ℕ) where
+  -- the table once the first cell is set, and once the second is
+  abbrev once : List ℕ
+  once = setIn t f
+
+  abbrev twice : List ℕ
+  twice = setIn once (secondOf f)
+
+  twice-length : length twice ≡ length t
+  twice-length = set-length once (secondOf f) ∙ set-length t f
+
   pub mark-length : length (markIn t f) ≡ length t
   unfolding markIn
-  mark-length = set-length (setIn t f) (secondOf f) ∙ set-length t f
+  mark-length = set-length twice (thirdOf f) ∙ twice-length
 
   module _ (size : length t ≡ 8192) where
-    first-cell : (g : ℕ) → cellOf g < length t
-    first-cell g = omega (arith, cell-inside g)
+    -- what is held before the third cell is set, before the second and before the first is held at the end
+    from-twice : (g : ℕ) → heldIn twice g ≡ true → heldIn (markIn t f) g ≡ true
+    unfolding markIn
+    from-twice g = set-keeps twice (thirdOf f) g (twice-length ∙ size)
 
-    second-cell : (g : ℕ) → cellOf g < length (setIn t f)
-    second-cell g = omega (arith, cell-inside g, set-length t f)
-
-    pub mark-marks : markedIn (markIn t f) f ≡ true
-    unfolding markedIn markIn
-    mark-marks =
-        both-and _ _ (set-keeps (setIn t f) (secondOf f) f (second-cell (secondOf f)) (set-holds t f (first-cell f)))
-        (set-holds (setIn t f) (secondOf f) (second-cell (secondOf f)))
+    from-once : (g : ℕ) → heldIn once g ≡ true → heldIn (markIn t f) g ≡ true
+    from-once g h = from-twice g (set-keeps once (secondOf f) g (set-length t f ∙ size) h)
 
     held-keeps : (g : ℕ) → heldIn t g ≡ true → heldIn (markIn t f) g ≡ true
+    held-keeps g h = from-once g (set-keeps t f g size h)
+
+    last-held : heldIn (markIn t f) (thirdOf f) ≡ true
     unfolding markIn
-    held-keeps g h = set-keeps (setIn t f) (secondOf f) g (second-cell (secondOf f)) (set-keeps t f g (first-cell f) h)
+    last-held = set-holds twice (thirdOf f) (twice-length ∙ size)
+
+    pub mark-marks : markedIn (markIn t f) f ≡ true
+    unfolding markedIn
+    mark-marks =
+        both-and _ _ (from-once f (set-holds t f size))
+        (both-and _ _ (from-twice (secondOf f) (set-holds once (secondOf f) (set-length t f ∙ size))) last-held)
 
     pub mark-keeps : (g : ℕ) → markedIn t g ≡ true → markedIn (markIn t f) g ≡ true
     unfolding markedIn
     mark-keeps g h =
-        let p = and-both (heldIn t g) (heldIn t (secondOf g)) h in
-        both-and _ _ (held-keeps g (p .0)) (held-keeps (secondOf g) (p .1))
+        let p = and-both (heldIn t g) (heldIn t (secondOf g) && heldIn t (thirdOf g)) h in
+        let q = and-both (heldIn t (secondOf g)) (heldIn t (thirdOf g)) (p .1) in
+        both-and _ _ (held-keeps g (p .0)) (both-and _ _ (held-keeps (secondOf g) (q .0)) (held-keeps (thirdOf g) (q .1)))
 
 module _ (y : Syntax) (t : List ℕ) where
   all-keeps : (f : ℕ) (hs : List Heading) → length t ≡ 8192 → allMarked y t hs ≡ true → allMarked y (markIn t f) hs ≡ true

@@ -30,16 +30,19 @@ heldIn t f = heldBy (getD t (cellOf f) 0) (markOf f)
 unfoldable pub setIn : List ℕ → ℕ → List ℕ
 setIn t f = set t (cellOf f) (mergedBy (getD t (cellOf f) 0) (markOf f))
 
--- a second number made of a print: each print is marked in two cells
+-- two more numbers made of a print: each print is marked in three cells
 abbrev pub secondOf : ℕ → ℕ
 secondOf f = mixedBy f 0 0
 
+abbrev pub thirdOf : ℕ → ℕ
+thirdOf f = mixedBy (secondOf f) 0 0
+
 -- whether the print f may have come, and the table after it
 unfoldable pub markedIn : List ℕ → ℕ → Bool
-markedIn t f = heldIn t f && heldIn t (secondOf f)
+markedIn t f = heldIn t f && (heldIn t (secondOf f) && heldIn t (thirdOf f))
 
 unfoldable pub markIn : List ℕ → ℕ → List ℕ
-markIn t f = setIn (setIn t f) (secondOf f)
+markIn t f = setIn (setIn (setIn t f) (secondOf f)) (thirdOf f)
 
 -- the prints of all these positions are marked
 unfoldable pub allMarked : Syntax → List ℕ → List Heading → Bool

@@ -28,7 +28,7 @@ pub fn first_agreeing(y: Syntax, d: &[u8], start: usize, end: usize) -> Agreeing
 }
 
 // The same among all segments from `start` on. A run that does not pass is tried again shorter, so that the search begins right before the
-// position that it finds; behind one that was stopped it begins at once. The marks of 1,024 positions fill at most a quarter of the table.
+// position that it finds; behind one that was stopped it begins at once. The marks of 1,024 positions fill at most three eighths of the table.
 fn first_from(y: Syntax, d: &[u8], start: usize) -> Agreeing
     ensures { λ r. ⌜ r ≡ firstAgreeing y (positionsOf (segmentsAt y (now (d .entry)) start)) ⌝ }
 {

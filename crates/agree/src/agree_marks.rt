@@ -1,5 +1,5 @@
-// The table of the prints that came: a cell for each value of a print's upper bits, in which a byte made of the lower ones stands, and so a
-// second time for another number made of the print. What is not marked did not come.
+// The table of the prints that came: a cell for each value of a print's upper bits, in which a byte made of the lower ones stands, and so
+// again for two more numbers made of the print. What is not marked did not come.
 use crate::agree_prints::mixed;
 ghost use mathlib.Core.Path.{_≡_};
 ghost use Rattle.agree.specs.AgreeMarks.{cellOf, markOf, mergedBy, heldIn, setIn, markedIn, markIn};
@@ -57,12 +57,18 @@ pub(crate) fn is_marked(t: &[u8; 8192], f: u32) -> bool
     if !holds(t, f) {
         return false;
     }
-    holds(t, mixed(f, 0, 0))
+    let g = mixed(f, 0, 0);
+    if !holds(t, g) {
+        return false;
+    }
+    holds(t, mixed(g, 0, 0))
 }
 
 pub(crate) fn mark(t: &mut [u8; 8192], f: u32)
     ensures { λ _. ⌜ now (t .exit) ≡ markIn (now (t .entry)) f ⌝ }
 {
     hold(t, f);
-    hold(t, mixed(f, 0, 0));
+    let g = mixed(f, 0, 0);
+    hold(t, g);
+    hold(t, mixed(g, 0, 0));
 }

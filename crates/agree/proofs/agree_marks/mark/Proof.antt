@@ -1,6 +1,5 @@
 -- `agree::agree_marks::mark` meets its contract.
-use mathlib.Core.Path.{ap₂, _∙_}
-use Rattle.agree.specs.AgreeMarks.{setIn, markIn}
+use Rattle.agree.specs.AgreeMarks.{markIn}
 use borrow.Author.Needs.{needs}
 use Rattle.agree.proofs.agree_marks.mark.Statement.{statement}
 use Rattle.agree.proofs.agree_marks.mark.Tie as tie
@@ -14,9 +13,30 @@ mixed-requires c κs = search needs
 hold-requires-2 : tie.Need-hold-requires-2
 hold-requires-2 c κs = search needs
 
+mixed-requires-2 : tie.Need-mixed-requires-2
+mixed-requires-2 c κs = search needs
+
+hold-requires-3 : tie.Need-hold-requires-3
+hold-requires-3 c κs = search needs
+
 returns : tie.Need-returns
 unfolding markIn
-returns c = c .hold2 .ensures ∙ ap₂ setIn (c .before .before .before .hold .ensures) (c .before .mixed .ensures)
+returns c =
+    rw (
+      ← c .before .before .before .before .before .before .hold .ensures,
+      ← c .before .before .before .before .before .mixed .ensures,
+      ← c .before .before .before .hold2 .ensures,
+      ← c .before .mixed2 .ensures,
+    )
+    (c .hold3 .ensures)
 
 pub mark-spec : {M : Type 1} → statement M
-mark-spec = tie.close (tie.spec hold-requires mixed-requires hold-requires-2 returns)
+mark-spec =
+    tie.close
+    (tie.spec
+    hold-requires
+    mixed-requires
+    hold-requires-2
+    mixed-requires-2
+    hold-requires-3
+    returns)
