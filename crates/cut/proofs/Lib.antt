@@ -28,3 +28,4 @@ pub mod Face
 pub mod Kept
 pub mod Every
 pub mod Bytewise
+pub mod Clearing
