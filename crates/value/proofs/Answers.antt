@@ -1,8 +1,8 @@
 -- What formats, prices and counts make of the numeral that was read.
 use Prim.Native.Nat.{ℕ, _^_, _≤_, _<_}
-use mathlib.Core.Bool.{Bool, true, false, _&&_}
+use mathlib.Core.Bool.{Bool, true, false, cond, _&&_, false≢true}
 use mathlib.Core.Path.{_≡_, refl, sym, ap, _∙_}
-use mathlib.Core.List.{List, _++_}
+use mathlib.Core.List.{List, [], _∷_, _++_}
 use native.Mathlib.Nat.{suc-mul, mul-le-mul-right, pow-le-pow-right, lt-of-lt-of-le}
 use native.Mathlib.Omega.{arith}
 use lib.ListN.{length, drop, length-append}
@@ -18,18 +18,11 @@ use Rattle.value.specs.declared.prices.Number.the-variants.{Amount, Noth
 use Rattle.value.specs.declared.formats.Format.{Format}
 use Rattle.value.specs.declared.formats.Format.the-variants.{AnUpTo, An, NUpTo, N}
 use Rattle.value.specs.Format.{fitsFormat}
-use Rattle.value.specs.Numeral.{digitsAhead, behindDigits, unsigned, minus, whole, fraction, digits, isNumber, decimal}
+use Rattle.value.specs.Numeral.{some, digitsAhead, behindDigits, unsigned, minus, whole, fraction, digits, isNumber, decimal}
 use Rattle.value.specs.Number.{signed, pickNumber, numberOf}
-use Rattle.value.specs.Inner.{pickNumeral, countedAs, numeralBy, unsignedOf, numeralOf, judged}
-use Rattle.value.proofs.Digitwise.{onto-is, decimal-append}
+use Rattle.value.specs.Inner.{pickNumeral, countedAs, numeralBy, unsignedOf, numeralOf, digitsOf}
+use Rattle.value.proofs.Digitwise.{and-both, onto-is, decimal-append}
 use Rattle.value.proofs.Numerals.{decimal-below}
-
--- formats: the test is made of the digits that count
-judged-by : (h : ℕ → Bool) (m : Bool) (v n k : ℕ) (long b : Bool)
-    → judged h (pickNumeral b (pickNumeral long (Long n) (Short m v n k)) Other) ≡ b && h n
-judged-by h m v n k true true = refl
-judged-by h m v n k false true = refl
-judged-by h m v n k long false = refl
 
 pub numeral-is
     : (y : Syntax) (s : List ℕ)
@@ -37,10 +30,38 @@ pub numeral-is
 unfolding numeralOf unsignedOf numeralBy isNumber digits whole fraction
 numeral-is y s = refl
 
-pub judged-number : (h : ℕ → Bool) (y : Syntax) (s : List ℕ) → judged h (numeralOf y s) ≡ isNumber y s && h (length (digits s))
-judged-number h y s =
-    ap (judged h) (numeral-is y s)
-    ∙ judged-by h (minus s) (decimal (digits s)) (length (digits s)) (length (fraction s)) (ltb 15 (length (digits s))) (isNumber y s)
+-- formats: a number has at least one digit, so no digits are those of no number
+counted-by : (m : Bool) (v n k : ℕ) (long b : Bool) → digitsOf (pickNumeral b (pickNumeral long (Long n) (Short m v n k)) Other) ≡ cond b n 0
+counted-by m v n k true true = refl
+counted-by m v n k false true = refl
+counted-by m v n k long false = refl
+
+digits-number : (y : Syntax) (s : List ℕ) → digitsOf (numeralOf y s) ≡ cond (isNumber y s) (length (digits s)) 0
+digits-number y s =
+    ap digitsOf (numeral-is y s)
+    ∙ counted-by (minus s) (decimal (digits s)) (length (digits s)) (length (fraction s)) (ltb 15 (length (digits s))) (isNumber y s)
+
+some-length : (l : List ℕ) → some l ≡ true → 0 < length l
+unfolding some
+some-length [] h = absurd (false≢true h)
+some-length (x ∷ xs) h = omega arith
+
+number-digits : (y : Syntax) (s : List ℕ) → isNumber y s ≡ true → 1 ≤ length (digits s)
+unfolding isNumber digits
+number-digits y s h =
+    let p = some-length (whole s) (and-both (some (whole s)) _ h .0) in
+    simp length-append (omega arith)
+
+judged-number : (h : ℕ → Bool) (y : Syntax) (s : List ℕ) (n : ℕ) → n ≡ digitsOf (numeralOf y s) → leb 1 n && h n ≡ isNumber y s && h (length (digits s))
+judged-number h y s n e = go (isNumber y s) refl
+  where
+    go : (b : Bool) → isNumber y s ≡ b → leb 1 n && h n ≡ b && h (length (digits s))
+    go true p =
+        let q : n ≡ length (digits s) = e ∙ digits-number y s ∙ rw p in
+        rw (q, le-leb 1 (length (digits s)) (number-digits y s p))
+    go false p =
+        let q : n ≡ 0 = e ∙ digits-number y s ∙ rw p in
+        rw q
 
 module _ (y : Syntax) (s : List ℕ) (f : Format) (k : ℕ) where
   pub fits-an-up-to : (n : ℕ) → f ≡ AnUpTo k → n ≡ length s → leb 1 n && leb n k ≡ fitsFormat y f s
@@ -51,13 +72,13 @@ module _ (y : Syntax) (s : List ℕ) (f : Format) (k : ℕ) where
   unfolding fitsFormat
   fits-an n p q = rw (p, q)
 
-  pub fits-n-up-to : (x : Numeral) → f ≡ NUpTo k → x ≡ numeralOf y s → judged (λ c. leb c k) x ≡ fitsFormat y f s
+  pub fits-n-up-to : (n : ℕ) → f ≡ NUpTo k → n ≡ digitsOf (numeralOf y s) → leb 1 n && leb n k ≡ fitsFormat y f s
   unfolding fitsFormat
-  fits-n-up-to x p q = rw (p, q) (judged-number (λ c. leb c k) y s)
+  fits-n-up-to n p q = rw p (judged-number (λ c. leb c k) y s n q)
 
-  pub fits-n : (x : Numeral) → f ≡ N k → x ≡ numeralOf y s → judged (λ c. eqb c k) x ≡ fitsFormat y f s
+  pub fits-n : (n : ℕ) → f ≡ N k → n ≡ digitsOf (numeralOf y s) → leb 1 n && eqb n k ≡ fitsFormat y f s
   unfolding fitsFormat
-  fits-n x p q = rw (p, q) (judged-number (λ c. eqb c k) y s)
+  fits-n n p q = rw p (judged-number (λ c. eqb c k) y s n q)
 
 -- prices: the numeral's amount and decimals
 abbrev pub amountIn : Numeral → Number

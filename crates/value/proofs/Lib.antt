@@ -2,6 +2,7 @@ pub mod Grammar
 pub mod Digitwise
 pub mod Running
 pub mod Numerals
+pub mod AtOnce
 pub mod Answers
 pub mod Counting
 pub mod Signs

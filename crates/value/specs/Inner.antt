@@ -1,16 +1,16 @@
 -- What the crate's own readers promise each other; no public call cites these.
 use Prim.Native.Nat.{ℕ, _+_, _-_, _*_, _^_, _≤_, _<_}
-use mathlib.Core.Bool.{Bool, true, false, _&&_}
+use mathlib.Core.Bool.{Bool, true, false, _&&_, _||_}
 use mathlib.Core.Path.{_≡_}
 use mathlib.Core.List.{List, [], _∷_, _++_}
 use lib.ListN.{length, getD, drop}
-use lib.Dec.{ltb}
+use lib.Dec.{ltb, eqb}
 use Rattle.cut.specs.declared.service.Syntax.{Syntax}
 use Rattle.value.specs.declared.numeral.Run.{Run}
 use Rattle.value.specs.declared.numeral.Numeral.{Numeral}
 use Rattle.value.specs.declared.numeral.Numeral.the-variants.{Short, Long, Other}
 use Rattle.element.specs.Plain.{decoded}
-use Rattle.value.specs.Numeral.{some, digitsAhead, behindDigits, minus, unsigned, isTail, decimal}
+use Rattle.value.specs.Numeral.{some, isDigit, digitsAhead, behindDigits, minus, unsigned, isTail, decimal}
 
 -- r is v with the digit x behind it, as long as that has at most sixteen digits
 pub record Pushed (v x r : ℕ) : Type 0 where
@@ -50,8 +50,16 @@ unsignedOf y m s =
 unfoldable pub numeralOf : Syntax → List ℕ → Numeral
 numeralOf y s = unsignedOf y (minus s) (unsigned s)
 
--- whether a number has as many digits as the test wants
-abbrev pub judged : (ℕ → Bool) → Numeral → Bool
-judged h (Short m v n k) = h n
-judged h (Long n) = h n
-judged h Other = false
+-- how many digits a number has; 0 where it is none
+abbrev pub digitsOf : Numeral → ℕ
+digitsOf (Short m v n k) = n
+digitsOf (Long n) = n
+digitsOf Other = 0
+
+-- r is n, unless r is 0: that says nothing of n
+abbrev pub Told : ℕ → ℕ → Type 0
+Told r n = (r ≡ 0 → ⊥) → r ≡ n
+
+-- whether the release character can stand in a number without its sign: as the mark, or as a digit
+unfoldable pub mayRelease : Syntax → Bool
+mayRelease y = eqb (y .release) (y .decimal) || isDigit (y .release)

@@ -1,4 +1,5 @@
 // Whether a part has the format that its page asks for.
+use crate::at_once::digits_at_once;
 use crate::numeral::Numeral;
 use crate::numeral::numeral_of;
 use cut::Syntax;
@@ -8,7 +9,7 @@ ghost use mathlib.Core.Path.{_≡_};
 ghost use lib.Dec.{leb, eqb};
 ghost use Rattle.element.specs.Plain.{decoded};
 ghost use Rattle.value.specs.Format.{fitsFormat};
-ghost use Rattle.value.specs.Inner.{judged};
+ghost use Rattle.value.specs.Inner.{digitsOf, numeralOf};
 
 // an..k, ank, n..k and nk.
 pub enum Format {
@@ -28,8 +29,18 @@ fn up_to(n: usize, k: usize) -> bool
     n <= k
 }
 
-fn digits_up_to(n: Numeral, k: usize) -> bool
-    ensures { λ r. ⌜ r ≡ judged (λ c. leb c k) n ⌝ }
+// Just k, and not none.
+fn exactly(n: usize, k: usize) -> bool
+    ensures { λ r. ⌜ r ≡ (leb 1 n && eqb n k) ⌝ }
+{
+    if n < 1 {
+        return false;
+    }
+    n == k
+}
+
+fn digits_in(n: Numeral) -> usize
+    ensures { λ r. ⌜ r ≡ digitsOf n ⌝ }
 {
     match n {
         Numeral::Short {
@@ -37,25 +48,21 @@ fn digits_up_to(n: Numeral, k: usize) -> bool
             value: _,
             digits,
             decimals: _,
-        } => digits <= k,
-        Numeral::Long(digits) => digits <= k,
-        Numeral::Other => false,
+        } => digits,
+        Numeral::Long(digits) => digits,
+        Numeral::Other => 0,
     }
 }
 
-fn digits_exactly(n: Numeral, k: usize) -> bool
-    ensures { λ r. ⌜ r ≡ judged (λ c. eqb c k) n ⌝ }
+// How many digits the number has that the part is, decoded; 0 where it is none.
+fn digit_count(y: Syntax, d: &[u8], a: usize, e: usize) -> usize
+    ensures { λ r. ⌜ r ≡ digitsOf (numeralOf y (decoded y a e (now (d .entry)))) ⌝ }
 {
-    match n {
-        Numeral::Short {
-            minus: _,
-            value: _,
-            digits,
-            decimals: _,
-        } => digits == k,
-        Numeral::Long(digits) => digits == k,
-        Numeral::Other => false,
+    let n = digits_at_once(y, d, a, e);
+    if n != 0 {
+        return n;
     }
+    digits_in(numeral_of(y, d, a, e))
 }
 
 // Whether the part, decoded, has the format. A number has at least one digit, so neither n..0 nor n0 is ever met.
@@ -65,7 +72,7 @@ pub fn fits(y: Syntax, d: &[u8], a: usize, e: usize, format: Format) -> bool
     match format {
         Format::AnUpTo(k) => up_to(plain_length(y, d, a, e), k),
         Format::An(k) => plain_length(y, d, a, e) == k,
-        Format::NUpTo(k) => digits_up_to(numeral_of(y, d, a, e), k),
-        Format::N(k) => digits_exactly(numeral_of(y, d, a, e), k),
+        Format::NUpTo(k) => up_to(digit_count(y, d, a, e), k),
+        Format::N(k) => exactly(digit_count(y, d, a, e), k),
     }
 }

@@ -29,7 +29,7 @@ pub(crate) enum Numeral {
     Other,
 }
 
-fn is_digit(x: u8) -> bool
+pub(crate) fn is_digit(x: u8) -> bool
     ensures { λ r. ⌜ r ≡ isDigit x ⌝ }
 {
     if x < b'0' {

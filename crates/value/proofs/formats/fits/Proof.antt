@@ -23,20 +23,20 @@ plain-length-requires-2 c κs = search needs
 enum-known-format-3 : tie.Need-enum-known-format-3
 enum-known-format-3 c = search needs
 
-numeral-of-requires : tie.Need-numeral-of-requires
-numeral-of-requires c κs = search needs
+digit-count-requires : tie.Need-digit-count-requires
+digit-count-requires c κs = search needs
 
-digits-up-to-requires : tie.Need-digits-up-to-requires
-digits-up-to-requires c κs = search needs
+up-to-requires-2 : tie.Need-up-to-requires-2
+up-to-requires-2 c κs = search needs
 
 enum-known-format-4 : tie.Need-enum-known-format-4
 enum-known-format-4 c = search needs
 
-numeral-of-requires-2 : tie.Need-numeral-of-requires-2
-numeral-of-requires-2 c κs = search needs
+digit-count-requires-2 : tie.Need-digit-count-requires-2
+digit-count-requires-2 c κs = search needs
 
-digits-exactly-requires : tie.Need-digits-exactly-requires
-digits-exactly-requires c κs = search needs
+exactly-requires : tie.Need-exactly-requires
+exactly-requires c κs = search needs
 
 returns : tie.Need-returns
 returns c =
@@ -47,12 +47,11 @@ returns-2 c = fits-an _ _ _ _ _ (c .before .before .format2 .given .1) (c .plain
 
 returns-3 : tie.Need-returns-3
 returns-3 c =
-    c .digits-up-to .ensures
-    ∙ fits-n-up-to _ _ _ _ _ (c .before .before .before .format3 .given .1) (c .before .numeral-of .ensures)
+    c .up-to2 .ensures ∙ fits-n-up-to _ _ _ _ _ (c .before .before .before .format3 .given .1) (c .before .digit-count .ensures)
 
 returns-4 : tie.Need-returns-4
 returns-4 c =
-    c .digits-exactly .ensures ∙ fits-n _ _ _ _ _ (c .before .before .before .format4 .given .1) (c .before .numeral-of2 .ensures)
+    c .exactly .ensures ∙ fits-n _ _ _ _ _ (c .before .before .before .format4 .given .1) (c .before .digit-count2 .ensures)
 
 pub fits-spec : {M : Type 1} → statement M
 fits-spec =
@@ -64,11 +63,11 @@ fits-spec =
     enum-known-format-2
     plain-length-requires-2
     enum-known-format-3
-    numeral-of-requires
-    digits-up-to-requires
+    digit-count-requires
+    up-to-requires-2
     enum-known-format-4
-    numeral-of-requires-2
-    digits-exactly-requires
+    digit-count-requires-2
+    exactly-requires
     returns
     returns-2
     returns-3
