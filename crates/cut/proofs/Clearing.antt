@@ -48,18 +48,21 @@ module _ (t : ℕ → Bool) (m j : ℕ) (e : m ≡ flags t) (q : j ≡ firstByte
           flags-none t (sym e ∙ z) k (omega arith)
       go false h = first-of t m j e (eqb-false m 0 h) q .before k l
 
-  pub first-some : j < 8 → m ≡ 0 → ⊥
-  first-some l z =
+  some-flagged : j < 8 → m ≡ 0 → ⊥
+  some-flagged l z =
       let o : j ≡ 8 = q ∙ ap firstByte z ∙ nothing-flagged in
       omega arith
 
+  pub first-some : j < 8 → 0 < m
+  first-some l = some-set m (some-flagged l)
+
   pub first-passes : j < 8 → t j ≡ true
-  first-passes l = first-of t m j e (first-some l) q .passes
+  first-passes l = first-of t m j e (some-flagged l) q .passes
 
   rest-flags : j < 8 → bitAnd m (m - 1) ≡ flags (λ k. ltb j k && t k)
   unfolding flags
   rest-flags l =
-      let some = first-some l in
+      let some = some-flagged l in
       rw e
       (first-cleared 8 t (λ k. ltb j k && t k) j (first-of t m j e some q) (λ z. some (e ∙ z)) (λ k h. rw (lt-ltb j k h)) (λ k h. rw (le-ltb j k h)))
 

@@ -160,11 +160,7 @@ module _
 
   module _ (h : p < e - from) where
     pub some-other : 0 < m
-    some-other = go m (first-some other m p flagged g (omega arith))
-      where
-        go : (n : ℕ) → (n ≡ 0 → ⊥) → 0 < n
-        go zero z = absurd (z refl)
-        go (suc n) z = omega arith
+    some-other = first-some other m p flagged g (omega arith)
 
     no-digit-there : isDigit (getD d (from + p) 0) ≡ false
     unfolding other
