@@ -1,11 +1,12 @@
 -- The byte at which a component ends, or from which on its bytes may be released.
 use Prim.Native.Nat.{ℕ, _≤_, _<_}
 use mathlib.Core.Path.{_≡_}
-use mathlib.Core.Bool.{Bool, true, false, not, _||_}
+use mathlib.Core.Bool.{Bool, true, false, not, _&&_, _||_}
 use mathlib.Core.List.{List}
 use lib.ListN.{getD}
 use lib.Dec.{eqb}
 use Rattle.cut.specs.declared.service.Syntax.{Syntax}
+use Rattle.element.specs.Clean.{between, allowedByte}
 use Rattle.element.specs.Elements.{endingOf, stays}
 
 -- whether the byte x ends something where it is not released, or is the release character
@@ -21,3 +22,11 @@ pub record Passed (y : Syntax) (d : List ℕ) (from i : ℕ) : Type 0 where
 pub record Service (y : Syntax) (d : List ℕ) (from limit r : ℕ) : Type 0 where
   pub passed : Passed y d from r
   pub here : r < limit → isService y (getD d r 0) ≡ true
+
+-- whether the byte x is such, or is not allowed
+unfoldable pub isMark : Syntax → ℕ → Bool
+isMark y x = isService y x || not (allowedByte x)
+
+-- whether the four service characters that these are made of are allowed bytes, none of them a letter or with its high bit set
+unfoldable pub plainServices : Syntax → Bool
+plainServices y = between 32 64 (y .terminator) && (between 32 64 (y .element) && (between 32 64 (y .component) && between 32 64 (y .release)))

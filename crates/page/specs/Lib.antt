@@ -5,3 +5,6 @@ pub mod PageWalk
 pub mod Examined
 pub mod Scans
 pub mod PagePlaces
+pub mod Marks
+pub mod Quick
+pub mod Cells

@@ -51,6 +51,14 @@ rowBy (suc (suc n)) f cs = used must f cs
 unfoldable pub rowIn : ℕ → Row
 rowIn w = rowBy (w / 65536 % 4) (formatIn w) (codesIn w)
 
+-- the row of a cell's word, where what it must not be is not asked: not used where the format's size is 0
+abbrev pub freeBy : ℕ → Format → List (List ℕ) → Row
+freeBy zero f cs = unused
+freeBy (suc n) f cs = used may f cs
+
+unfoldable pub freeRow : ℕ → Row
+freeRow w = freeBy (w / 1048576) (formatIn w) (codesIn w)
+
 -- an element's word: the place of its first row, how many rows it has, how far its must rows reach, 1 where it is required
 unfoldable pub elementIn : ℕ → Composite
 elementIn w = record { required = eqb (w / 1048576) 1; rows = span allRows unused (w % 1024) (w / 1024 % 32) }

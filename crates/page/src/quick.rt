@@ -1,0 +1,150 @@
+// The pass over a segment that has no fault, from state to state of a table.
+use crate::cells::cell;
+use crate::marks::clean_on;
+use crate::places::Places;
+use crate::places::nowhere;
+use crate::right::is_right;
+use crate::scan::untested;
+use cut::Syntax;
+use element::Span;
+use element::tagged;
+ghost use mathlib.Core.Path.{_≡_};
+ghost use Rattle.element.specs.Clean.{between};
+ghost use Rattle.element.specs.Services.{plainServices};
+ghost use Rattle.guide.specs.Page.{Page};
+ghost use Rattle.page.specs.Cells.{FirstCell};
+ghost use Rattle.page.specs.Quick.{FaultlessAt};
+
+pub(crate) struct Faultless {
+    pub(crate) end: usize,
+    pub(crate) places: Places,
+}
+
+fn untold(start: usize) -> Faultless {
+    Faultless {
+        end: 0,
+        places: nowhere(start),
+    }
+}
+
+fn keep(kept: usize, a: usize, b: usize, places: Places) -> Places {
+    if kept == 0 {
+        return places;
+    }
+    if kept == 1 {
+        let third = places.third;
+        return Places {
+            first: Span { start: a, end: b },
+            third,
+        };
+    }
+    let first = places.first;
+    Places {
+        first,
+        third: Span { start: a, end: b },
+    }
+}
+
+// The steps of a cell, by whether the component is empty
+fn steps(w: u64, n: usize) -> u64 {
+    if n == 0 {
+        return w / 0x1_0000;
+    }
+    w
+}
+
+fn may_end(w: u64, n: usize) -> bool {
+    if n == 0 {
+        return w / 0x2_0000_0000 % 2 == 1;
+    }
+    w / 0x1_0000_0000 % 2 == 1
+}
+
+fn next_state(y: Syntax, x: u8, t: u64) -> usize {
+    if x == y.element {
+        return (t / 0x100 % 256) as usize;
+    }
+    if x == y.component {
+        return (t % 256) as usize;
+    }
+    0
+}
+
+fn is_plain(x: u8) -> bool
+    ensures { λ r. ⌜ r ≡ between 32 64 x ⌝ }
+{
+    if x < 32 {
+        return false;
+    }
+    x <= 64
+}
+
+// Whether the four service characters that marks are made of are allowed bytes, none of them a letter or with its high bit set.
+fn has_plain_services(y: Syntax) -> bool
+    ensures { λ r. ⌜ r ≡ plainServices y ⌝ }
+{
+    if !is_plain(y.terminator) {
+        return false;
+    }
+    if !is_plain(y.element) {
+        return false;
+    }
+    if !is_plain(y.component) {
+        return false;
+    }
+    is_plain(y.release)
+}
+
+// The tag is three capital letters and the element separator behind them; the service characters are marks from the blank to 64, so no letter is one of them.
+fn is_begun(y: Syntax, d: &[u8], start: usize) -> bool {
+    if !has_plain_services(y) {
+        return false;
+    }
+    if !tagged(y, d, start, d.len()) {
+        return false;
+    }
+    d[start + 3] == y.element
+}
+
+// The segment that begins at `start`, against the page that the state is the first of; the end 0, where it is not told that there is no fault.
+pub(crate) fn faultless_from(y: Syntax, d: &[u8], start: usize, state: usize) -> Faultless
+    ensures { λ r. ⌜ ((page : Page) → FirstCell state page → (r .end ≡ 0 → ⊥) → FaultlessAt y page (now (d .entry)) start r) ⌝ }
+{
+    if !is_begun(y, d, start) {
+        return untold(start);
+    }
+    let mut scan = untested(start + 4);
+    let mut places = nowhere(start);
+    let mut s = state;
+    loop {
+        let w = cell(s);
+        let a = scan.at;
+        let p = clean_on(y, d, scan);
+        let end = p.end;
+        if end == 0 {
+            return untold(start);
+        }
+        let row = (w / 0x4_0000_0000) as usize;
+        places = keep(row / 65536 % 4, a, end, places);
+        if 0 < p.length {
+            if !is_right(y, d, a, end, p.length, row) {
+                return untold(start);
+            }
+        }
+        let x = d[end];
+        if x == y.terminator {
+            if may_end(w, p.length) {
+                return Faultless {
+                    end: end + 1,
+                    places,
+                };
+            }
+            return untold(start);
+        }
+        s = next_state(y, x, steps(w, p.length));
+        if s == 0 {
+            return untold(start);
+        }
+        scan = p.scan;
+    }
+}
