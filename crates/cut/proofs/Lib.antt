@@ -23,6 +23,7 @@ pub mod Members
 pub mod ByItself
 pub mod TailFirst
 pub mod Holding
+pub mod Heads
 pub mod Passing
 pub mod Face
 pub mod Kept

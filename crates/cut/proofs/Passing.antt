@@ -15,7 +15,7 @@ use Rattle.cut.specs.Segments.{Segment, endOf, segmentsFrom, joined}
 use Rattle.cut.specs.Messages.{Message, startOf, tagOf, lastEnd, follow, body, begin, messagesIn, keepIf}
 use Rattle.cut.specs.Calls.{cutFrom}
 use Rattle.cut.specs.Held.{isUnt, unless, held, outerBy, headOuter}
-use Rattle.cut.specs.Workers.{isUnh, outBy, openBy}
+use Rattle.cut.specs.Workers.{firstTag, isUnh, outBy, openBy}
 use Rattle.cut.proofs.Parts.{length-part}
 use Rattle.cut.proofs.First.{Cutting, cutting, nothing, first, cutting-first}
 use Rattle.cut.proofs.Outside.{leftOver}
@@ -32,6 +32,12 @@ outer-segment Unh e u = absurd (true≢false u)
 outer-segment Unt e u = refl
 outer-segment Unz e u = refl
 outer-segment Other e u = refl
+
+-- the tag alone tells that a message begins
+pub outer-begins : (ss : List Segment) (t : Tag) → t ≡ firstTag ss → isUnh t ≡ true → outer.Message ≡ headOuter ss
+unfolding firstTag headOuter
+outer-begins [] t k u = absurd (let z : _≡_ {A = ℕ} 0 1 = cc in omega arith)
+outer-begins (s ∷ ss) t k u = rw (← k) (outer-message t (endOf s) u)
 
 -- the segments behind an open message
 unfoldable behind : List Segment → List Segment

@@ -7,6 +7,8 @@ use Rattle.cut.specs.declared.tags.Tag.{Tag}
 use Rattle.cut.specs.declared.tags.Tag.the-variants.{Unh, Unt, Unz, Other}
 use Rattle.cut.specs.declared.member.Member.{Member}
 use Rattle.cut.specs.declared.member.Member.the-variants as member
+use Rattle.cut.specs.declared.member.Head.{Head}
+use Rattle.cut.specs.declared.member.Head.the-variants as head
 use Rattle.cut.specs.declared.outer.Outer.{Outer}
 use Rattle.cut.specs.declared.outer.Outer.the-variants as outer
 use Rattle.cut.specs.Segments.{Segment, endOf}
@@ -48,6 +50,11 @@ unfoldable pub headMember : Bool → List Segment → Member
 headMember b [] = member.Nothing
 headMember b (s ∷ ss) =
     pickMember (belongs b (tagOf (s .bytes))) (member.Segment (s .start) (endOf s) (s .piece) (isUnt (tagOf (s .bytes)))) member.Nothing
+
+-- head_at: such an answer without the places
+unfoldable pub headOf : Member → Head
+headOf (member.Segment s e p l) = head.Inside l
+headOf member.Nothing = head.Nothing
 
 -- a segment that lies in no message, by its tag; "A segment whose first three bytes are `UNH` begins a message"
 abbrev pub outerBy : Tag → ℕ → Outer

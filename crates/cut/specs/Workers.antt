@@ -47,6 +47,11 @@ unfoldable pub headSpot : List Segment → Spot
 headSpot [] = spot.Nothing
 headSpot (s ∷ ss) = spot.At (s .start) (tagOf (s .bytes)) (endOf s)
 
+-- its tag alone
+unfoldable pub firstTag : List Segment → Tag
+firstTag [] = Other
+firstTag (s ∷ ss) = tagOf (s .bytes)
+
 -- the first of some messages
 unfoldable pub headFound : List Message → Found
 headFound [] = found.Nothing

@@ -3,12 +3,13 @@ use crate::scan::Cut;
 use crate::scan::segment_at;
 use crate::service::Syntax;
 use crate::tags::Tag;
+use crate::tags::tag_at;
 use crate::tags::tag_of;
 ghost use mathlib.Core.Path.{_≡_};
 ghost use mathlib.Core.Bool.{false};
 ghost use lib.ListN.{drop};
 ghost use Rattle.cut.specs.Segments.{segmentsFrom};
-ghost use Rattle.cut.specs.Held.{isUnt, belongs, headMember};
+ghost use Rattle.cut.specs.Held.{isUnt, belongs, headMember, headOf};
 
 // A segment of a message, and whether it is the UNT, behind which nothing follows; or that the message has no further one.
 pub enum Member {
@@ -18,6 +19,12 @@ pub enum Member {
         piece: bool,
         last: bool,
     },
+    Nothing,
+}
+
+// Whether the message has a further segment, and whether that is the UNT.
+pub enum Head {
+    Inside { last: bool },
     Nothing,
 }
 
@@ -63,4 +70,19 @@ pub fn member_at(y: Syntax, d: &[u8], at: usize, first: bool) -> Member
         piece,
         last,
     }
+}
+
+// `member_at` without the places: the segment's end is not looked for.
+pub fn head_at(y: Syntax, d: &[u8], at: usize, first: bool) -> Head
+    ensures { λ r. ⌜ r ≡ headOf (headMember first (segmentsFrom y at false (drop at (now (d .entry))))) ⌝ }
+{
+    if d.len() <= at {
+        return Head::Nothing;
+    }
+    let tag = tag_at(y, d, at);
+    if !is_inside(tag, first) {
+        return Head::Nothing;
+    }
+    let last = ends_message(tag);
+    Head::Inside { last }
 }

@@ -10,7 +10,7 @@ ghost use lib.ListN.{length, drop};
 ghost use Rattle.cut.specs.Bytes.{part};
 ghost use Rattle.cut.specs.Segments.{segmentsFrom};
 ghost use Rattle.cut.specs.Messages.{tagOf};
-ghost use Rattle.cut.specs.Workers.{headSpot};
+ghost use Rattle.cut.specs.Workers.{headSpot, firstTag};
 
 pub enum Tag {
     Unh,
@@ -41,6 +41,34 @@ pub(crate) fn spot_at(y: Syntax, d: &[u8], at: usize) -> Spot
             end,
         },
         Cut::Nothing => Spot::Nothing,
+    }
+}
+
+// The tag of that segment. Where neither U nor N ends a segment, the first three bytes tell it, and nothing is cut.
+pub(crate) fn tag_at(y: Syntax, d: &[u8], at: usize) -> Tag
+    requires { ⌜ at ≤ length (now d) ⌝ }
+    ensures { λ r. ⌜ r ≡ firstTag (segmentsFrom y at false (drop at (now (d .entry)))) ⌝ }
+{
+    if y.terminator == 85 {
+        return cut_tag(y, d, at);
+    }
+    if y.terminator == 78 {
+        return cut_tag(y, d, at);
+    }
+    tag_of(d, at, d.len())
+}
+
+fn cut_tag(y: Syntax, d: &[u8], at: usize) -> Tag
+    ensures { λ r. ⌜ r ≡ firstTag (segmentsFrom y at false (drop at (now (d .entry)))) ⌝ }
+{
+    let s = spot_at(y, d, at);
+    match s {
+        Spot::At {
+            start: _,
+            tag,
+            end: _,
+        } => tag,
+        Spot::Nothing => Tag::Other,
     }
 }
 
