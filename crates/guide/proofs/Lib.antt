@@ -53,3 +53,4 @@ pub mod LastTag
 pub mod JudgedRefused
 pub mod Lines
 pub mod HeadFirst
+pub mod ViewCuts
