@@ -88,7 +88,7 @@ read-alike y p xs = go (eqb (y .release) (y .element)) refl (eqb (y .release) (y
     go false e false c =
         alike y (λ (q r : Bool). q ≡ r) (λ q h. h) (λ q r x h. rw h (releases-frees y (eqb-false _ _ e) (eqb-false _ _ c) r x)) p false false xs refl
 
-elements-some : (y : Syntax) (s : List ℕ) → 0 < length s → elements y s ≡ listed (splitFrom y false s)
+pub elements-some : (y : Syntax) (s : List ℕ) → 0 < length s → elements y s ≡ listed (splitFrom y false s)
 unfolding elements
 elements-some y [] h = absurd (omega arith)
 elements-some y (x ∷ xs) h = refl

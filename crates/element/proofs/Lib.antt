@@ -6,5 +6,6 @@ pub mod Packing
 pub mod Summing
 pub mod Limits
 pub mod Cuts
+pub mod FrontKeys
 pub mod ComponentFace
 pub mod ComponentSamples

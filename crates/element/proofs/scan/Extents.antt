@@ -117,8 +117,11 @@ module _ (y : Syntax) (d : List ℕ) (from end limit : ℕ) where
       pub reached-service : Reached r
       reached-service = reached-at r (s .passed .onward) (omega arith) (omega arith)
 
+      pub extent-ends : stays (endingOf y false (getD d r 0)) ≡ false → record { end = r; length = r - from } ≡ extentOf y d from end
+      extent-ends f = reached-stop r reached-service h f
+
       pub extent-stop : (getD d r 0 ≡ y .release → ⊥) → record { end = r; length = r - from } ≡ extentOf y d from end
-      extent-stop n = reached-stop r reached-service h (service-ends y _ (s .here h) n)
+      extent-stop n = extent-ends (service-ends y _ (s .here h) n)
 
 -- what the answer says of the component that begins at the place a
 module _ (y : Syntax) (d : List ℕ) (a e : ℕ) (r : Extent) (h : r ≡ extentOf y d a e) where

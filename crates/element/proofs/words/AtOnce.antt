@@ -35,13 +35,16 @@ module _ (n : ℕ) (h : n ≤ 6) (scale : ℕ) (s : scale ≡ 1 * 2 ^ (8 * n) % 
       let k : 256 ^ n ≤ 256 ^ 6 = pow-le-pow-right (lit< tt) h in
       omega (arith, and-le-r w (scale - 1), s ∙ scale-is n h)
 
+  pub front-worth : (w : ℕ) → bitAnd w (scale - 1) + scale ≡ number n (byteOf w) + 256 ^ n
+  front-worth w = rw (s ∙ scale-is n h) (ap (λ (v : ℕ). v + 256 ^ n) (front-bytes n w))
+
   pub front-word
       : (y : Syntax) (w : ℕ) → ((k : ℕ) → k < 8 → byteOf (bitAnd w (scale - 1)) k ≡ y .release → ⊥) → FrontWord y w n (bitAnd w (scale - 1) + scale)
   front-word y w f =
       let q = s ∙ scale-is n h in
       let o : (k : ℕ) → k < n → byteOf (bitAnd w (scale - 1)) k ≡ byteOf w k = λ k l. rw q (front-byte n w k l) in
       record {
-        worth = λ _. rw q (ap (λ (v : ℕ). v + 256 ^ n) (front-bytes n w));
+        worth = λ _. front-worth w;
         plain = λ _ k l e. f k (omega arith) (o k l ∙ e);
       }
 
@@ -61,14 +64,14 @@ module _ (y : Syntax) (d : List ℕ) (e : ℕ) (h : e ≤ length d) where
       let l : number n (onFrom d (a + 1)) ≡ number n (λ k. onFrom d a (suc k)) = λ i. number n (λ k. q k i) in
       rw (decoded-byte y d a e (omega arith) h (unmarked y _ (rw z at (u 0 (omega arith)))), z, pow-suc 256 n) (omega arith, omega arith)
 
-  pub word-at-once
-      : (n a w r : ℕ) → a + n ≡ e → n ≤ 6 → a + 8 ≤ length d → ((k : ℕ) → getD d k 0 < 256) → w ≡ eightAt d a → FrontWord y w n r
-      → (r ≡ 0 → ⊥) → r ≡ wordOf (decoded y a e d)
-  unfolding wordOf
-  word-at-once n a w r p few there b v f s =
-      let q : (k : ℕ) → k < n → byteOf w k ≡ onFrom d a k = λ k l. ap (λ (v : ℕ). byteOf v k) v ∙ byte-there d a k there b (omega arith) in
-      let t = plain-bytes n a p (λ k l m. f .plain s k l (q k l ∙ m)) in
-      let o : length (decoded y a e d) ≤ 6 = omega arith in
-      f .worth s
-      ∙ ap (λ (v : ℕ). v + 256 ^ n) (number-like n (byteOf w) (onFrom d a) q)
-      ∙ sym (rw (le-leb (length (decoded y a e d)) 6 o) (t .1))
+  module _ (n a w : ℕ) (p : a + n ≡ e) (few : n ≤ 6) (there : a + 8 ≤ length d) (b : (k : ℕ) → getD d k 0 < 256) (v : w ≡ eightAt d a) where
+    pub word-plain : ((k : ℕ) → k < n → byteOf w k ≡ y .release → ⊥) → number n (byteOf w) + 256 ^ n ≡ wordOf (decoded y a e d)
+    unfolding wordOf
+    word-plain u =
+        let q : (k : ℕ) → k < n → byteOf w k ≡ onFrom d a k = λ k l. ap (λ (v : ℕ). byteOf v k) v ∙ byte-there d a k there b (omega arith) in
+        let t = plain-bytes n a p (λ k l m. u k l (q k l ∙ m)) in
+        let o : length (decoded y a e d) ≤ 6 = omega arith in
+        ap (λ (v : ℕ). v + 256 ^ n) (number-like n (byteOf w) (onFrom d a) q) ∙ sym (rw (le-leb (length (decoded y a e d)) 6 o) (t .1))
+
+    pub word-at-once : (r : ℕ) → FrontWord y w n r → (r ≡ 0 → ⊥) → r ≡ wordOf (decoded y a e d)
+    word-at-once r f s = f .worth s ∙ word-plain (f .plain s)

@@ -29,8 +29,8 @@ front-word-requires c κs = search needs
 returns-5 : tie.Need-returns-5
 returns-5 c =
     let known = c .before .before .before .before .before .before in
-    word-at-once _ _ _ (omega arith) _ _ _ _ (omega arith) (omega arith) (omega arith) (λ k. omega (arith, known .shared-slice-known .given k))
-    (c .before .eight-at .ensures) (c .front-word .ensures)
+    word-at-once _ _ _ (omega arith) _ _ _ (omega arith) (omega arith) (omega arith) (λ k. omega (arith, known .shared-slice-known .given k))
+    (c .before .eight-at .ensures) _ (c .front-word .ensures)
 
 pub word-at-once-spec : {M : Type 1} → statement M
 word-at-once-spec =
