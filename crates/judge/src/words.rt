@@ -55,6 +55,39 @@ pub(crate) fn tag_number(d: &[u8], start: usize, end: usize) -> u32
     pack(d, start, start + 3)
 }
 
+// The word of component 0 of element 1 where two words of eight bytes tell it: the tag has three bytes, and the component at most six, of which
+// none is the release character. 0 where they do not tell it.
+fn front_key(y: Syntax, d: &[u8], start: usize, end: usize) -> u64
+    ensures { λ r. ⌜ ((r ≡ 0 → ⊥) → r ≡ wordOf (viewOf y (part start end (now (d .entry))) .key 1 0)) ⌝ }
+{
+    let limit = element::limit_of(d, end);
+    if limit < 12 {
+        return 0;
+    }
+    if limit - 12 < start {
+        return 0;
+    }
+    if cut::first_of(element::services_in(y, cut::eight_at(d, start))) != 3 {
+        return 0;
+    }
+    if d[start + 3] != y.element {
+        return 0;
+    }
+    if y.terminator == y.element {
+        return 0;
+    }
+    let w = cut::eight_at(d, start + 4);
+    let n = cut::first_of(element::services_in(y, w));
+    if 6 < n {
+        return 0;
+    }
+    if d[start + 4 + n] == y.release {
+        return 0;
+    }
+    let scale = 1u64 << (8 * n);
+    (w & (scale - 1)) + scale
+}
+
 // A component of the segment, releases removed; 0 where it is longer than any code.
 pub(crate) fn key_number(
     y: Syntax,
@@ -66,6 +99,14 @@ pub(crate) fn key_number(
 ) -> u64
     ensures { λ r. ⌜ r ≡ wordOf (viewOf y (part start end (now (d .entry))) .key element component) ⌝ }
 {
+    if element == 1 {
+        if component == 0 {
+            let key = front_key(y, d, start, end);
+            if key != 0 {
+                return key;
+            }
+        }
+    }
     let span = element::component_at(y, d, start, end, element, component);
     element::word_of(y, d, span.start, span.end)
 }

@@ -1,8 +1,14 @@
--- `judge::words::key_number` meets its contract: the word of the component's place. Assumes nothing.
+-- `judge::words::key_number` meets its contract: the word that two words tell, or that of the component's place. Assumes nothing.
 use borrow.Author.Needs.{needs}
 use Rattle.judge.proofs.Packing.{key-word}
 use Rattle.judge.proofs.words.key_number.Statement.{statement}
 use Rattle.judge.proofs.words.key_number.Tie as tie
+
+front-key-requires : tie.Need-front-key-requires
+front-key-requires c κs = search needs
+
+returns : tie.Need-returns
+returns c = rw (c .before .before .before .if1 .taken, c .before .before .if2 .taken) (c .before .front-key .ensures (c .if3 .taken))
 
 component-at-requires : tie.Need-component-at-requires
 component-at-requires c κs = search needs
@@ -10,8 +16,10 @@ component-at-requires c κs = search needs
 word-of-requires : tie.Need-word-of-requires
 word-of-requires c κs = search needs
 
-returns : tie.Need-returns
-returns c = key-word _ _ _ _ _ _ _ (c .before .component-at .ensures) _ (c .word-of .ensures)
+returns-2 : tie.Need-returns-2
+returns-2 c = key-word _ _ _ _ _ _ _ (c .before .component-at .ensures) _ (c .word-of .ensures)
 
 pub key-number-spec : {M : Type 1} → statement M
-key-number-spec = tie.close (tie.spec component-at-requires word-of-requires returns)
+key-number-spec =
+    tie.close
+    (tie.spec front-key-requires returns component-at-requires word-of-requires returns-2)
