@@ -6,4 +6,5 @@ pub mod Packing
 pub mod Summing
 pub mod Limits
 pub mod ComponentFace
+pub mod MarkFace
 pub mod ComponentSamples

@@ -12,3 +12,4 @@ pub mod PageSteps
 pub mod PageResults
 pub mod PageScans
 pub mod PageMarks
+pub mod PageClean
