@@ -8,4 +8,5 @@ pub mod Limits
 pub mod Cuts
 pub mod FrontKeys
 pub mod ComponentFace
+pub mod MarkFace
 pub mod ComponentSamples

@@ -13,3 +13,4 @@ pub mod PageSteps
 pub mod PageResults
 pub mod PageScans
 pub mod PageMarks
+pub mod PageClean
