@@ -14,3 +14,4 @@ pub mod PageResults
 pub mod PageScans
 pub mod PageMarks
 pub mod PageClean
+pub mod ReadFaults

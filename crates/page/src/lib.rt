@@ -7,6 +7,7 @@ mod marks;
 mod pages;
 mod places;
 mod quick;
+mod reads;
 mod right;
 mod rows;
 mod scan;
@@ -14,3 +15,6 @@ mod words;
 
 pub use examining::examined;
 pub use places::Examined;
+pub use reads::Reading;
+pub use reads::bytes_fault;
+pub use reads::read;
