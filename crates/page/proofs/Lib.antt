@@ -15,3 +15,4 @@ pub mod PageScans
 pub mod PageMarks
 pub mod PageClean
 pub mod ReadFaults
+pub mod Readings
