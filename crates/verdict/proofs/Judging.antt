@@ -1,12 +1,14 @@
 -- The pass over a message's segments: what is left to judge gives the verdict of the whole.
 use Prim.Native.Nat.{ℕ, zero, suc, _+_, _-_, _^_, _≤_, _<_}
-use mathlib.Core.Path.{_≡_, refl, sym, _∙_, ap, ap₂}
+use mathlib.Core.Path.{_≡_, refl, sym, _∙_, ap, ap₂, subst}
 use mathlib.Core.Bool.{Bool, true, false, _||_}
 use mathlib.Core.List.{List, [], _∷_, map}
 use native.Mathlib.Omega.{arith}
 use lib.ListN.{length, replicate, length-replicate}
+use Rattle.cut.specs.declared.scan.Cut.the-variants as cut
 use Rattle.cut.specs.declared.service.Syntax.{Syntax}
 use Rattle.cut.specs.Bytes.{bytesOf, begins, part}
+use Rattle.cut.specs.Calls.{segmentAt}
 use Rattle.cut.specs.Segments.{Segment, endOf, segmentsFrom, segmentsAt}
 use Rattle.cut.specs.Held.{unless, held}
 use Rattle.cut.specs.Messages.{lastEnd}
@@ -17,7 +19,7 @@ use Rattle.element.proofs.ComponentFace.{decoded-none}
 use Rattle.guide.specs.Accepted.{seen}
 use Rattle.guide.specs.Answers.{Answer, placed, refused}
 use Rattle.guide.specs.Content.{text}
-use Rattle.guide.specs.Judging.{Memory, accepts, refuses, pickVerdict, fresh, bytesFault, contentFault, unlessFault, thenContent, thenPlace, segmentAnswer, remember, decide, judgeFrom}
+use Rattle.guide.specs.Judging.{Memory, accepts, refuses, pickVerdict, fresh, bytesFault, thenContent, segmentAnswer, remember, decide, judgeFrom}
 use Rattle.guide.specs.Placing.{countsAfter, lastAfter, place, given}
 use Rattle.guide.specs.Nodes.{numberOf}
 use Rattle.guide.specs.Editions.{guideOf, pagesOf}
@@ -29,6 +31,7 @@ use Rattle.agree.specs.AgreeArticles.{articlePrint, articlesIn, apartIn}
 use Rattle.agree.specs.AgreePositions.{positionsOf, firstAgreeing}
 use Rattle.agree.specs.declared.agree_first.Agreeing.the-variants.{Nothing}
 use Rattle.agree.proofs.AgreeApart.{articles-apart}
+use Rattle.page.specs.Reading.{segmentIn}
 use Rattle.verdict.specs.declared.answers.Judged.{Judged}
 use Rattle.verdict.specs.declared.answers.Verdict.{Verdict as Told}
 use Rattle.verdict.specs.declared.answers.Verdict.the-variants.{Refused}
@@ -39,8 +42,8 @@ use Rattle.verdict.specs.declared.segment.Answered.the-variants as outco
 use Rattle.verdict.specs.declared.segment.Found.{Found}
 use Rattle.verdict.specs.Answers.{declared, judgedAs}
 use Rattle.verdict.specs.Verdicts.{nodesOf, forIntervals, settled, verdictFrom}
-use Rattle.verdict.specs.Workers.{segmentIn, spanned, noted, isLin, foundAt, answered, keptFirst, printAt, doubtAfter, cameAfter, keptAfter, countsLeft, NoneAgrees, agreementAt, endedWith, closedBy, Closable}
-use Rattle.verdict.proofs.Answering.{answered-refused, answered-fits}
+use Rattle.verdict.specs.Workers.{spanned, noted, isLin, foundAt, answered, cutAnswer, placedAnswer, CountedOn, keptFirst, printAt, doubtAfter, cameAfter, keptAfter, NoneAgrees, agreementAt, endedWith, closedBy, Closable}
+use Rattle.verdict.proofs.Answering.{answered-refused, answered-fits, then-placed, place-placed}
 use Rattle.verdict.proofs.Noting.{still-apart}
 use Rattle.verdict.proofs.Remembering.{KeptAfter, kept-after}
 use Rattle.verdict.proofs.RoleTags.{role-lin}
@@ -64,27 +67,11 @@ module _ (ed : Edition) (y : Syntax) (i : ℕ) (m : Memory) (s : Segment) where
   abbrev sought : Answer
   sought = place (guideOf ed) (viewOf y (s .bytes)) (m .state .last) (m .state .counts)
 
-  no-content : (f k n : ℕ) → unlessFault y (guideOf ed) (pagesOf ed) f k ≡ placed n → k ≡ n
-  no-content zero k n h = cc
-  no-content (suc f) k n h =
-      let z : _≡_ {A = ℕ} 0 1 = cc in
-      absurd (omega arith)
-
-  then-placed : (a : Answer) (n : ℕ) → thenContent y (guideOf ed) (pagesOf ed) i m s a ≡ placed n → a ≡ placed n
-  then-placed (placed k) n h = ap placed (no-content (contentFault y (guideOf ed) (pagesOf ed) i m k s) k n h)
-  then-placed (refused k j) n h = h
-
-  place-placed : (f : ℕ) (a : Answer) (n : ℕ) → thenPlace y (guideOf ed) (pagesOf ed) f a ≡ placed n → (f ≡ 0) × (a ≡ placed n)
-  place-placed zero a n h = (refl, h)
-  place-placed (suc f) a n h =
-      let z : _≡_ {A = ℕ} 0 1 = cc in
-      absurd (omega arith)
-
   answer-placed : (n : ℕ) → segmentAnswer y (guideOf ed) (pagesOf ed) i m s ≡ placed n → (bytesFault y (guideOf ed) (pagesOf ed) s ≡ 0) × (sought ≡ placed n)
   unfolding segmentAnswer
   answer-placed n h =
-      let a = place-placed (bytesFault y (guideOf ed) (pagesOf ed) s) (thenContent y (guideOf ed) (pagesOf ed) i m s sought) n h in
-      (a .0, then-placed sought n (a .1))
+      let a = place-placed ed y (bytesFault y (guideOf ed) (pagesOf ed) s) (thenContent y (guideOf ed) (pagesOf ed) i m s sought) n h in
+      (a .0, then-placed ed y i m s sought n (a .1))
 
 module _ (ed : Edition) (y : Syntax) (d : List ℕ) (start : ℕ) where
   -- the message's segments
@@ -162,22 +149,18 @@ module _ (ed : Edition) (y : Syntax) (d : List ℕ) (start : ℕ) where
           × Closable y d start (walked.Fits k n at)
       all-fit h = (ap₂ judgedAs (ap declared is-ended) is-end, (h, none-agree))
 
-    -- the next segment, and the message's others after it
-    module _ (s e : ℕ) (piece : Bool) (q : Cutting y d at false s e piece) (rest : List Segment) (next : ss ≡ segmentIn at e piece d ∷ rest) where
+    -- the next segment, and the message's others after it, which its end tells
+    module _ (s e : ℕ) (piece : Bool) (q : Cutting y d at false s e piece) (cuts : segmentAt y d at ≡ cut.Segment s e piece)
+        (rest : ℕ → List Segment) (next : ss ≡ segmentIn at e piece d ∷ rest e) where
       abbrev here : Segment
       here = segmentIn at e piece d
 
       abbrev answer : Answer
       answer = segmentAnswer y (guideOf ed) (pagesOf ed) (suc n) (noted y k cs d) here
 
-      same-answer : segmentAnswer y (guideOf ed) (pagesOf ed) (n + 1) (noted y k cs d) (segmentIn s e piece d) ≡ answer
-      same-answer =
-          let z : n + 1 ≡ suc n = omega arith in
-          rw (z, q .starts)
-
       judged-here
           : decide y (guideOf ed) (pagesOf ed) (suc n) at answer
-          (judgeFrom y (guideOf ed) (pagesOf ed) (suc n) (endOf here) (remember y (guideOf ed) (pagesOf ed) answer here (noted y k cs d)) rest)
+          (judgeFrom y (guideOf ed) (pagesOf ed) (suc n) (endOf here) (remember y (guideOf ed) (pagesOf ed) answer here (noted y k cs d)) (rest e))
           ≡ judgeFrom y (guideOf ed) (pagesOf ed) 0 start fresh all
       unfolding judgeFrom
       judged-here = rw next at (p .judged)
@@ -188,61 +171,63 @@ module _ (ed : Edition) (y : Syntax) (d : List ℕ) (start : ℕ) where
           let h = q .some in
           rw l (omega arith)
 
-      more-closes : lastEnd e rest ≡ lastEnd start all
+      more-closes : lastEnd e (rest e) ≡ lastEnd start all
       unfolding lastEnd
-      more-closes = ap (λ (a : ℕ). lastEnd a rest) (sym ends) ∙ (rw next at (p .closes))
+      more-closes = ap (λ (a : ℕ). lastEnd a (rest e)) (sym ends) ∙ (rw next at (p .closes))
 
-      module _ (r : Answered) (is : r ≡ answered ed y d s e (segmentAnswer y (guideOf ed) (pagesOf ed) (n + 1) (noted y k cs d) (segmentIn s e piece d))) where
-        is-answer : r ≡ answered ed y d s e answer
-        is-answer = is ∙ ap (answered ed y d s e) same-answer
+      module _ (r : Answered) (is : r ≡ cutAnswer ed y d at (placedAnswer ed y d (n + 1) k cs) (segmentAt y d at)) where
+        is-answer : r ≡ answered ed y d at e answer
+        unfolding cutAnswer segmentAnswer
+        is-answer =
+            let z : n + 1 ≡ suc n = omega arith in
+            is ∙ rw (cuts, z)
 
         is-refused
-            : (j m : ℕ) → r ≡ outcome.Refused j m
-            → Refused j (n + 1) s (numberOf (guideOf ed) m) ≡ declared (verdictFrom y (guideOf ed) (pagesOf ed) start all)
+            : (j m : ℕ) → answer ≡ refused j m → Refused j (n + 1) at (numberOf (guideOf ed) m) ≡ declared (verdictFrom y (guideOf ed) (pagesOf ed) start all)
         unfolding verdictFrom settled
-        is-refused j m h =
-            let a : answer ≡ refused j m = answered-refused ed y d s e answer j m (sym is-answer ∙ h) in
+        is-refused j m a =
             let z : n + 1 ≡ suc n = omega arith in
-            rw (← judged-here, a, z, q .starts)
+            rw (← judged-here, a, z)
 
         pub passed-refused
-            : (j m : ℕ) → r ≡ outcome.Refused j m → (v : Told) → v ≡ Refused j (n + 1) s (numberOf (guideOf ed) m) → (c : ℕ) → c ≡ lastEnd e rest → (o : Judged)
+            : (j m t : ℕ) → r ≡ outcome.Refused j m t → (v : Told) → v ≡ Refused j (n + 1) at (numberOf (guideOf ed) m) → (c : ℕ) → c ≡ lastEnd t (rest t) → (o : Judged)
             → o ≡ judgedAs v c → o ≡ judgedAs (declared (verdictFrom y (guideOf ed) (pagesOf ed) start all)) (lastEnd start all)
-        passed-refused j m h v t c l o g = g ∙ ap₂ judgedAs (t ∙ is-refused j m h) (l ∙ more-closes)
+        passed-refused j m t h v u c l o g =
+            let a = answered-refused ed y d at e answer j m t (sym is-answer ∙ h) in
+            g ∙ ap₂ judgedAs (u ∙ is-refused j m (a .0)) (l ∙ ap (λ (x : ℕ). lastEnd x (rest x)) (sym (a .1)) ∙ more-closes)
 
-        module _ (f : Found) (taken : r ≡ outcome.Fits f) (cs′ t′ : List ℕ) (k′ : Kept) (keeps : k′ ≡ keptAfter y d t f k) (notes : t′ ≡ cameAfter y d t f k)
-            (left : cs′ ≡ countsLeft ed (bytesFault y (guideOf ed) (pagesOf ed) (segmentIn s e piece d)) (place (guideOf ed) (viewOf y (part s e d)) (k .last) cs) cs) where
+        module _ (f : Found) (u : ℕ) (taken : r ≡ outcome.Fits f u) (cs′ t′ : List ℕ) (k′ : Kept) (keeps : k′ ≡ keptAfter y d t f k) (notes : t′ ≡ cameAfter y d t f k)
+            (left : CountedOn ed r cs cs′) where
           abbrev m : ℕ
           m = f .node
 
-          fits : (answer ≡ placed m) × (f ≡ foundAt ed y d s e m)
-          fits = answered-fits ed y d s e answer f (sym is-answer ∙ taken)
+          fits : (answer ≡ placed m) × (f ≡ foundAt ed y d at e m) × (e ≡ u)
+          fits = answered-fits ed y d at e answer f u (sym is-answer ∙ taken)
 
           is-placed : answer ≡ placed m
           is-placed = fits .0
 
-          after-it : KeptAfter ed y d s e m k k′
-          after-it = kept-after ed y d t s e m k f (fits .1) k′ keeps
+          after-it : KeptAfter ed y d at e m k k′
+          after-it = kept-after ed y d t at e m k f (fits .1) k′ keeps
 
           sound : (bytesFault y (guideOf ed) (pagesOf ed) here ≡ 0) × (sought ed y (suc n) (noted y k cs d) here ≡ placed m)
           sound = answer-placed ed y (suc n) (noted y k cs d) here m is-placed
 
           is-left : cs′ ≡ countsAfter (guideOf ed) (placed m) cs
-          unfolding countsLeft
-          is-left = rw (q .starts, sound .0, sound .1) at left
+          is-left = left f u taken
 
           is-kept : remember y (guideOf ed) (pagesOf ed) (placed m) here (noted y k cs d) ≡ noted y k′ cs′ d
           unfolding lastAfter
-          is-kept = rw (← q .starts, is-left, after-it .last, after-it .positions, after-it .reference)
+          is-kept = rw (is-left, after-it .last, after-it .positions, after-it .reference)
 
-          more-judged : judgeFrom y (guideOf ed) (pagesOf ed) (suc n) e (noted y k′ cs′ d) rest ≡ judgeFrom y (guideOf ed) (pagesOf ed) 0 start fresh all
+          more-judged : judgeFrom y (guideOf ed) (pagesOf ed) (suc n) e (noted y k′ cs′ d) (rest e) ≡ judgeFrom y (guideOf ed) (pagesOf ed) 0 start fresh all
           more-judged =
-              ap₂ (λ (a : ℕ) (v : Memory). judgeFrom y (guideOf ed) (pagesOf ed) (suc n) a v rest) (sym ends) (sym is-kept) ∙ (rw is-placed at judged-here)
+              ap₂ (λ (a : ℕ) (v : Memory). judgeFrom y (guideOf ed) (pagesOf ed) (suc n) a v (rest e)) (sym ends) (sym is-kept) ∙ (rw is-placed at judged-here)
 
-          more-document : k′ .intervals || aheadFor rest k′ cs′ ≡ forIntervals y (guideOf ed) (nodesOf y (guideOf ed) all) all
+          more-document : k′ .intervals || aheadFor (rest e) k′ cs′ ≡ forIntervals y (guideOf ed) (nodesOf y (guideOf ed) all) all
           unfolding lastAfter given forIntervals
           more-document =
-              rw (after-it .intervals, after-it .last, is-left, q .starts)
+              rw (after-it .intervals, after-it .last, is-left)
               (sym (or-more (k .intervals) _ _) ∙ (rw (next, sound .1) at (p .document)))
 
           is-lin : begins (bytesOf "LIN") (here .bytes) ≡ isLin (f .role)
@@ -250,17 +235,17 @@ module _ (ed : Edition) (y : Syntax) (d : List ℕ) (start : ℕ) where
               given-begins ed y here (k .last) cs m (sound .1) (bytesOf "LIN") refl ∙ sym (ap (λ (x : Found). isLin (x .role)) (fits .1) ∙ role-lin ed m)
 
           prints : printAt y d f ≡ articlePrint (text y (here .bytes) 3 0)
-          prints = ap articlePrint (spanned-text y d s e 3 0 (f .third) (ap (λ (x : Found). x .third) (fits .1)) ∙ rw (q .starts))
+          prints = ap articlePrint (spanned-text y d at e 3 0 (f .third) (ap (λ (x : Found). x .third) (fits .1)))
 
-          more-apart : k′ .doubt ≡ false → apartIn t′ (articlesIn y rest) ≡ true → firstAgreeing y (positionsOf all) ≡ Nothing
+          more-apart : k′ .doubt ≡ false → apartIn t′ (articlesIn y (rest e)) ≡ true → firstAgreeing y (positionsOf all) ≡ Nothing
           unfolding doubtAfter cameAfter
           more-apart h j =
               let a =
-              still-apart y t here rest (printAt y d f) prints (isLin (f .role)) is-lin (k .intervals) (k .doubt) (sym (ap (λ (x : Kept). x .doubt) keeps) ∙ h) (rw notes at j) in
+              still-apart y t here (rest e) (printAt y d f) prints (isLin (f .role)) is-lin (k .intervals) (k .doubt) (sym (ap (λ (x : Kept). x .doubt) keeps) ∙ h) (rw notes at j) in
               p .apart (a .0) (rw next (a .1))
 
-          pub passed-on : Passed rest cs′ t′ k′ e (n + 1)
-          passed-on =
+          passed-here : Passed (rest e) cs′ t′ k′ e (n + 1)
+          passed-here =
               let z : n + 1 ≡ suc n = omega arith in
               let h = q .some in
               let f = q .fits in
@@ -276,6 +261,14 @@ module _ (ed : Edition) (y : Syntax) (d : List ℕ) (start : ℕ) where
                 short = omega arith;
                 lines = rw (after-it .positions) (omega arith);
               }
+
+          -- behind it, which is further on
+          pub passed-on : Passed (rest u) cs′ t′ k′ u (n + 1) × (at < u) × (u ≤ length d)
+          passed-on =
+              let h = q .some in
+              let f = q .fits in
+              let z = fits .2 in
+              (subst (λ (x : ℕ). Passed (rest x) cs′ t′ k′ x (n + 1)) z passed-here, omega arith, omega arith)
 
 -- a message whose UNT has been judged has no other segment; any other goes on with what its body takes
 module _ (ed : Edition) (y : Syntax) (d : List ℕ) (start : ℕ) (l : Bool) (ss : List Segment) (cs t : List ℕ) (k : Kept) (at n : ℕ)

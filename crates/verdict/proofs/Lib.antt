@@ -7,6 +7,7 @@ pub mod TagGiven
 pub mod Answering
 pub mod NodeSought
 pub mod Ends
+pub mod Upcoming
 pub mod Judging
 pub mod Intervals
 pub mod Accepting

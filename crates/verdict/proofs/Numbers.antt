@@ -1,5 +1,5 @@
 -- The faults of one segment, one law for each answer of the workers.
-use Prim.Native.Nat.{ℕ, zero, suc, _+_}
+use Prim.Native.Nat.{ℕ, suc, _+_}
 use mathlib.Core.Path.{_≡_, sym, _∙_, ap}
 use mathlib.Core.Bool.{Bool, true, false}
 use mathlib.Core.List.{List}
@@ -8,48 +8,20 @@ use lib.Dec.{eqb}
 use Rattle.cut.specs.declared.service.Syntax.{Syntax}
 use Rattle.cut.specs.Bytes.{part}
 use Rattle.cut.specs.Segments.{Segment}
-use Rattle.element.specs.Clean.{allowedBytes, taggedBytes}
-use Rattle.element.specs.Components.{componentAt}
 use Rattle.value.specs.Digits.{countOf}
 use Rattle.element.specs.Plain.{same}
 use Rattle.value.specs.declared.counts.Count.{Count}
 use Rattle.value.specs.declared.counts.Count.the-variants.{Is, Nothing}
-use Rattle.guide.specs.Choices.{orElse}
 use Rattle.guide.specs.Content.{text}
-use Rattle.guide.specs.Judging.{Memory, is, bytesFault, endFault, lineFault, contentFault}
+use Rattle.guide.specs.Judging.{Memory, is, endFault, lineFault, ruleFault, contentFault}
 use Rattle.guide.specs.PageFault.{pageFault}
 use Rattle.guide.specs.Editions.{guideOf, pagesOf}
 use Rattle.guide.specs.declared.edition.Edition.{Edition}
-use Rattle.page.specs.Examined.{examinedBy, examinedOf}
-use Rattle.page.specs.declared.places.Examined.{Examined}
-use Rattle.page.proofs.PageResults.{result-fault}
+use Rattle.page.specs.Reading.{segmentIn}
 use Rattle.verdict.specs.declared.roles.Role.{Role}
 use Rattle.verdict.specs.declared.roles.Role.the-variants.{Lin, Unt}
 use Rattle.verdict.specs.Workers.{roleOf, isLin, isUnt, ruleBy}
 use Rattle.verdict.proofs.RoleTags.{role-rule}
-
--- 12, 10, 11
-module _ (ed : Edition) (y : Syntax) (s : Segment) where
-  abbrev bytes : ℕ
-  bytes = bytesFault y (guideOf ed) (pagesOf ed) s
-
-  pub piece-fault : s .piece ≡ true → 12 ≡ bytes
-  unfolding bytesFault
-  piece-fault p = rw p
-
-  module _ (whole : s .piece ≡ false) (a : Bool) (allowed : a ≡ allowedBytes (s .bytes)) where
-    pub byte-fault : a ≡ false → 10 ≡ bytes
-    unfolding bytesFault
-    byte-fault h = rw (whole, ← allowed, h)
-
-    module _ (clean : a ≡ true) (t : Bool) (tagged : t ≡ taggedBytes y (s .bytes)) where
-      pub tag-fault : t ≡ false → 11 ≡ bytes
-      unfolding bytesFault
-      tag-fault h = rw (whole, ← allowed, clean, ← tagged, h)
-
-      pub no-bytes-fault : t ≡ true → 0 ≡ bytes
-      unfolding bytesFault
-      no-bytes-fault h = rw (whole, ← allowed, clean, ← tagged, h)
 
 -- a component as a count
 module _ (n : ℕ) (t : List ℕ) (k : Count) (counted : k ≡ countOf t) where
@@ -105,35 +77,10 @@ module _ (ed : Edition) (y : Syntax) (i : ℕ) (m : Memory) (role : Role) (s : S
   unfolding ruleBy
   no-rule u l = rw (u, l)
 
--- the page: the fault of the components, or where two of them stand
-module _ (ed : Edition) (y : Syntax) (d : List ℕ) (start end n : ℕ) (p : Examined) (page : p ≡ examinedOf y (pagesOf ed n) d start end) where
-  pub page-fault : p .fault ≡ pageFault y (pagesOf ed n) (part start end d)
-  page-fault = ap (λ (q : Examined). q .fault) page ∙ result-fault y (pagesOf ed n) d start end
-
-  module _ (none : p .fault ≡ 0) where
-    no-fault : pageFault y (pagesOf ed n) (part start end d) ≡ 0
-    no-fault = sym page-fault ∙ none
-
-    pub page-first : p .first ≡ componentAt y d start end 1 0
-    unfolding examinedOf examinedBy
-    page-first = ap (λ (q : Examined). q .first) page ∙ rw no-fault
-
-    pub page-third : p .third ≡ componentAt y d start end 3 0
-    unfolding examinedOf examinedBy
-    page-third = ap (λ (q : Examined). q .third) page ∙ rw no-fault
-
--- the components, and then 21 or 22
-module _ (ed : Edition) (y : Syntax) (i : ℕ) (m : Memory) (n : ℕ) (s : Segment) where
-  before-rule : (f p r : ℕ) → f ≡ p → (f ≡ 0 → ⊥) → f ≡ orElse p r
-  before-rule f zero r h k = absurd (k h)
-  before-rule f (suc p) r h k = h
-
-  pub content-page : (f : ℕ) → f ≡ pageFault y ((pagesOf ed) n) (s .bytes) → (f ≡ 0 → ⊥) → f ≡ contentFault y (guideOf ed) (pagesOf ed) i m n s
-  unfolding contentFault
-  content-page f h k = before-rule f _ _ h k
-
-  pub content-rule
-      : (f : ℕ) → f ≡ pageFault y ((pagesOf ed) n) (s .bytes) → f ≡ 0 → (role : Role) → role ≡ roleOf ed n → (r : ℕ) → r ≡ ruleBy ed y i m role s
-      → r ≡ contentFault y (guideOf ed) (pagesOf ed) i m n s
-  unfolding contentFault
-  content-rule f h k role o r e = rw (← h, k) (e ∙ rw o (role-rule ed n y i m s))
+-- 21 or 22 of a segment whose components have no fault; that it is no piece says nothing here
+pub content-rule
+    : (ed : Edition) (y : Syntax) (i : ℕ) (m : Memory) (n a e : ℕ) (p : Bool) (d : List ℕ) → pageFault y (pagesOf ed n) (part a e d) ≡ 0
+    → (role : Role) → role ≡ roleOf ed n → (r : ℕ) → r ≡ ruleBy ed y i m role (segmentIn a e false d)
+    → r ≡ contentFault y (guideOf ed) (pagesOf ed) i m n (segmentIn a e p d)
+unfolding contentFault ruleFault endFault lineFault
+content-rule ed y i m n a e p d none role o r h = rw none (h ∙ rw o (role-rule ed n y i m (segmentIn a e false d)))

@@ -1,9 +1,10 @@
 -- What a segment is to the rules of a message: one law for each answer of the worker, and what a role says of the node's tag.
-use Prim.Native.Nat.{ℕ}
+use Prim.Native.Nat.{ℕ, zero, suc}
 use mathlib.Core.Path.{_≡_, refl, sym}
-use mathlib.Core.Bool.{Bool, true, false, not}
-use mathlib.Core.List.{List}
-use lib.Dec.{T}
+use mathlib.Core.Bool.{Bool, true, false, not, _&&_, _||_, false≢true}
+use mathlib.Core.List.{List, [], _∷_}
+use lib.Dec.{T, eqb}
+use borrow.Author.Tests.{ne-eqb}
 use denote.Enum.Declared.{tagOf}
 use mir.Val.{hasKey}
 use types.Run.{OneOf, miss}
@@ -14,6 +15,7 @@ use Rattle.element.specs.Plain.{same}
 use Rattle.element.proofs.ComponentFace.{same-true}
 use Rattle.guide.specs.Judging.{Memory, ruleFault}
 use Rattle.guide.specs.Editions.{guideOf, pagesOf}
+use Rattle.guide.specs.Nodes.{Node, Guide, node}
 use Rattle.guide.specs.declared.edition.Edition.{Edition}
 use Rattle.guide.specs.Sheet.{isTag}
 use Rattle.verdict.specs.declared.roles.Role.{Role}
@@ -21,30 +23,52 @@ use Rattle.verdict.specs.declared.roles.Role.the-variants.{Lin, Unt, Unh
 use Rattle.verdict.specs.Workers.{pickRole, roleOf, isLin, isUnt, isUnh, isBgm, ruleBy}
 use Rattle.verdict.proofs.roles.Role.{the-type}
 
--- the worker's answers
-module _ (ed : Edition) (n : ℕ) (l : Bool) (lin : l ≡ isTag (guideOf ed) (bytesOf "LIN") n) where
-  pub is-lin : l ≡ true → Lin ≡ roleOf ed n
-  unfolding roleOf
-  is-lin h = rw (← lin, h)
+and-first : (a b : Bool) → a && b ≡ true → a ≡ true
+and-first true b h = refl
+and-first false b h = h
 
-  module _ (no-lin : l ≡ false) (t : Bool) (unt : t ≡ isTag (guideOf ed) (bytesOf "UNT") n) where
-    pub is-unt : t ≡ true → Unt ≡ roleOf ed n
-    unfolding roleOf
-    is-unt h = rw (← lin, no-lin, ← unt, h)
+pub and-second : (a b : Bool) → a && b ≡ true → b ≡ true
+and-second true b h = h
+and-second false b h = absurd (false≢true h)
 
-    module _ (no-unt : t ≡ false) (u : Bool) (unh : u ≡ isTag (guideOf ed) (bytesOf "UNH") n) where
-      pub is-unh : u ≡ true → Unh ≡ roleOf ed n
-      unfolding roleOf
-      is-unh h = rw (← lin, no-lin, ← unt, no-unt, ← unh, h)
+-- whether a row has none of the four tags
+abbrev bare : Node → Bool
+bare x =
+    not (same (x .tag) (bytesOf "LIN")) && (not (same (x .tag) (bytesOf "UNT")) && (not (same (x .tag) (bytesOf "UNH")) && not (same (x .tag) (bytesOf "BGM"))))
 
-      module _ (no-unh : u ≡ false) (b : Bool) (bgm : b ≡ isTag (guideOf ed) (bytesOf "BGM") n) where
-        pub is-bgm : b ≡ true → Bgm ≡ roleOf ed n
-        unfolding roleOf
-        is-bgm h = rw (← lin, no-lin, ← unt, no-unt, ← unh, no-unh, ← bgm, h)
+-- whether all rows have none but those at the numbers that are told
+abbrev bareBut : (ℕ → Bool) → Guide → Bool
+bareBut told [] = true
+bareBut told (x ∷ xs) = (told 0 || bare x) && bareBut (λ n. told (suc n)) xs
 
-        pub is-other : b ≡ false → Other ≡ roleOf ed n
-        unfolding roleOf
-        is-other h = rw (← lin, no-lin, ← unt, no-unt, ← unh, no-unh, ← bgm, h)
+bare-at : (told : ℕ → Bool) (g : Guide) (n : ℕ) → bareBut told g ≡ true → told n ≡ false → bare (node g n) ≡ true
+unfolding same
+bare-at told [] n h k = refl
+bare-at told (x ∷ xs) zero h k = rw k at (and-first (told 0 || bare x) _ h)
+bare-at told (x ∷ xs) (suc n) h k = bare-at (λ m. told (suc m)) xs n (and-second (told 0 || bare x) _ h) k
+
+-- the worker's answers: a row that has none of the tags is none of the four
+bare-picked : (l t u b : Bool) → not l && (not t && (not u && not b)) ≡ true → Other ≡ pickRole l Lin (pickRole t Unt (pickRole u Unh (pickRole b Bgm Other)))
+bare-picked true t u b h = absurd (false≢true h)
+bare-picked false true u b h = absurd (false≢true h)
+bare-picked false false true b h = absurd (false≢true h)
+bare-picked false false false true h = absurd (false≢true h)
+bare-picked false false false false h = refl
+
+is-other : (ed : Edition) (n : ℕ) → bare (node (guideOf ed) n) ≡ true → Other ≡ roleOf ed n
+unfolding roleOf isTag
+is-other ed n h =
+    bare-picked (isTag (guideOf ed) (bytesOf "LIN") n) (isTag (guideOf ed) (bytesOf "UNT") n) (isTag (guideOf ed) (bytesOf "UNH") n) (isTag (guideOf ed) (bytesOf "BGM") n) h
+
+-- n is none of five numbers, as the last arm of a match has it
+module _ (a b c e f n : ℕ) (none : (((((Unit {0} × (n ≡ a → ⊥)) × (n ≡ b → ⊥)) × (n ≡ c → ⊥)) × (n ≡ e → ⊥)) × (n ≡ f → ⊥))) where
+  abbrev oneOf : ℕ → Bool
+  oneOf m = eqb m a || (eqb m b || (eqb m c || (eqb m e || eqb m f)))
+
+  pub other-by : (ed : Edition) → bareBut oneOf (guideOf ed) ≡ true → Other ≡ roleOf ed n
+  other-by ed t =
+      let k : oneOf n ≡ false = rw (ne-eqb n a (none .0 .0 .0 .0 .1), ne-eqb n b (none .0 .0 .0 .1), ne-eqb n c (none .0 .0 .1), ne-eqb n e (none .0 .1), ne-eqb n f (none .1)) in
+      is-other ed n (bare-at oneOf (guideOf ed) n t k)
 
 -- a role among those of an arm of a match, which are told by their places in the enum
 module _ (ks : List ℕ) where

@@ -1,8 +1,10 @@
 -- What the crate's own workers promise each other; no public call cites these.
-use Prim.Native.Nat.{ℕ, zero, suc, _+_, _<_, _^_}
+use Prim.Native.Nat.{ℕ, suc, _+_, _<_, _^_}
 use mathlib.Core.Path.{_≡_}
 use mathlib.Core.Bool.{Bool, true, false, cond, not, _&&_, _||_}
 use mathlib.Core.List.{List}
+use Rattle.cut.specs.declared.scan.Cut.{Cut}
+use Rattle.cut.specs.declared.scan.Cut.the-variants as cut
 use Rattle.cut.specs.declared.service.Syntax.{Syntax}
 use Rattle.cut.specs.Bytes.{bytesOf, part}
 use Rattle.cut.specs.Segments.{Segment, segmentsFrom}
@@ -11,12 +13,14 @@ use Rattle.element.specs.Plain.{decoded, same}
 use Rattle.element.specs.declared.components.Span.{Span}
 use Rattle.guide.specs.Answers.{Answer, placed, refused}
 use Rattle.guide.specs.Choices.{pickℕ}
-use Rattle.guide.specs.Judging.{Memory, Verdict, accepts, refuses, pickVerdict, endFault, lineFault}
-use Rattle.guide.specs.Placing.{countsAfter}
+use Rattle.guide.specs.Judging.{Memory, Verdict, accepts, refuses, pickVerdict, bytesFault, endFault, lineFault, thenContent, thenPlace}
+use Rattle.guide.specs.Placing.{place, countsAfter}
+use Rattle.guide.specs.Views.{viewOf}
 use Rattle.guide.specs.Editions.{guideOf, pagesOf}
 use Rattle.guide.specs.declared.edition.Edition.{Edition}
 use Rattle.guide.specs.Sheet.{isTag}
 use Rattle.guide.specs.Tree.{one}
+use Rattle.page.specs.Reading.{segmentIn}
 use Rattle.agree.specs.AgreeArticles.{articlePrint}
 use Rattle.agree.specs.AgreeMarks.{markedIn, markIn}
 use Rattle.agree.specs.AgreePositions.{positionsOf, firstAgreeing}
@@ -32,10 +36,6 @@ use Rattle.verdict.specs.declared.segment.Answered.the-variants.{Fits, R
 use Rattle.verdict.specs.declared.segment.Found.{Found}
 use Rattle.verdict.specs.Answers.{declared, judgedAs}
 use Rattle.verdict.specs.Verdicts.{unlessAgreeing}
-
--- the segment from a place up to another
-abbrev pub segmentIn : ℕ → ℕ → Bool → List ℕ → Segment
-segmentIn a e p d = record { start = a; bytes = part a e d; piece = p }
 
 -- the bytes of a span, releases removed
 unfoldable pub spanned : Syntax → Span → List ℕ → List ℕ
@@ -101,10 +101,26 @@ ruleBy ed y i m r s =
 abbrev pub foundAt : Edition → Syntax → List ℕ → ℕ → ℕ → ℕ → Found
 foundAt ed y d a e n = record { node = n; role = roleOf ed n; first = componentAt y d a e 1 0; third = componentAt y d a e 3 0 }
 
--- the answer for that segment: its node, with what goes with it, or the refusal
+-- the answer for that segment: its node, with what goes with it, or the refusal; and its end
 unfoldable pub answered : Edition → Syntax → List ℕ → ℕ → ℕ → Answer → Answered
-answered ed y d a e (placed n) = Fits (foundAt ed y d a e n)
-answered ed y d a e (refused k n) = Refused k n
+answered ed y d a e (placed n) = Fits (foundAt ed y d a e n) e
+answered ed y d a e (refused k n) = Refused k n e
+
+-- the answer for the segment that is cut at a place: 12, 10 or 11, or what f says of it; without a byte it is 12
+unfoldable pub cutAnswer : Edition → Syntax → List ℕ → ℕ → (Segment → Answer) → Cut → Answered
+cutAnswer ed y d a f cut.Nothing = Refused 12 0 a
+cutAnswer ed y d a f (cut.Segment s e p) =
+    answered ed y d a e
+    (thenPlace y (guideOf ed) (pagesOf ed) (bytesFault y (guideOf ed) (pagesOf ed) (segmentIn a e p d)) (f (segmentIn a e p d)))
+
+-- what comes of segment i without a fault of its bytes: placing, and then its components and the rules; the counts are cs
+abbrev pub placedAnswer : Edition → Syntax → List ℕ → ℕ → Kept → List ℕ → Segment → Answer
+placedAnswer ed y d i k cs s =
+    thenContent y (guideOf ed) (pagesOf ed) i (noted y k cs d) s (place (guideOf ed) (viewOf y (s .bytes)) (k .last) cs)
+
+-- where a segment fits, the counts cs before it have become cs′
+abbrev pub CountedOn : Edition → Answered → List ℕ → List ℕ → Type 0
+CountedOn ed r cs cs′ = (f : Found) (e : ℕ) → r ≡ Fits f e → cs′ ≡ countsAfter (guideOf ed) (placed (f .node)) cs
 
 abbrev pub pickSpan : Bool → Span → Span → Span
 pickSpan true s t = s
@@ -139,11 +155,6 @@ keptAfter y d t s k =
       intervals = k .intervals || (isBgm (s .role) && same (spanned y (s .first) d) (bytesOf "Z04"));
       doubt = doubtAfter y d t s k;
     }
-
--- the counts that a segment leaves: a fault of its bytes leaves them as they are
-unfoldable pub countsLeft : Edition → ℕ → Answer → List ℕ → List ℕ
-countsLeft ed zero a cs = countsAfter (guideOf ed) a cs
-countsLeft ed (suc k) a cs = cs
 
 -- no position agrees with an earlier one, among the segments from `start` up to `at`
 abbrev pub NoneAgrees : Syntax → List ℕ → ℕ → ℕ → Type 0

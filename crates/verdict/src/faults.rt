@@ -1,12 +1,10 @@
-// The faults of one segment that are not placing's: 12, 10, 11 before it, and the components, 21 and 22 after it.
+// The faults of one segment behind those of its components: 21 and 22.
 use crate::kept::Kept;
 use crate::roles::Role;
 use cut::Syntax;
 use element::Span;
-use element::allowed;
 use element::component_at;
 use element::same_plain;
-use element::tagged;
 use guide::Edition;
 use value::Count;
 use value::count_of;
@@ -17,32 +15,10 @@ ghost use mathlib.Core.List.{[]};
 ghost use Rattle.cut.specs.Bytes.{part};
 ghost use Rattle.value.specs.Digits.{countOf};
 ghost use Rattle.guide.specs.Content.{text};
-ghost use Rattle.guide.specs.Judging.{is, bytesFault, endFault};
+ghost use Rattle.guide.specs.Judging.{is, endFault};
 ghost use Rattle.guide.specs.Editions.{guideOf, pagesOf};
-ghost use Rattle.verdict.specs.Workers.{segmentIn, spanned, noted, ruleBy};
-
-// 12, 10, 11, in this order; 0 if none.
-pub(crate) fn bytes_fault(
-    y: Syntax,
-    edition: Edition,
-    d: &[u8],
-    start: usize,
-    end: usize,
-    piece: bool,
-) -> u32
-    ensures { λ r. ⌜ r ≡ bytesFault y (guideOf edition) (pagesOf edition) (segmentIn start end piece (now (d .entry))) ⌝ }
-{
-    if piece {
-        return 12;
-    }
-    if !allowed(d, start, end) {
-        return 10;
-    }
-    if !tagged(y, d, start, end) {
-        return 11;
-    }
-    0
-}
+ghost use Rattle.page.specs.Reading.{segmentIn};
+ghost use Rattle.verdict.specs.Workers.{spanned, noted, ruleBy};
 
 // Whether the component `first` is the count n.
 fn is_numbered(y: Syntax, d: &[u8], first: Span, n: usize) -> bool

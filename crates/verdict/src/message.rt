@@ -9,9 +9,9 @@ use crate::kept::begun;
 use crate::kept::keep;
 use crate::segment::Answered;
 use crate::segment::segment_answer;
-use cut::Member;
+use cut::Head;
 use cut::Syntax;
-use cut::member_at;
+use cut::head_at;
 use cut::message_end;
 use guide::Edition;
 use judge::number_of;
@@ -78,24 +78,21 @@ fn walk(y: Syntax, edition: Edition, d: &[u8], start: usize) -> Walked
     let mut n = 0;
     let mut first = true;
     loop {
-        let s = member_at(y, d, at, first);
-        let Member::Segment {
-            start: place,
-            end,
-            piece,
-            last,
-        } = s
-        else {
+        let s = head_at(y, d, at, first);
+        let Head::Inside { last } = s else {
             return Walked::Fits(kept, n, at);
         };
-        let answer = segment_answer(y, edition, d, place, end, piece, n + 1, kept, &mut counts);
-        match answer {
-            Answered::Fits(found) => kept = keep(y, d, found, kept, &mut came),
-            Answered::Refused { number, node } => {
-                let verdict = refused(edition, number, n + 1, place, node);
+        let answer = segment_answer(y, edition, d, at, n + 1, kept, &mut counts);
+        let end = match answer {
+            Answered::Fits(found, end) => {
+                kept = keep(y, d, found, kept, &mut came);
+                end
+            }
+            Answered::Refused { number, node, end } => {
+                let verdict = refused(edition, number, n + 1, at, node);
                 return Walked::Refused(with_end(verdict, close_of(y, d, end, last)));
             }
-        }
+        };
         n += 1;
         at = end;
         if last {

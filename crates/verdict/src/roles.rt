@@ -1,7 +1,7 @@
 // What a segment is to the rules of a message.
 use guide::Edition;
-use judge::has_tag;
 ghost use mathlib.Core.Path.{_≡_};
+ghost use Rattle.guide.specs.declared.edition.Edition.the-variants.{D, C};
 ghost use Rattle.verdict.specs.Workers.{roleOf};
 
 // By the tag of its node: LIN is numbered, UNT has the count and the reference of UNH, and BGM says whether positions are compared.
@@ -16,17 +16,34 @@ pub enum Role {
 pub(crate) fn role_of(edition: Edition, n: usize) -> Role
     ensures { λ r. ⌜ r ≡ roleOf edition n ⌝ }
 {
-    if has_tag(edition, n, b'L', b'I', b'N') {
-        return Role::Lin;
+    match edition {
+        Edition::D => role_20d(n),
+        Edition::C => role_20c(n),
     }
-    if has_tag(edition, n, b'U', b'N', b'T') {
-        return Role::Unt;
+}
+
+fn role_20d(n: usize) -> Role
+    ensures { λ r. ⌜ r ≡ roleOf D n ⌝ }
+{
+    match n {
+        1 => Role::Unh,
+        2 => Role::Bgm,
+        16 => Role::Lin,
+        23 => Role::Lin,
+        26 => Role::Unt,
+        _ => Role::Other,
     }
-    if has_tag(edition, n, b'U', b'N', b'H') {
-        return Role::Unh;
+}
+
+fn role_20c(n: usize) -> Role
+    ensures { λ r. ⌜ r ≡ roleOf C n ⌝ }
+{
+    match n {
+        1 => Role::Unh,
+        2 => Role::Bgm,
+        15 => Role::Lin,
+        21 => Role::Lin,
+        24 => Role::Unt,
+        _ => Role::Other,
     }
-    if has_tag(edition, n, b'B', b'G', b'M') {
-        return Role::Bgm;
-    }
-    Role::Other
 }

@@ -1,25 +1,28 @@
 // What comes of one segment: its node, or its first fault in the order 12, 10, 11, 13, 15 or 16 or 25, 14, components, 21 or 22.
-use crate::faults::bytes_fault;
 use crate::faults::rule_fault;
 use crate::kept::Kept;
 use crate::roles::Role;
 use crate::roles::role_of;
+use cut::Cut;
 use cut::Syntax;
+use cut::segment_at;
 use element::Span;
 use guide::Edition;
 use judge::Placed;
 use judge::place;
-use page::examined;
+use page::bytes_fault;
+use page::read;
 ghost use Prim.Native.Nat.{suc, _<_, _^_};
-ghost use mathlib.Core.Bool.{false};
 ghost use mathlib.Core.List.{[]};
 ghost use mathlib.Core.Path.{_≡_};
-ghost use Rattle.cut.specs.Bytes.{part};
-ghost use Rattle.guide.specs.Judging.{bytesFault, contentFault, unlessFault, segmentAnswer};
-ghost use Rattle.guide.specs.Placing.{place as placeIn};
-ghost use Rattle.guide.specs.Views.{viewOf};
+ghost use lib.Dec.{ltb};
+ghost use Rattle.cut.specs.Calls.{segmentAt};
+ghost use Rattle.guide.specs.Answers.{placed, refused};
+ghost use Rattle.guide.specs.Choices.{pickℕ};
+ghost use Rattle.guide.specs.Judging.{thenContent};
 ghost use Rattle.guide.specs.Editions.{guideOf, pagesOf};
-ghost use Rattle.verdict.specs.Workers.{segmentIn, noted, answered, countsLeft};
+ghost use Rattle.verdict.specs.declared.segment.Answered.the-variants.{Refused};
+ghost use Rattle.verdict.specs.Workers.{noted, cutAnswer, placedAnswer, CountedOn};
 
 // A segment that is placed: its node, what that is to the rules of a message, and where the first component behind the tag stands and the first of
 // element 3.
@@ -30,30 +33,34 @@ pub struct Found {
     pub third: Span,
 }
 
-// What comes of a segment.
+// What comes of a segment, and the byte after it.
 pub enum Answered {
-    Fits(Found),
-    Refused { number: u32, node: usize },
+    Fits(Found, usize),
+    Refused {
+        number: u32,
+        node: usize,
+        end: usize,
+    },
 }
 
-// Segment i, from start to end, once it has the node n: the fault of its components, and then 21 or 22.
+// Segment i, which begins at start, once it has the node n: the fault of its bytes, of its components, and then 21 or 22.
 fn content_answer(
     y: Syntax,
     edition: Edition,
     d: &[u8],
     start: usize,
-    end: usize,
     i: usize,
     n: usize,
     kept: Kept,
 ) -> Answered
     requires { ⌜ suc (kept .positions) < 2 ^ 64 ⌝ }
-    ensures { λ r. ⌜ r ≡ answered edition y (now (d .entry)) start end (unlessFault y (guideOf edition) (pagesOf edition) (contentFault y (guideOf edition) (pagesOf edition) i (noted y kept [] (now (d .entry))) n (segmentIn start end false (now (d .entry)))) n) ⌝ }
+    ensures { λ r. ⌜ r ≡ cutAnswer edition y (now (d .entry)) start (λ s. thenContent y (guideOf edition) (pagesOf edition) i (noted y kept [] (now (d .entry))) s (placed n)) (segmentAt y (now (d .entry)) start) ⌝ }
 {
-    let page = examined(y, edition, n, d, start, end);
-    let number = page.fault;
+    let page = read(y, edition, n, d, start);
+    let number = page.number;
+    let end = page.end;
     if number != 0 {
-        return Answered::Refused { number, node: n };
+        return page_refused(number, n, end);
     }
     let first = page.first;
     let third = page.third;
@@ -63,39 +70,84 @@ fn content_answer(
         return Answered::Refused {
             number: wrong,
             node: n,
+            end,
         };
     }
-    Answered::Fits(Found {
-        node: n,
-        role,
-        first,
-        third,
-    })
+    Answered::Fits(
+        Found {
+            node: n,
+            role,
+            first,
+            third,
+        },
+        end,
+    )
 }
 
-// Segment i, from start to end; `counts` are those of placing.
+// The fault that was read of the segment up to `end`: for 10, 11 and 12 no node is named.
+fn page_refused(number: u32, n: usize, end: usize) -> Answered
+    ensures { λ r. ⌜ r ≡ Refused number (pickℕ (ltb number 13) 0 n) end ⌝ }
+{
+    if number < 13 {
+        return Answered::Refused {
+            number,
+            node: 0,
+            end,
+        };
+    }
+    Answered::Refused {
+        number,
+        node: n,
+        end,
+    }
+}
+
+// The segment that begins at `at`, which placing refuses: 12, 10 and 11 come before that.
+fn misplaced(y: Syntax, edition: Edition, d: &[u8], at: usize, number: u32, node: usize) -> Answered
+    ensures { λ r. ⌜ r ≡ cutAnswer edition y (now (d .entry)) at (λ _. refused number node) (segmentAt y (now (d .entry)) at) ⌝ }
+{
+    let s = segment_at(y, d, at);
+    let Cut::Segment {
+        start: _,
+        end,
+        piece,
+    } = s
+    else {
+        return Answered::Refused {
+            number: 12,
+            node: 0,
+            end: at,
+        };
+    };
+    let fault = bytes_fault(y, edition, d, at, end, piece);
+    if fault != 0 {
+        return Answered::Refused {
+            number: fault,
+            node: 0,
+            end,
+        };
+    }
+    Answered::Refused { number, node, end }
+}
+
+// Segment i, which begins at start; `counts` are those of placing, after it only where it fits. It is placed before its end is looked for: where its bytes
+// have no fault, what follows it makes no difference to its node.
 pub(crate) fn segment_answer(
     y: Syntax,
     edition: Edition,
     d: &[u8],
     start: usize,
-    end: usize,
-    piece: bool,
     i: usize,
     kept: Kept,
     counts: &mut [u32; 96],
 ) -> Answered
     requires { ⌜ suc (kept .positions) < 2 ^ 64 ⌝ }
-    ensures { λ r. ⌜ r ≡ answered edition y (now (d .entry)) start end (segmentAnswer y (guideOf edition) (pagesOf edition) i (noted y kept (now (counts .entry)) (now (d .entry))) (segmentIn start end piece (now (d .entry)))) ⌝ }
-    ensures { λ _. ⌜ now (counts .exit) ≡ countsLeft edition (bytesFault y (guideOf edition) (pagesOf edition) (segmentIn start end piece (now (d .entry)))) (placeIn (guideOf edition) (viewOf y (part start end (now (d .entry)))) (kept .last) (now (counts .entry))) (now (counts .entry)) ⌝ }
+    ensures { λ r. ⌜ r ≡ cutAnswer edition y (now (d .entry)) start (placedAnswer edition y (now (d .entry)) i kept (now (counts .entry))) (segmentAt y (now (d .entry)) start) ⌝ }
+    ensures { λ r. ⌜ CountedOn edition r (now (counts .entry)) (now (counts .exit)) ⌝ }
 {
-    let number = bytes_fault(y, edition, d, start, end, piece);
-    if number != 0 {
-        return Answered::Refused { number, node: 0 };
-    }
-    let placed = place(y, edition, d, start, end, kept.last, counts);
-    match placed {
-        Placed::At(n) => content_answer(y, edition, d, start, end, i, n, kept),
-        Placed::Refused { number, node } => Answered::Refused { number, node },
+    let answer = place(y, edition, d, start, d.len(), kept.last, counts);
+    match answer {
+        Placed::At(n) => content_answer(y, edition, d, start, i, n, kept),
+        Placed::Refused { number, node } => misplaced(y, edition, d, start, number, node),
     }
 }

@@ -1,13 +1,14 @@
 -- `verdict::message::walk` meets its contract. The loop's invariant: `Passed`.
-use Prim.Native.Nat.{_+_, _-_}
+use Prim.Native.Nat.{ℕ, _+_, _-_, _≤_, _<_}
 use mathlib.Core.Path.{sym, _∙_}
+use mathlib.Core.List.{List}
 use native.Mathlib.Omega.{arith}
 use lib.ListN.{length}
 use Rattle.cut.specs.Held.{unless, members}
 use Rattle.cut.specs.Messages.{body}
-use Rattle.cut.proofs.Holding.{Taken, taken, no-member}
-use Rattle.cut.specs.Segments.{segmentsAt}
+use Rattle.cut.specs.Segments.{Segment, segmentsAt}
 use Rattle.verdict.proofs.Judging.{Passed, passed-first, all-fit, passed-refused, passed-on, none-left, passed-more}
+use Rattle.verdict.proofs.Upcoming.{Upcoming, upcoming, no-upcoming}
 use borrow.Author.Needs.{needs}
 use Rattle.verdict.proofs.message.walk.Statement.{statement}
 use Rattle.verdict.proofs.message.walk.Tie as tie
@@ -20,21 +21,24 @@ abbrev μ-loop : tie.MeasureT-loop
 
 took
     : (c : tie.After-known-told Inv-loop μ-loop)
-    → Taken (c .before .before .before .before .before .before .before .args .y) (c .before .before .before .before .before .before .before .args .d .now) (c .before .before .before .before .loop .at)
-    (c .before .before .before .before .loop .first) (c .before .s .given .0 .0) (c .before .s .given .0 .1 .0) (c .before .s .given .0 .1 .1 .0) (c .before .s .given .0 .1 .1 .1 .0)
-took c = taken _ _ _ _ _ _ _ _ (sym (c .before .before .before .member-at .ensures) ∙ c .before .s .given .1)
+    → Upcoming (c .before .before .before .before .before .before .before .args .y) (c .before .before .before .before .before .before .before .args .d .now) (c .before .before .before .before .loop .at) (c .before .before .before .before .loop .first) (c .before .s .given .0 .0)
+took c = upcoming _ _ _ _ _ (sym (c .before .before .before .head-at .ensures) ∙ c .before .s .given .1)
 
--- what has been passed once the segment is kept
+-- what of the message follows a segment that ends at a place
+abbrev rest : tie.After-known-told Inv-loop μ-loop → ℕ → List Segment
+rest c e = unless (c .before .s .given .0 .0) (body (segmentsAt (c .before .before .before .before .before .before .before .args .y) (c .before .before .before .before .before .before .before .args .d .now) e))
+
+-- what has been passed once the segment is kept, and that it is further on
 on
     : (c : tie.After-keep Inv-loop μ-loop)
-    → Passed (c .before .before .before .before .before .before .before .before .before .before .before .before .before .before .args .edition) (c .before .before .before .before .before .before .before .before .before .before .before .before .before .before .args .y) (c .before .before .before .before .before .before .before .before .before .before .before .before .before .before .args .d .now) (c .before .before .before .before .before .before .before .before .before .before .before .before .before .before .args .start)
-    (unless (c .before .before .before .before .before .before .before .before .s .given .0 .1 .1 .1 .0) (body (segmentsAt (c .before .before .before .before .before .before .before .before .before .before .before .before .before .before .args .y) (c .before .before .before .before .before .before .before .before .before .before .before .before .before .before .args .d .now) (c .before .before .before .before .before .before .before .before .s .given .0 .1 .0))))
-    (c .before .before .before .before .before .segment-answer .last .1 .1 .1 .1 .1 .1 .1 .1 .0) (c .keep .last .1 .1 .1 .1 .0) (c .keep .result) (c .before .before .before .before .before .before .before .before .s .given .0 .1 .0) (c .before .before .before .before .before .before .before .before .before .before .before .loop .n + 1)
+    → Passed (c .before .before .before .before .before .before .before .before .before .before .before .before .before .before .args .edition) (c .before .before .before .before .before .before .before .before .before .before .before .before .before .before .args .y) (c .before .before .before .before .before .before .before .before .before .before .before .before .before .before .args .d .now) (c .before .before .before .before .before .before .before .before .before .before .before .before .before .before .args .start) (rest (c .before .before .before .before .before .before .before) (c .before .before .before .answer .given .0 .1 .0))
+    (c .before .before .before .before .before .segment-answer .last .1 .1 .1 .1 .1 .1 .0) (c .keep .last .1 .1 .1 .1 .0) (c .keep .result) (c .before .before .before .answer .given .0 .1 .0) (c .before .before .before .before .before .before .before .before .before .before .before .loop .n + 1)
+    × (c .before .before .before .before .before .before .before .before .before .before .before .loop .at < c .before .before .before .answer .given .0 .1 .0) × (c .before .before .before .answer .given .0 .1 .0 ≤ length (c .before .before .before .before .before .before .before .before .before .before .before .before .before .before .args .d .now))
 on c =
     let placed = c .before .before in
     let cut = placed .before .before .before .before .before in
     let q = took cut in
-    passed-on _ _ _ _ _ _ _ _ _ _ (cut .before .before .before .before .loop .inv) _ _ _ (q .cuts) _ (q .list) _ (placed .before .before .before .segment-answer .ensures .0) _ (placed .before .answer .given .1) _ _ _
+    passed-on _ _ _ _ _ _ _ _ _ _ (cut .before .before .before .before .loop .inv) _ _ _ (q .takes .cuts) (q .cuts) (rest cut) (q .takes .list) _ (placed .before .before .before .segment-answer .ensures .0) _ _ (placed .before .answer .given .1) _ _ _
     (c .keep .ensures .0) (c .keep .ensures .1) (placed .before .before .before .segment-answer .ensures .1)
 
 begun-requires : tie.Need-begun-requires Inv-loop μ-loop
@@ -43,8 +47,8 @@ begun-requires c κs = search needs
 loop-holds : tie.Need-loop-holds Inv-loop μ-loop
 loop-holds c = passed-first _ _ _ _ _ (c .begun .ensures)
 
-member-at-requires : tie.Need-member-at-requires Inv-loop μ-loop
-member-at-requires c κs = search needs
+head-at-requires : tie.Need-head-at-requires Inv-loop μ-loop
+head-at-requires c κs = search needs
 
 enum-known-s : tie.Need-enum-known-s Inv-loop μ-loop
 enum-known-s c = search needs
@@ -57,7 +61,7 @@ returns c =
     let good = c .before .before .before .before .before .before .good in
     let p = c .before .before .before .loop .inv in
     let s = p .short in
-    all-fit _ _ _ _ _ _ _ _ _ _ p (no-member _ _ _ _ (sym (c .before .before .member-at .ensures) ∙ c .enum-told .given .1)) (omega arith)
+    all-fit _ _ _ _ _ _ _ _ _ _ p (no-upcoming _ _ _ _ (sym (c .before .before .head-at .ensures) ∙ c .enum-told .given .1)) (omega arith)
 
 add-segment-answer : tie.Need-add-segment-answer Inv-loop μ-loop
 add-segment-answer c =
@@ -109,7 +113,7 @@ returns-2 c =
     let cut = told .before .before .before .before .before in
     let q = took cut in
     let o =
-    passed-refused _ _ _ _ _ _ _ _ _ _ (cut .before .before .before .before .loop .inv) _ _ _ (q .cuts) _ (q .list) _ (told .before .before .before .segment-answer .ensures .0) _ _ (told .before .answer2 .given .1) _
+    passed-refused _ _ _ _ _ _ _ _ _ _ (cut .before .before .before .before .loop .inv) _ _ _ (q .takes .cuts) (q .cuts) (rest cut) (q .takes .list) _ (told .before .before .before .segment-answer .ensures .0) _ _ _ (told .before .answer2 .given .1) _
     (named .refused .ensures) _ (c .before .close-of .ensures) _ (c .with-end .ensures) in
     (o, tt)
 
@@ -125,17 +129,19 @@ returns-3 : tie.Need-returns-3 Inv-loop μ-loop
 returns-3 c =
     let cut = c .before .before .before .before .before .before .before .before in
     let good = cut .before .before .before .before .before .before .before .good in
-    let p = on (c .before) in
+    let p = on (c .before) .0 in
     let s = p .short in
     all-fit _ _ _ _ _ _ _ _ _ _ p (none-left _ _ _ _ _ _ _ _ _ _ _ p (c .if1 .taken)) (omega arith)
 
 loop-less : tie.Need-loop-less Inv-loop μ-loop
 loop-less c =
-    let q = took (c .before .before .before .before .before .before .before .before) .cuts in
+    let p = on (c .before) in
+    let far = p .1 in
+    let within = p .2 in
     omega arith
 
 loop-again : tie.Need-loop-again Inv-loop μ-loop
-loop-again c = passed-more _ _ _ _ _ _ _ _ _ _ _ (on (c .before)) (c .if1 .left)
+loop-again c = passed-more _ _ _ _ _ _ _ _ _ _ _ (on (c .before) .0) (c .if1 .left)
 
 pub walk-spec : {M : Type 1} → statement M
 walk-spec =
@@ -145,7 +151,7 @@ walk-spec =
     μ-loop
     begun-requires
     loop-holds
-    member-at-requires
+    head-at-requires
     enum-known-s
     enum-told
     returns

@@ -1,20 +1,24 @@
--- `verdict::segment::content_answer` meets its contract: the page first, and then the rules.
+-- `verdict::segment::content_answer` meets its contract: what is read first, and then the rules.
+use mathlib.Core.Path.{sym, ap, _∙_}
+use Rattle.page.proofs.Readings.{Sound, sound}
 use Rattle.verdict.proofs.Texts.{spanned-text}
-use Rattle.verdict.proofs.Numbers.{page-fault, page-first, page-third, content-page, content-rule}
-use Rattle.verdict.proofs.Answering.{content-refused, content-fits}
+use Rattle.verdict.proofs.Numbers.{content-rule}
+use Rattle.verdict.proofs.Answering.{content-read, content-refused, content-fits}
 use borrow.Author.Needs.{needs}
 use Rattle.verdict.proofs.segment.content_answer.Statement.{statement}
 use Rattle.verdict.proofs.segment.content_answer.Tie as tie
 
-examined-requires : tie.Need-examined-requires
-examined-requires c κs = search needs
+read-requires : tie.Need-read-requires
+read-requires c κs = search needs
+
+page-refused-requires : tie.Need-page-refused-requires
+page-refused-requires c κs = search needs
 
 returns : tie.Need-returns
 returns c =
-    let page = c .before in
+    let page = c .before .before in
     let a = page .before .before .args in
-    let f = page-fault (a .edition) _ _ _ _ _ _ (page .examined .ensures) in
-    content-refused (a .edition) (a .y) (a .d .now) (a .start) (a .end) (a .i) (a .n) (a .kept) _ (content-page (a .edition) _ _ _ _ _ _ f (c .if1 .taken)) (c .if1 .taken)
+    c .page-refused .ensures ∙ content-read (a .edition) (a .y) (a .d .now) (a .start) (a .i) (a .n) (a .kept) _ (page .read .ensures) (c .before .if1 .taken)
 
 role-of-requires : tie.Need-role-of-requires
 role-of-requires c κs = search needs
@@ -23,7 +27,7 @@ rule-fault-requires : tie.Need-rule-fault-requires
 rule-fault-requires c κs =
     let clean = c .before .before .before in
     let start = clean .before .before .before in
-    (start .pre, spanned-text _ _ _ _ _ _ _ (page-first (start .args .edition) _ _ _ _ _ _ (clean .before .examined .ensures) (clean .if1 .left)))
+    (start .pre, spanned-text _ _ _ _ _ _ _ (sound _ _ _ _ _ _ (clean .before .read .ensures) (clean .if1 .left) .first))
 
 returns-2 : tie.Need-returns-2
 returns-2 c =
@@ -31,9 +35,9 @@ returns-2 c =
     let clean = roled .before .before .before in
     let page = clean .before in
     let a = page .before .before .args in
-    let f = page-fault (a .edition) _ _ _ _ _ _ (page .examined .ensures) in
-    content-refused (a .edition) (a .y) (a .d .now) (a .start) (a .end) (a .i) (a .n) (a .kept) _
-    (content-rule (a .edition) _ _ _ _ _ _ f (clean .if1 .left) _ (roled .role-of .ensures) _ (c .before .rule-fault .ensures)) (c .if2 .taken)
+    let q = sound (a .y) (a .edition) (a .n) (a .d .now) (a .start) _ (page .read .ensures) (clean .if1 .left) in
+    content-refused (a .edition) (a .y) (a .d .now) (a .start) (a .i) (a .n) (a .kept) _ (page .read .ensures) q _
+    (content-rule (a .edition) _ _ _ _ _ _ _ _ (q .page) _ (roled .role-of .ensures) _ (c .before .rule-fault .ensures)) (c .if2 .taken)
 
 returns-3 : tie.Need-returns-3
 returns-3 c =
@@ -41,13 +45,18 @@ returns-3 c =
     let clean = roled .before .before .before in
     let page = clean .before in
     let a = page .before .before .args in
-    let f = page-fault (a .edition) _ _ _ _ _ _ (page .examined .ensures) in
-    content-fits (a .edition) (a .y) (a .d .now) (a .start) (a .end) (a .i) (a .n) (a .kept) _
-    (content-rule (a .edition) _ _ _ _ _ _ f (clean .if1 .left) _ (roled .role-of .ensures) _ (c .before .rule-fault .ensures)) (c .if2 .left)
-    _ (roled .role-of .ensures) _ _
-    (page-first (a .edition) _ _ _ _ _ _ (page .examined .ensures) (clean .if1 .left)) (page-third (a .edition) _ _ _ _ _ _ (page .examined .ensures) (clean .if1 .left))
+    let q = sound (a .y) (a .edition) (a .n) (a .d .now) (a .start) _ (page .read .ensures) (clean .if1 .left) in
+    content-fits (a .edition) (a .y) (a .d .now) (a .start) (a .i) (a .n) (a .kept) _ (page .read .ensures) q _
+    (content-rule (a .edition) _ _ _ _ _ _ _ _ (q .page) _ (roled .role-of .ensures) _ (c .before .rule-fault .ensures)) (c .if2 .left) _ (roled .role-of .ensures)
 
 pub content-answer-spec : {M : Type 1} → statement M
 content-answer-spec =
     tie.close
-    (tie.spec examined-requires returns role-of-requires rule-fault-requires returns-2 returns-3)
+    (tie.spec
+    read-requires
+    page-refused-requires
+    returns
+    role-of-requires
+    rule-fault-requires
+    returns-2
+    returns-3)
