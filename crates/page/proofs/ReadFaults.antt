@@ -1,6 +1,6 @@
 -- What is read of a segment: one law for each answer.
 use Prim.Native.Nat.{ℕ, zero, suc}
-use mathlib.Core.Path.{_≡_, refl, sym, ap, _∙_}
+use mathlib.Core.Path.{_≡_, refl, ap, _∙_}
 use mathlib.Core.Bool.{Bool, true, false}
 use mathlib.Core.List.{List}
 use Rattle.cut.specs.Bytes.{part}
@@ -11,7 +11,6 @@ use Rattle.cut.specs.declared.scan.Cut.the-variants.{Segment, Nothing}
 use Rattle.cut.specs.declared.service.Syntax.{Syntax}
 use Rattle.element.specs.Clean.{allowedBytes, taggedBytes}
 use Rattle.element.specs.Components.{componentAt}
-use Rattle.element.specs.declared.components.Span.{Span}
 use Rattle.guide.specs.Choices.{orElse}
 use Rattle.guide.specs.Editions.{guideOf, pagesOf}
 use Rattle.guide.specs.Judging.{bytesFault}

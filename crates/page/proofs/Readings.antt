@@ -15,7 +15,6 @@ use Rattle.element.specs.Clean.{allowedBytes, taggedBytes}
 use Rattle.element.specs.Components.{componentAt}
 use Rattle.element.specs.Elements.{elements}
 use Rattle.element.specs.Plain.{plain}
-use Rattle.element.specs.declared.components.Span.{Span}
 use Rattle.guide.specs.Choices.{pickℕ, orElse}
 use Rattle.guide.specs.Editions.{guideOf, pagesOf}
 use Rattle.guide.specs.Judging.{bytesFault}

@@ -34,7 +34,7 @@ use Rattle.judge.proofs.Face.{answer-at, answer-refused}
 use Rattle.page.specs.Examined.{examinedBy}
 use Rattle.page.specs.Reading.{segmentIn, readTo, readFault, readingBy, readingOf}
 use Rattle.page.specs.declared.reads.Reading.{Reading}
-use Rattle.page.proofs.Readings.{Late, page-late, bytes-early, Sound, sound}
+use Rattle.page.proofs.Readings.{Late, page-late, bytes-early, Sound}
 use Rattle.verdict.specs.declared.kept.Kept.{Kept}
 use Rattle.verdict.specs.declared.roles.Role.{Role}
 use Rattle.verdict.specs.declared.segment.Answered.{Answered}
@@ -140,7 +140,7 @@ module _ (ed : Edition) (y : Syntax) (d : List ℕ) (start : ℕ) where
     abbrev pub Contents : Answered → Type 0
     Contents r = r ≡ cutAnswer ed y d start asked (segmentAt y d start)
 
-    module _ (x : Reading) (reads : x ≡ readingOf y ed n d start) where
+    module _ (x : Reading) where
       by-faults
           : (e b f o : ℕ) (s t : Span) → b < 13 → Late f → (x .number ≡ 0 → ⊥) → x ≡ readTo e (examinedBy (orElse b f) s t start)
           → Refused (x .number) (pickℕ (ltb (x .number) 13) 0 n) (x .end)
@@ -153,9 +153,9 @@ module _ (ed : Edition) (y : Syntax) (d : List ℕ) (start : ℕ) where
       by-faults e (suc b) f o s t h k u r = rw (r, lt-ltb (suc b) 13 h)
 
       -- the fault that was read
-      pub content-read : (x .number ≡ 0 → ⊥) → Contents (Refused (x .number) (pickℕ (ltb (x .number) 13) 0 n) (x .end))
+      pub content-read : x ≡ readingOf y ed n d start → (x .number ≡ 0 → ⊥) → Contents (Refused (x .number) (pickℕ (ltb (x .number) 13) 0 n) (x .end))
       unfolding readingOf readingBy readFault examinedBy cutAnswer contentFault answered
-      content-read u = go (segmentAt y d start) reads
+      content-read reads u = go (segmentAt y d start) reads
         where
           go
               : (c : Cut) → x ≡ readingBy y ed n d start c

@@ -1,5 +1,5 @@
 -- The pass over a message's segments: what is left to judge gives the verdict of the whole.
-use Prim.Native.Nat.{ℕ, zero, suc, _+_, _-_, _^_, _≤_, _<_}
+use Prim.Native.Nat.{ℕ, suc, _+_, _-_, _^_, _≤_, _<_}
 use mathlib.Core.Path.{_≡_, refl, sym, _∙_, ap, ap₂, subst}
 use mathlib.Core.Bool.{Bool, true, false, _||_}
 use mathlib.Core.List.{List, [], _∷_, map}
@@ -12,7 +12,7 @@ use Rattle.cut.specs.Calls.{segmentAt}
 use Rattle.cut.specs.Segments.{Segment, endOf, segmentsFrom, segmentsAt}
 use Rattle.cut.specs.Held.{unless, held}
 use Rattle.cut.specs.Messages.{lastEnd}
-use Rattle.cut.proofs.First.{Cutting}
+use Rattle.cut.proofs.First.{Cutting, cutting}
 use Rattle.cut.proofs.Holding.{held-alone}
 use Rattle.cut.proofs.Parts.{length-part}
 use Rattle.element.proofs.ComponentFace.{decoded-none}
@@ -150,10 +150,13 @@ module _ (ed : Edition) (y : Syntax) (d : List ℕ) (start : ℕ) where
       all-fit h = (ap₂ judgedAs (ap declared is-ended) is-end, (h, none-agree))
 
     -- the next segment, and the message's others after it, which its end tells
-    module _ (s e : ℕ) (piece : Bool) (q : Cutting y d at false s e piece) (cuts : segmentAt y d at ≡ cut.Segment s e piece)
+    module _ (s e : ℕ) (piece : Bool) (cuts : segmentAt y d at ≡ cut.Segment s e piece)
         (rest : ℕ → List Segment) (next : ss ≡ segmentIn at e piece d ∷ rest e) where
       abbrev here : Segment
       here = segmentIn at e piece d
+
+      abbrev q : Cutting y d at false s e piece
+      q = cutting y d at false s e piece cuts
 
       abbrev answer : Answer
       answer = segmentAnswer y (guideOf ed) (pagesOf ed) (suc n) (noted y k cs d) here

@@ -38,7 +38,7 @@ on c =
     let placed = c .before .before in
     let cut = placed .before .before .before .before .before in
     let q = took cut in
-    passed-on _ _ _ _ _ _ _ _ _ _ (cut .before .before .before .before .loop .inv) _ _ _ (q .takes .cuts) (q .cuts) (rest cut) (q .takes .list) _ (placed .before .before .before .segment-answer .ensures .0) _ _ (placed .before .answer .given .1) _ _ _
+    passed-on _ _ _ _ _ _ _ _ _ _ (cut .before .before .before .before .loop .inv) _ _ _ (q .cuts) (rest cut) (q .takes .list) _ (placed .before .before .before .segment-answer .ensures .0) _ _ (placed .before .answer .given .1) _ _ _
     (c .keep .ensures .0) (c .keep .ensures .1) (placed .before .before .before .segment-answer .ensures .1)
 
 begun-requires : tie.Need-begun-requires Inv-loop μ-loop
@@ -113,7 +113,7 @@ returns-2 c =
     let cut = told .before .before .before .before .before in
     let q = took cut in
     let o =
-    passed-refused _ _ _ _ _ _ _ _ _ _ (cut .before .before .before .before .loop .inv) _ _ _ (q .takes .cuts) (q .cuts) (rest cut) (q .takes .list) _ (told .before .before .before .segment-answer .ensures .0) _ _ _ (told .before .answer2 .given .1) _
+    passed-refused _ _ _ _ _ _ _ _ _ _ (cut .before .before .before .before .loop .inv) _ _ _ (q .cuts) (rest cut) (q .takes .list) _ (told .before .before .before .segment-answer .ensures .0) _ _ _ (told .before .answer2 .given .1) _
     (named .refused .ensures) _ (c .before .close-of .ensures) _ (c .with-end .ensures) in
     (o, tt)
 

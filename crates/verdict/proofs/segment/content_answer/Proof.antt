@@ -1,6 +1,6 @@
 -- `verdict::segment::content_answer` meets its contract: what is read first, and then the rules.
-use mathlib.Core.Path.{sym, ap, _∙_}
-use Rattle.page.proofs.Readings.{Sound, sound}
+use mathlib.Core.Path.{_∙_}
+use Rattle.page.proofs.Readings.{sound}
 use Rattle.verdict.proofs.Texts.{spanned-text}
 use Rattle.verdict.proofs.Numbers.{content-rule}
 use Rattle.verdict.proofs.Answering.{content-read, content-refused, content-fits}
@@ -36,7 +36,7 @@ returns-2 c =
     let page = clean .before in
     let a = page .before .before .args in
     let q = sound (a .y) (a .edition) (a .n) (a .d .now) (a .start) _ (page .read .ensures) (clean .if1 .left) in
-    content-refused (a .edition) (a .y) (a .d .now) (a .start) (a .i) (a .n) (a .kept) _ (page .read .ensures) q _
+    content-refused (a .edition) (a .y) (a .d .now) (a .start) (a .i) (a .n) (a .kept) _ q _
     (content-rule (a .edition) _ _ _ _ _ _ _ _ (q .page) _ (roled .role-of .ensures) _ (c .before .rule-fault .ensures)) (c .if2 .taken)
 
 returns-3 : tie.Need-returns-3
@@ -46,7 +46,7 @@ returns-3 c =
     let page = clean .before in
     let a = page .before .before .args in
     let q = sound (a .y) (a .edition) (a .n) (a .d .now) (a .start) _ (page .read .ensures) (clean .if1 .left) in
-    content-fits (a .edition) (a .y) (a .d .now) (a .start) (a .i) (a .n) (a .kept) _ (page .read .ensures) q _
+    content-fits (a .edition) (a .y) (a .d .now) (a .start) (a .i) (a .n) (a .kept) _ q _
     (content-rule (a .edition) _ _ _ _ _ _ _ _ (q .page) _ (roled .role-of .ensures) _ (c .before .rule-fault .ensures)) (c .if2 .left) _ (roled .role-of .ensures)
 
 pub content-answer-spec : {M : Type 1} → statement M
