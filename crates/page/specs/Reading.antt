@@ -41,5 +41,6 @@ module _ (y : Syntax) (ed : Edition) (node : ℕ) (d : List ℕ) (start : ℕ) w
   readingBy Nothing = readTo start (examinedBy 12 (emptyAt start) (emptyAt start) start)
   readingBy (Segment s e p) = readTo e (examinedBy (readFault e p) (componentAt y d start e 1 0) (componentAt y d start e 3 0) start)
 
+  -- read: the segment that the bytes from the place on begin with
   unfoldable pub readingOf : Reading
   readingOf = readingBy (segmentAt y d start)
