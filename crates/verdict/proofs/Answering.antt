@@ -27,6 +27,7 @@ use Rattle.guide.specs.Editions.{guideOf, pagesOf}
 use Rattle.guide.specs.declared.edition.Edition.{Edition}
 use Rattle.guide.specs.Views.{viewOf}
 use Rattle.guide.proofs.ViewCuts.{view-cut}
+use Rattle.agree.proofs.AgreeTexts.{and-both}
 use Rattle.judge.specs.Answers.{answerOf}
 use Rattle.judge.specs.declared.placing.Placed.{Placed}
 use Rattle.judge.specs.declared.placing.Placed.the-variants as told
@@ -41,7 +42,6 @@ use Rattle.verdict.specs.declared.segment.Answered.{Answered}
 use Rattle.verdict.specs.declared.segment.Answered.the-variants.{Fits, Refused}
 use Rattle.verdict.specs.declared.segment.Found.{Found}
 use Rattle.verdict.specs.Workers.{noted, roleOf, foundAt, answered, cutAnswer, placedAnswer, CountedOn}
-use Rattle.verdict.proofs.RoleTags.{and-second}
 
 -- what an answer says
 module _ (ed : Edition) (y : Syntax) (d : List ℕ) (start end : ℕ) where
@@ -192,7 +192,7 @@ letters-long y zero [] h = absurd (false≢true h)
 letters-long y (suc n) [] h = absurd (false≢true h)
 letters-long y zero (x ∷ xs) h = omega arith
 letters-long y (suc n) (x ∷ xs) h =
-    let k = letters-long y n xs (and-second (capital x) _ h) in
+    let k = letters-long y n xs (and-both (capital x) _ h .1) in
     omega arith
 
 tag-long : (y : Syntax) (s : List ℕ) → taggedBytes y s ≡ true → 3 ≤ length s

@@ -18,18 +18,11 @@ use Rattle.guide.specs.Editions.{guideOf, pagesOf}
 use Rattle.guide.specs.Nodes.{Node, Guide, node}
 use Rattle.guide.specs.declared.edition.Edition.{Edition}
 use Rattle.guide.specs.Sheet.{isTag}
+use Rattle.agree.proofs.AgreeTexts.{and-both}
 use Rattle.verdict.specs.declared.roles.Role.{Role}
 use Rattle.verdict.specs.declared.roles.Role.the-variants.{Lin, Unt, Unh, Bgm, Other}
 use Rattle.verdict.specs.Workers.{pickRole, roleOf, isLin, isUnt, isUnh, isBgm, ruleBy}
 use Rattle.verdict.proofs.roles.Role.{the-type}
-
-and-first : (a b : Bool) → a && b ≡ true → a ≡ true
-and-first true b h = refl
-and-first false b h = h
-
-pub and-second : (a b : Bool) → a && b ≡ true → b ≡ true
-and-second true b h = h
-and-second false b h = absurd (false≢true h)
 
 -- whether a row has none of the four tags
 abbrev bare : Node → Bool
@@ -44,8 +37,8 @@ bareBut told (x ∷ xs) = (told 0 || bare x) && bareBut (λ n. told (suc n)) xs
 bare-at : (told : ℕ → Bool) (g : Guide) (n : ℕ) → bareBut told g ≡ true → told n ≡ false → bare (node g n) ≡ true
 unfolding same
 bare-at told [] n h k = refl
-bare-at told (x ∷ xs) zero h k = rw k at (and-first (told 0 || bare x) _ h)
-bare-at told (x ∷ xs) (suc n) h k = bare-at (λ m. told (suc m)) xs n (and-second (told 0 || bare x) _ h) k
+bare-at told (x ∷ xs) zero h k = rw k at (and-both (told 0 || bare x) _ h .0)
+bare-at told (x ∷ xs) (suc n) h k = bare-at (λ m. told (suc m)) xs n (and-both (told 0 || bare x) _ h .1) k
 
 -- the worker's answers: a row that has none of the tags is none of the four
 bare-picked : (l t u b : Bool) → not l && (not t && (not u && not b)) ≡ true → Other ≡ pickRole l Lin (pickRole t Unt (pickRole u Unh (pickRole b Bgm Other)))
