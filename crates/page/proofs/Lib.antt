@@ -1,5 +1,6 @@
 pub mod PageTables
 pub mod PageCells
+pub mod CellArms
 pub mod PageSpans
 pub mod PageLookup
 pub mod KeyCodes
