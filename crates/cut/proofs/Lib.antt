@@ -29,3 +29,4 @@ pub mod Kept
 pub mod Every
 pub mod Bytewise
 pub mod Clearing
+pub mod Carrying

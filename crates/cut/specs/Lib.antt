@@ -6,6 +6,7 @@ pub mod Admission
 pub mod Messages
 pub mod Held
 pub mod Calls
+pub mod Carrying
 pub mod Fronts
 pub mod Workers
 pub mod Base
