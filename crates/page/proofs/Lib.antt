@@ -1,6 +1,7 @@
 pub mod PageTables
 pub mod PageCells
 pub mod CellArms
+pub mod CellTests
 pub mod PageSpans
 pub mod PageLookup
 pub mod KeyCodes
@@ -9,6 +10,7 @@ pub mod PageFaults
 pub mod PageMoods
 pub mod PageStops
 pub mod PageSought
+pub mod CellRows
 pub mod PageSteps
 pub mod PageResults
 pub mod PageScans
