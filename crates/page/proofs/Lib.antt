@@ -13,5 +13,7 @@ pub mod PageSought
 pub mod CellRows
 pub mod PageSteps
 pub mod PageResults
+pub mod QuickSteps
+pub mod QuickStart
 pub mod PageScans
 pub mod PageMarks
