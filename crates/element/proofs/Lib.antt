@@ -5,5 +5,6 @@ pub mod Copying
 pub mod Packing
 pub mod Summing
 pub mod Limits
+pub mod Cuts
 pub mod ComponentFace
 pub mod ComponentSamples

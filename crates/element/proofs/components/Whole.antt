@@ -17,7 +17,7 @@ unfoldable pub lastOf : Syntax → Segment → List ℕ
 lastOf y s = cond (s .piece) [] (y .terminator ∷ [])
 
 -- a byte that cutting takes for the end is the terminator and ends the segment here too; any other is kept
-end-is : (y : Syntax) (r : Bool) (x : ℕ) → ends y r x ≡ true → (endingOf y r x ≡ ends-segment) × (x ≡ y .terminator)
+pub end-is : (y : Syntax) (r : Bool) (x : ℕ) → ends y r x ≡ true → (endingOf y r x ≡ ends-segment) × (x ≡ y .terminator)
 unfolding ends
 end-is y true x h = absurd (false≢true h)
 end-is y false x h =
