@@ -1,5 +1,5 @@
 -- A component past its release marks: behind a mark and the byte that it releases, it goes on as one that begins there.
-use Prim.Native.Nat.{ℕ, _+_, _-_, _≤_, _<_}
+use Prim.Native.Nat.{ℕ, suc, _+_, _-_, _≤_, _<_}
 use mathlib.Core.Path.{_≡_, refl, sym, ap, _∙_}
 use mathlib.Core.Bool.{true, false, false≢true}
 use mathlib.Core.List.{List, _∷_}
@@ -13,7 +13,7 @@ use Rattle.cut.proofs.Parts.{part-next}
 use Rattle.element.specs.Components.{extentOf}
 use Rattle.element.specs.Elements.{Ending, ends-segment, ends-element, ends-component, ends-nothing, endingOf, stays, releases, Split, before, splitFrom, component}
 use Rattle.element.specs.Plain.{plain}
-use Rattle.element.specs.Services.{Service}
+use Rattle.element.specs.Services.{isService, Service}
 use Rattle.element.specs.declared.scan.Extent.{Extent}
 use Rattle.element.proofs.ComponentFace.{extent-stop, Reached, reached-service, first-component}
 use Rattle.element.proofs.Decoding.{plain-released}
@@ -142,5 +142,5 @@ module _
       let o = mark-ends y d (from .at) limit end fits found h b in
       let c = mark-counts y d (from .at) limit end fits found h b in
       let k = found .passed .onward in
-      let tested = scan-begins y d (end + 2) (omega arith) t z in
+      let tested = scan-begins (isService y) d (suc (length d)) (end + 2) (omega arith) t z in
       rw z (record { within = h; onward = omega (arith, g .onward); scanned = rw z at tested; ends = o ∙ g .ends; counts = omega (arith, g .counts, g .onward) })

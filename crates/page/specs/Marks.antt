@@ -1,29 +1,30 @@
 -- What words of eight bytes tell of a segment without a byte that is not allowed. No public promise cites these.
 use Prim.Native.Nat.{ℕ, _+_, _-_, _≤_, _<_}
 use mathlib.Core.Path.{_≡_}
-use mathlib.Core.Bool.{Bool, true, false, _&&_}
+use mathlib.Core.Bool.{true, false}
 use mathlib.Core.List.{List}
 use lib.ListN.{length, getD}
-use lib.Dec.{leb, eqb}
+use lib.Dec.{eqb}
 use Rattle.cut.specs.Bytes.{part}
 use Rattle.cut.specs.Carrying.{Carries}
-use Rattle.cut.specs.Eights.{flags}
 use Rattle.cut.specs.declared.service.Syntax.{Syntax}
 use Rattle.element.specs.Clean.{allowedBytes}
 use Rattle.element.specs.Components.{extentOf}
 use Rattle.element.specs.Services.{isService, isMark}
+use Rattle.page.specs.Scans.{Tested, Foremost}
 use Rattle.page.specs.declared.scan.Ahead.{Ahead}
+use Rattle.page.specs.declared.scan.Scan.{Scan}
 
--- whether byte k of the word that ends before the place next is a mark and not before the place a
-unfoldable pub markWaiting : Syntax → List ℕ → ℕ → ℕ → ℕ → Bool
-markWaiting y d a next k = leb (a + 8) (next + k) && isMark y (getD d (next + k - 8) 0)
+-- the bytes from the place a up to the place next are tested for marks
+abbrev pub MarkScanned : Syntax → List ℕ → ℕ → ℕ → ℕ → Type 0
+MarkScanned y d a next left = Tested (isMark y) d (length d) a next left
 
--- the bytes from the place a up to the place next are tested: left flags the marks among the last eight of them, and before those there is none
-pub record MarkScanned (y : Syntax) (d : List ℕ) (a next left : ℕ) : Type 0 where
-  pub ahead : a ≤ next
-  pub within : next ≤ length d
-  pub passed : (k : ℕ) → a ≤ k → k + 8 < next → isMark y (getD d k 0) ≡ false
-  pub flagged : left ≡ flags (markWaiting y d a next)
+-- r is the scan behind the first mark from the place a on
+pub record MarkSought (y : Syntax) (d : List ℕ) (a : ℕ) (r : Scan) : Type 0 where
+  pub onward : a < r .at
+  pub inside : r .at ≤ length d
+  pub mark : Foremost (isMark y) d a (r .at - 1)
+  pub scanned : MarkScanned y d (r .at) (r .next) (r .left)
 
 -- r says of the component that begins at the place a where it ends and how long it is, that its bytes are allowed and end no segment, and what is tested
 -- behind the byte that ends it. A byte that is not allowed also is a mark, and ends nothing: so r says where the component ends only if a service character stands there

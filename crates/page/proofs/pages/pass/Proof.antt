@@ -39,7 +39,7 @@ loop-holds c =
     let u = c .before in
     let a = ap (λ (s : Scan). s .at) (u .untested .ensures) in
     let p = u .before .before .pre in
-    (pass-begins _ _ _ _ _ (p .0) (p .1) _ a, scan-begins _ _ _ (omega arith) _ (u .untested .ensures), gather-begins _ _ _ _ (p .0) (p .1) _ (c .nowhere .ensures) _ a)
+    (pass-begins _ _ _ _ _ (p .0) (p .1) _ a, scan-begins _ _ _ _ (omega arith) _ (u .untested .ensures), gather-begins _ _ _ _ (p .0) (p .1) _ (c .nowhere .ensures) _ a)
 
 component-on-requires : tie.Need-component-on-requires Inv-loop μ-loop
 component-on-requires c κs = (c .loop .inv .0 .ahead, c .before .before .before .before .pre .1, c .loop .inv .1)

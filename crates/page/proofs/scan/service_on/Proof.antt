@@ -75,7 +75,7 @@ loop-again c = λ a s.
     let known = l .before .before in
     let f = flagged-there (known .before .args .d .now) (l .loop .n) _ (isService (known .before .args .y)) _ (omega arith)
     (λ k. omega (arith, known .shared-slice-known .given k)) (c .before .eight-at .ensures) (c .services-in .ensures) in
-    scan-word _ _ _ _ _ (l .loop .inv a s) (t .loop-test .taken) (omega arith) _ f
+    scan-word _ _ _ _ _ _ (l .loop .inv a s) (t .loop-test .taken) (omega arith) _ f
 
 first-of-requires : tie.Need-first-of-requires Inv-loop μ-loop
 first-of-requires c κs = search needs
@@ -95,14 +95,14 @@ first
     : (c : tie.After-first-of Inv-loop μ-loop)
     → let l = c .before .before in
     let a = l .before .before .before .args in
-    FirstOf 8 (waiting (a .y) (a .d .now) (a .scan .at) (l .loop .n)) (c .first-of .result)
+    FirstOf 8 (waiting (isService (a .y)) (a .d .now) (a .scan .at) (l .loop .n)) (c .first-of .result)
 first c = first-of _ _ _ (tested c .flagged) (c .before .loop-test .left) (c .first-of .ensures)
 
 add-t15 : tie.Need-add-t15 Inv-loop μ-loop
 add-t15 c = omega (arith, first c .within, tested c .within)
 
 sub-t16 : tie.Need-sub-t16 Inv-loop μ-loop
-sub-t16 c = omega (arith, scan-flag _ _ _ _ _ (tested c) _ (first c))
+sub-t16 c = omega (arith, scan-flag _ _ _ _ _ _ (tested c) _ (first c))
 
 sub-t17 : tie.Need-sub-t17 Inv-loop μ-loop
 sub-t17 c = omega (arith, c .before .loop-test .left)
