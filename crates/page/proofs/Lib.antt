@@ -2,6 +2,7 @@ pub mod PageTables
 pub mod PageCells
 pub mod CellArms
 pub mod CellTests
+pub mod CellReads
 pub mod PageSpans
 pub mod PageLookup
 pub mod KeyCodes
@@ -15,5 +16,6 @@ pub mod PageSteps
 pub mod PageResults
 pub mod QuickSteps
 pub mod QuickStart
+pub mod QuickLoop
 pub mod PageScans
 pub mod PageMarks
