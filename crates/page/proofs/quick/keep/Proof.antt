@@ -8,10 +8,10 @@ returns : tie.Need-returns
 returns c = search needs
 
 returns-2 : tie.Need-returns-2
-returns-2 c = keep-first _ _ _ (c .if2 .taken)
+returns-2 c = keep-first _ _ _ (c .before .if2 .taken)
 
 returns-3 : tie.Need-returns-3
-returns-3 c = keep-third _ _ _ (c .before .if1 .left) (c .if2 .left)
+returns-3 c = keep-third _ _ _ (c .before .before .if1 .left) (c .before .if2 .left)
 
 pub keep-spec : {M : Type 1} → statement M
 keep-spec = tie.close (tie.spec returns returns-2 returns-3)

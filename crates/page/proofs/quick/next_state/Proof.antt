@@ -7,10 +7,10 @@ returns : tie.Need-returns
 returns c = next-element _ _ _ (c .if1 .taken)
 
 returns-2 : tie.Need-returns-2
-returns-2 c = next-component _ _ _ (c .before .if1 .left) (c .if2 .taken)
+returns-2 c = next-component _ _ _ (c .before .before .if1 .left) (c .if2 .taken)
 
 returns-3 : tie.Need-returns-3
-returns-3 c = next-none _ _ _ (c .before .if1 .left) (c .if2 .left)
+returns-3 c = next-none _ _ _ (c .before .before .if1 .left) (c .if2 .left)
 
 pub next-state-spec : {M : Type 1} → statement M
 next-state-spec = tie.close (tie.spec returns returns-2 returns-3)
