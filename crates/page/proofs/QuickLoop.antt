@@ -67,12 +67,15 @@ module _ (y : Syntax) (d : List ℕ) (start : ℕ) where
         : (s : ℕ) (p : Places) → p ≡ record { first = record { start = start; end = start }; third = record { start = start; end = start } } → (a : ℕ) → a ≡ start + 4
         → OnPages s p a s
     unfolding FirstCell
-    pages-begin s p g a o page f = (f .0, λ h.
-        let k = f .1 h in
-        let t = cell-fits s (f .0) h in
-        let e = k .1 in
-        let l : 0 < spotOf s .page / 1024 % 32 = omega (arith, t .element) in
-        subst (λ (q : Spot). Stood y page d start p a q) (first-spot (spotOf s) e (k .2) (t .opens (k .2))) (stood-begins y d start b page (spotOf s .page) (k .0) l p g a o))
+    pages-begin s p g a o page f = (
+      f .0,
+      λ h.
+          let k = f .1 h in
+          let t = cell-fits s (f .0) h in
+          let e = k .1 in
+          let l : 0 < spotOf s .page / 1024 % 32 = omega (arith, t .element) in
+          subst (λ (q : Spot). Stood y page d start p a q) (first-spot (spotOf s) e (k .2) (t .opens (k .2))) (stood-begins y d start b page (spotOf s .page) (k .0) l p g a o),
+    )
 
     -- one component
     module _ (a next left : ℕ) (wk : Walked a next left) (r : Ahead) (k : CleanAhead y d a r) (sv : isService y (getD d (r .end) 0) ≡ true) where
@@ -132,15 +135,19 @@ module _ (y : Syntax) (d : List ℕ) (start : ℕ) where
               (λ w.
               let q = cell-behind s low (r .length) s′ (w .1) z in
               let v = cell-fits s′ (q .3) z in
-              let l : spotOf s .element + 1 < spotOf s .page / 1024 % 32 = subst (λ (i : Spot). i .element < i .page / 1024 % 32) (q .4) (v .element) in
-              (q .3, λ h. subst (λ (i : Spot). Stood y page d start p′ (r .scan .at) i) (sym (q .4))
-              (stood-behind y page d start p a (spotOf s) (g .1 (q .0)) (rowOfCell (cellOf s)) (cell-fits s low (q .0)) (r .end) here-ended (r .length) here-counted right-here (q .1) p′ kept-here (q .2)
-              (r .scan .at) (k .onward) (stop-element y d (r .end) (length d) (k .inside) (λ i. n (xe ∙ i)) (sym xe ∙ w .0)) l)))
+              let l : spotOf s .element + 1 < spotOf s .page / 1024 % 32 = subst (λ (i : Spot). i .element < i .page / 1024 % 32) (q .4) (v .element) in (
+                q .3,
+                λ h. subst (λ (i : Spot). Stood y page d start p′ (r .scan .at) i) (sym (q .4))
+                    (stood-behind y page d start p a (spotOf s) (g .1 (q .0)) (rowOfCell (cellOf s)) (cell-fits s low (q .0)) (r .end) here-ended (r .length) here-counted right-here (q .1) p′ kept-here (q .2)
+                    (r .scan .at) (k .onward) (stop-element y d (r .end) (length d) (k .inside) (λ i. n (xe ∙ i)) (sym xe ∙ w .0)) l),
+              ))
               (λ w.
-              let q = cell-further s low (r .length) s′ (w .2) z in
-              (q .2, λ h. subst (λ (i : Spot). Stood y page d start p′ (r .scan .at) i) (sym (q .3))
-              (stood-further y page d start p a (spotOf s) (g .1 (q .0)) (rowOfCell (cellOf s)) (cell-fits s low (q .0)) (r .end) here-ended (r .length) here-counted right-here (q .1) p′ kept-here
-              (r .scan .at) (k .onward) (stop-component y d (r .end) (length d) (k .inside) (λ i. n (xe ∙ i)) (λ i. w .0 (xe ∙ i))))))
+              let q = cell-further s low (r .length) s′ (w .2) z in (
+                q .2,
+                λ h. subst (λ (i : Spot). Stood y page d start p′ (r .scan .at) i) (sym (q .3))
+                    (stood-further y page d start p a (spotOf s) (g .1 (q .0)) (rowOfCell (cellOf s)) (cell-fits s low (q .0)) (r .end) here-ended (r .length) here-counted right-here (q .1) p′ kept-here
+                    (r .scan .at) (k .onward) (stop-component y d (r .end) (length d) (k .inside) (λ i. n (xe ∙ i)) (λ i. w .0 (xe ∙ i)))),
+              ))
               (next-by y x (stepsOf (cellOf s) (r .length)) s′ e z)
 
           -- at the segment's end
@@ -155,7 +162,7 @@ module _ (y : Syntax) (d : List ℕ) (start : ℕ) where
                 let low = g .0 in
                 let q = cell-end s low (r .length) may in
                 let st = stood-done y page d start p a (spotOf s) (g .1 (q .0)) (rowOfCell (cellOf s)) (cell-fits s low (q .0)) (r .end) here-ended (r .length) here-counted right-here (q .1) p′ kept-here (q .2)
-                  (stop-segment y d (r .end) (length d) (k .inside) (sym xe ∙ tm)) (q .3) in
+                (stop-segment y d (r .end) (length d) (k .inside) (sym xe ∙ tm)) (q .3) in
                 let h = here-onward in
                 let v = plain-terminator y (b .services) in
                 let lo = v .0 in

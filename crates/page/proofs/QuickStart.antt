@@ -228,12 +228,12 @@ module _ (y : Syntax) (d : List ℕ) (start : ℕ) (b : Begun y d start) where
     stood-begins = record {
       node = n;
       before =
-        pass-enter y page d (length d) full start 0 0 0 3 tag-before (start + 3) tag-ended 3 tag-behind 1 tag-stop a behind-tag (λ i. omega (arith, i)) 0
-        (λ k e. ending-calm 3 (drop 1 (k .rows)) (λ z. omega (arith, z))) (omega arith) (λ i. omega (arith, i)) (wordAt w 0) (openingOf (wordAt w 0))
-        (word-here w 0 page n l) (opening-is (wordAt w 0));
+          pass-enter y page d (length d) full start 0 0 0 3 tag-before (start + 3) tag-ended 3 tag-behind 1 tag-stop a behind-tag (λ i. omega (arith, i)) 0
+          (λ k e. ending-calm 3 (drop 1 (k .rows)) (λ z. omega (arith, z))) (omega arith) (λ i. omega (arith, i)) (wordAt w 0) (openingOf (wordAt w 0))
+          (word-here w 0 page n l) (opening-is (wordAt w 0));
       gathered =
-        gather-enter y d start (length d) p start 0 0 (gather-begins y d start (length d) (omega (arith, begun-room)) (le-refl (length d)) p g start refl) (start + 3) tag-ended 1 tag-stop
-        p (places-other 0 0 (record { start = start; end = start + 3 }) p refl (λ z. omega (arith, z)) (λ z. omega (arith, z))) a behind-tag (λ i. omega (arith, i)) (λ i. omega (arith, i));
+          gather-enter y d start (length d) p start 0 0 (gather-begins y d start (length d) (omega (arith, begun-room)) (le-refl (length d)) p g start refl) (start + 3) tag-ended 1 tag-stop
+          p (places-other 0 0 (record { start = start; end = start + 3 }) p refl (λ z. omega (arith, z)) (λ z. omega (arith, z))) a behind-tag (λ i. omega (arith, i)) (λ i. omega (arith, i));
     }
 
 -- the spot before the first component behind the tag

@@ -71,9 +71,9 @@ module _ (y : Syntax) (page : Page) (d : List ℕ) (start : ℕ) where
       stood-behind on o k l = record {
         node = st .node;
         before =
-          pass-enter y page d (length d) fullFault a (q .element + 1) (q .component) (wordOf q) (q .mood) (st .before) stop z mood behind 1 k on o (λ i. omega (arith, i)) 0
-          (last-row (wordOf q) (q .component) mood last) (omega arith) (λ i. omega (arith, i)) (wordAt (q .page) (q .element + 1)) (openingOf (wordAt (q .page) (q .element + 1)))
-          (word-here (q .page) (q .element + 1) page (st .node) l) (opening-is (wordAt (q .page) (q .element + 1)));
+            pass-enter y page d (length d) fullFault a (q .element + 1) (q .component) (wordOf q) (q .mood) (st .before) stop z mood behind 1 k on o (λ i. omega (arith, i)) 0
+            (last-row (wordOf q) (q .component) mood last) (omega arith) (λ i. omega (arith, i)) (wordAt (q .page) (q .element + 1)) (openingOf (wordAt (q .page) (q .element + 1)))
+            (word-here (q .page) (q .element + 1) page (st .node) l) (opening-is (wordAt (q .page) (q .element + 1)));
         gathered = gather-enter y d start (length d) p a (q .element + 1) (q .component) (st .gathered) stop z 1 k p′ placed on o (λ i. omega (arith, i)) (λ i. omega (arith, i));
       }
 
@@ -82,7 +82,7 @@ module _ (y : Syntax) (page : Page) (d : List ℕ) (start : ℕ) where
           → (fullFault ≡ 0) × (p′ .first ≡ componentAt y d start (length d) 1 0) × (p′ .third ≡ componentAt y d start (length d) 3 0)
       stood-done k l =
           let g = pass-done y page d (length d) fullFault a (q .element + 1) (q .component) (wordOf q) (q .mood) (st .before) stop z mood behind 0 k (stop + 1) refl (λ i. omega (arith, i)) 0
-            (last-row (wordOf q) (q .component) mood last) (omega arith) refl in
+          (last-row (wordOf q) (q .component) mood last) (omega arith) refl in
           let b : 0 ≡ absentFault (drop (q .element + 1) page) = rw (st .node .page) at (absent-none (q .page) (own-word (q .page) page (st .node)) (q .element + 1) l) in
           let h = gather-done y d start (length d) p a (q .element + 1) (q .component) (st .gathered) stop z 0 k p′ placed refl (λ i. omega (arith, i)) in
           (sym (b ∙ g), h .0, h .1)

@@ -1,13 +1,18 @@
 -- `page::quick::faultless_from` meets its contract. The loop's invariant: the bytes before the component that comes next are passed, and against each page
 -- the pass stands before the spot of the state.
-use Prim.Native.Nat.{_+_, _-_, _<_}
-use mathlib.Core.Bool.{true}
-use mathlib.Core.Path.{_≡_, sym, ap, _∙_}
+use Prim.Native.Nat.{ℕ, _+_, _-_, _/_, _<_}
+use mathlib.Core.Bool.{true, false}
+use mathlib.Core.Path.{_≡_, refl, sym, ap, subst, _∙_}
+use mathlib.Core.Logic.{⊎-elim}
 use native.Mathlib.Omega.{arith}
 use borrow.Author.Needs.{needs}
-use borrow.Author.Tests.{not-true, not-false}
+use borrow.Author.Tests.{not-false}
 use lib.ListN.{length, getD}
 use Rattle.element.specs.Services.{isService}
+use Rattle.element.specs.Plain.{decoded}
+use Rattle.guide.specs.PageFault.{textFault}
+use Rattle.page.specs.Cells.{stepsOf, mayEnd, nextOf}
+use Rattle.page.specs.PageWords.{freeRow}
 use Rattle.page.specs.Marks.{CleanAhead}
 use Rattle.page.specs.Quick.{Begun}
 use Rattle.page.specs.declared.scan.Scan.{Scan}
@@ -119,16 +124,52 @@ add-t25 c =
     let good = k .before .before .before .before .before .before .before .before .before .before .before .before .before .good in
     omega arith
 
+-- a component that is not empty has no fault on its row
+checked
+    : (j : tie.Joined4 Inv-loop μ-loop)
+    → let f = j .before .before .before .before .before .before .before in
+    let a = f .before .before .before .before .before .before .before .before .args in
+    0 < f .clean-on .result .length
+    → textFault (a .y) false (freeRow (f .before .cell .result / 0x4_0000_0000)) (decoded (a .y) (f .before .before .loop .scan .at) (f .clean-on .result .end) (a .d .now)) ≡ 0
+checked j h = ⊎-elim (λ w. w .1 .ensures (not-false _ (w .2 .left))) (λ w. absurd (let z = w .left in omega (arith, z, h))) (j .if4 .came)
+
 returns-5 : tie.Need-returns-5 Inv-loop μ-loop
-returns-5 c =
-    let z = c .before .before .if4 .came in
-    ?
+returns-5 c = λ page f h.
+    let j = c .before .before in
+    let k = j .before .before in
+    let t = k .before .before in
+    let u = t .before .before .before in
+    let w = u .before in
+    let l = w .before .loop in
+    let m = may-by _ _ _ _ (c .if6 .taken) _ (t .state-behind .ensures) (k .before .if3 .left) in
+    faultless-here _ _ _ (l .inv .0) _ _ _ (l .inv .1) _ (told k) (ends k) _ refl _ _ _ (l .inv .2) _ (ap (λ (v : ℕ). v / 0x4_0000_0000) (w .cell .ensures)) (checked j) _ (k .keep .ensures)
+    (c .if6 .taken) (subst (λ (v : ℕ). mayEnd v (u .clean-on .result .length) ≡ true) (w .cell .ensures) m) _ refl page f
 
 loop-less : tie.Need-loop-less Inv-loop μ-loop
-loop-less c = ?
+loop-less c =
+    let k = c .before .before .before .before .before in
+    let l = k .before .before .before .before .before .before .before .loop in
+    let h = here-onward _ _ _ (l .inv .0) _ _ _ (l .inv .1) _ (told k) (ends k) in
+    omega (arith, h, told k .inside, told k .onward)
 
 loop-again : tie.Need-loop-again Inv-loop μ-loop
-loop-again c = ?
+loop-again c =
+    let e = c .before in
+    let j = e .before .before in
+    let k = j .before .before in
+    let t = k .before .before in
+    let u = t .before .before .before in
+    let w = u .before in
+    let l = w .before .loop in
+    let a = w .before .before .before .before .before .before .before .args in
+    let z = k .before .if3 .left in
+    let n = e .if6 .left in
+    let b = t .state-behind .ensures ∙ sym (behind-next _ _ _ _ n) in (
+      l .inv .0,
+      walk-on _ _ _ (l .inv .0) _ _ _ (l .inv .1) _ (told k) (ends k) _ refl n _ _ b z,
+      pages-on _ _ _ (l .inv .0) _ _ _ (l .inv .1) _ (told k) (ends k) _ refl _ _ _ (l .inv .2) _ (ap (λ (v : ℕ). v / 0x4_0000_0000) (w .cell .ensures)) (checked j) _ (k .keep .ensures) n _
+          (b ∙ ap (λ (v : ℕ). nextOf (a .y) (getD (a .d .now) (u .clean-on .result .end) 0) (stepsOf v (u .clean-on .result .length))) (w .cell .ensures)) z,
+    )
 
 pub faultless-from-spec : {M : Type 1} → statement M
 faultless-from-spec =

@@ -40,7 +40,7 @@ returns-4 c =
     let a = b .before .before in
     c .is-plain4 .ensures
     ∙ services-last _ (sym (a .before .is-plain .ensures) ∙ not-false _ (a .if1 .left)) (sym (b .before .is-plain2 .ensures) ∙ not-false _ (b .if2 .left))
-      (sym (k .before .is-plain3 .ensures) ∙ not-false _ (k .if3 .left))
+    (sym (k .before .is-plain3 .ensures) ∙ not-false _ (k .if3 .left))
 
 pub has-plain-services-spec : {M : Type 1} → statement M
 has-plain-services-spec =
