@@ -19,3 +19,4 @@ pub mod QuickStart
 pub mod QuickLoop
 pub mod PageScans
 pub mod PageMarks
+pub mod ReadFaults

@@ -8,3 +8,4 @@ pub mod PagePlaces
 pub mod Marks
 pub mod Quick
 pub mod Cells
+pub mod Reading
