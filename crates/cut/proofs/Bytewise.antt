@@ -218,7 +218,7 @@ alike-byte : (v : ℕ) → v < 256 → alikeByte v ≡ flag (eqb v 0)
 unfolding alikeByte every
 alike-byte v h = eqb→eq (alikeByte v) (flag (eqb v 0)) (every-at (λ v. eqb (alikeByte v) (flag (eqb v 0))) 256 v tt h)
 
-xor-none : (a b : ℕ) → eqb (bitXor a b) 0 ≡ eqb a b
+pub xor-none : (a b : ℕ) → eqb (bitXor a b) 0 ≡ eqb a b
 xor-none a b = go (eqb a b) refl
   where
     go : (t : Bool) → eqb a b ≡ t → eqb (bitXor a b) 0 ≡ t

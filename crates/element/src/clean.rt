@@ -2,12 +2,14 @@
 use crate::limit::limit_of;
 use cut::Syntax;
 ghost use mathlib.Core.Path.{_≡_};
-ghost use mathlib.Core.Bool.{_&&_};
-ghost use Prim.Native.Nat.{_≤_, min};
+ghost use mathlib.Core.Bool.{true, _&&_};
+ghost use Prim.Native.Nat.{_+_, _*_, _%_, _≤_, min};
+ghost use lib.Bits.{bitXor};
 ghost use lib.ListN.{length};
 ghost use Rattle.cut.specs.Bytes.{part};
 ghost use Rattle.cut.specs.Eights.{Flagged};
 ghost use Rattle.element.specs.Clean.{allowedByte, allowedBytes, capital, endsTag, taggedBytes};
+ghost use Rattle.element.specs.Services.{isMark, plainServices};
 
 fn allowed_byte(x: u8) -> bool
     ensures { λ r. ⌜ r ≡ allowedByte x ⌝ }
@@ -23,6 +25,8 @@ fn allowed_byte(x: u8) -> bool
 
 // The flags of eight bytes that are all allowed.
 const ALL: u64 = 0x8080_8080_8080_8080;
+
+const LOW: u64 = 0x7f7f_7f7f_7f7f_7f7f;
 
 // Whether the part holds no byte that refusal 10 is given for. Eight bytes are tested at once while eight stand there and all are allowed:
 // the byte that is not may stand behind the part.
@@ -58,10 +62,33 @@ fn lesser(a: usize, b: usize) -> usize
 fn allowed_in(w: u64) -> u64
     ensures { λ r. ⌜ Flagged w allowedByte r ⌝ }
 {
-    let low = w & 0x7f7f_7f7f_7f7f_7f7f;
+    let low = w & LOW;
     let text = low + 0x6060_6060_6060_6060;
     let delete = low + 0x0101_0101_0101_0101;
     text & ((delete ^ ALL) | w) & ALL
+}
+
+// Which of eight bytes end something, are the release character or are not allowed, if no service character has its high bit set: such a byte
+// ends something only without its own.
+pub fn marks_in(y: Syntax, w: u64) -> u64
+    ensures { λ r. ⌜ (plainServices y ≡ true → Flagged w (isMark y) r) ⌝ }
+{
+    let low = w & LOW;
+    let ends = differing(low, y.terminator)
+        & differing(low, y.element)
+        & differing(low, y.component)
+        & differing(low, y.release);
+    let text = low + 0x6060_6060_6060_6060;
+    let delete = low + 0x0101_0101_0101_0101;
+    (((ends & (delete ^ ALL)) | w) & text & ALL) ^ ALL
+}
+
+// The high bit of each byte that is not x: they differ in a bit that the sum with 127 carries to the high one.
+fn differing(low: u64, x: u8) -> u64
+    requires { ⌜ low ≤ 0x7f7f_7f7f_7f7f_7f7f ⌝ }
+    ensures { λ r. ⌜ r ≡ bitXor low (0x0101_0101_0101_0101 * (x % 128)) + 0x7f7f_7f7f_7f7f_7f7f ⌝ }
+{
+    (low ^ 0x0101_0101_0101_0101 * ((x % 128) as u64)) + LOW
 }
 
 // The same as `allowed`, a byte at a time.

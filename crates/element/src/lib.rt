@@ -10,6 +10,7 @@ mod scan;
 mod words;
 
 pub use clean::allowed;
+pub use clean::marks_in;
 pub use clean::tagged;
 pub use components::Span;
 pub use components::component_at;

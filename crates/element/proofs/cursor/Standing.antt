@@ -15,7 +15,7 @@ use Rattle.element.specs.Cursors.{restFrom, standing, rest, done, cursor
 use Rattle.element.specs.declared.cursor.Cursor.{Cursor}
 use Rattle.element.specs.declared.cursor.Visit.the-variants.{Nothing}
 
-both : (a b : Bool) → a && b ≡ true → (a ≡ true) × (b ≡ true)
+pub both : (a b : Bool) → a && b ≡ true → (a ≡ true) × (b ≡ true)
 both true b h = (refl, h)
 both false b h = absurd (false≢true h)
 

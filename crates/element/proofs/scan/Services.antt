@@ -29,7 +29,7 @@ neither false r h = absurd (true≢false h)
 
 module _ (y : Syntax) (x : ℕ) where
   -- the four tests of it
-  service-tests : ((eqb x (y .terminator) || eqb x (y .element)) || eqb x (y .component)) || eqb x (y .release) ≡ isService y x
+  pub service-tests : ((eqb x (y .terminator) || eqb x (y .element)) || eqb x (y .component)) || eqb x (y .release) ≡ isService y x
   unfolding isService endingOf
   service-tests = ap (λ (b : Bool). b || eqb x (y .release)) (one-of (eqb x (y .terminator)) (eqb x (y .element)) (eqb x (y .component)))
 
