@@ -7,4 +7,5 @@ pub mod Summing
 pub mod Limits
 pub mod Cuts
 pub mod ComponentFace
+pub mod MarkFace
 pub mod ComponentSamples

@@ -20,3 +20,4 @@ pub mod QuickLoop
 pub mod PageScans
 pub mod PageMarks
 pub mod ReadFaults
+pub mod PageClean

@@ -59,7 +59,7 @@ stays-before ends-element x s h = absurd (false≢true h)
 stays-before ends-component x s h = absurd (false≢true h)
 stays-before ends-nothing x s h = refl
 
-mark-both : (y : Syntax) (x : ℕ) → releases y false x ≡ true → (stays (endingOf y false x) ≡ true) × (frees y false x ≡ true)
+pub mark-both : (y : Syntax) (x : ℕ) → releases y false x ≡ true → (stays (endingOf y false x) ≡ true) × (frees y false x ≡ true)
 unfolding releases
 mark-both y x f = right-of _ _ f
 
@@ -101,16 +101,50 @@ module _ (y : Syntax) (d : List ℕ) (a limit mark : ℕ) (fits : limit ≤ leng
 
 -- ---- the marks of a component
 
--- the component that begins at the place a goes on at the place from .at, and of its bytes up to there so many are removed
+-- the component that begins at the place a goes on at the place `at`, and of its bytes up to there so many are removed
+pub record Past (y : Syntax) (d : List ℕ) (a limit at removed : ℕ) : Type 0 where
+  pub within : at ≤ limit
+  pub onward : a + removed ≤ at
+  pub ends : extentOf y d at limit .end ≡ extentOf y d a limit .end
+  pub counts : at - a - removed + extentOf y d at limit .length ≡ extentOf y d a limit .length
+
+pub past-first : (y : Syntax) (d : List ℕ) (a limit : ℕ) → a ≤ limit → Past y d a limit a 0
+past-first y d a limit h = record { within = h; onward = omega arith; ends = refl; counts = omega arith }
+
+module _
+    (y : Syntax) (d : List ℕ) (a limit : ℕ) (fits : limit ≤ length d) (at removed : ℕ) (g : Past y d a limit at removed)
+    (end : ℕ) (found : Service y d at limit end) where
+  -- it ends there
+  pub past-found : end < limit → (getD d end 0 ≡ y .release → ⊥) → record { end = end; length = end - a - removed } ≡ extentOf y d a limit
+  past-found l n = λ i. record { end = ends i; length = counts i }
+    where
+      stop : record { end = end; length = end - at } ≡ extentOf y d at limit
+      stop = extent-stop y d at limit limit (omega arith) end found l n
+
+      ends : end ≡ extentOf y d a limit .end
+      ends = ap (λ (x : Extent). x .end) stop ∙ g .ends
+
+      counts : end - a - removed ≡ extentOf y d a limit .length
+      counts =
+          let m : end - at ≡ extentOf y d at limit .length = ap (λ (x : Extent). x .length) stop in
+          omega (arith, g .counts, g .onward, found .passed .onward)
+
+  -- a release mark stands there
+  pub past-mark : getD d end 0 ≡ y .release → end + 2 ≤ limit → releases y false (y .release) ≡ true → Past y d a limit (end + 2) (removed + 1)
+  past-mark m h f =
+      let b : releases y false (getD d end 0) ≡ true = rw m f in
+      let o = mark-ends y d at limit end fits found h b in
+      let c = mark-counts y d at limit end fits found h b in
+      let k = found .passed .onward in
+      record { within = h; onward = omega (arith, g .onward); ends = o ∙ g .ends; counts = omega (arith, g .counts, g .onward) }
+
+-- the same, and what is tested behind the place
 pub record Goes (y : Syntax) (d : List ℕ) (a limit : ℕ) (from : Scan) (removed : ℕ) : Type 0 where
-  pub within : from .at ≤ limit
-  pub onward : a + removed ≤ from .at
+  pub past : Past y d a limit (from .at) removed
   pub scanned : Scanned y d (from .at) (from .next) (from .left)
-  pub ends : extentOf y d (from .at) limit .end ≡ extentOf y d a limit .end
-  pub counts : from .at - a - removed + extentOf y d (from .at) limit .length ≡ extentOf y d a limit .length
 
 pub goes-first : (y : Syntax) (d : List ℕ) (limit : ℕ) (s : Scan) → s .at ≤ limit → Scanned y d (s .at) (s .next) (s .left) → Goes y d (s .at) limit s 0
-goes-first y d limit s h q = record { within = h; onward = omega arith; scanned = q; ends = refl; counts = omega arith }
+goes-first y d limit s h q = record { past = past-first y d (s .at) limit h; scanned = q }
 
 module _
     (y : Syntax) (d : List ℕ) (a limit : ℕ) (fits : limit ≤ length d) (from : Scan) (removed : ℕ) (g : Goes y d a limit from removed)
@@ -118,29 +152,14 @@ module _
   found : Service y d (from .at) limit end
   found = rw (← e) at (q .service (omega (arith, q .onward)))
 
-  -- it ends there
   pub goes-found : (getD d end 0 ≡ y .release → ⊥) → AheadOf y d a limit (record { end = end; length = end - a - removed; scan = r })
-  goes-found n = record { extent = λ i. record { end = ends i; length = counts i }; onward = omega (arith, q .onward); scanned = q .scanned }
-    where
-      stop : record { end = end; length = end - from .at } ≡ extentOf y d (from .at) limit
-      stop = extent-stop y d (from .at) limit limit (omega arith) end found l n
+  goes-found n =
+      record { extent = past-found y d a limit fits (from .at) removed (g .past) end found l n; onward = omega (arith, q .onward); scanned = q .scanned }
 
-      ends : end ≡ extentOf y d a limit .end
-      ends = ap (λ (x : Extent). x .end) stop ∙ g .ends
-
-      counts : end - a - removed ≡ extentOf y d a limit .length
-      counts =
-          let m : end - from .at ≡ extentOf y d (from .at) limit .length = ap (λ (x : Extent). x .length) stop in
-          omega (arith, g .counts, g .onward, found .passed .onward)
-
-  -- a release mark stands there
   pub goes-mark
       : getD d end 0 ≡ y .release → end + 2 ≤ limit → releases y false (y .release) ≡ true → (t : Scan) → t ≡ record { at = end + 2; next = end + 2; left = 0 }
       → Goes y d a limit t (removed + 1)
   goes-mark m h f t z =
-      let b : releases y false (getD d end 0) ≡ true = rw m f in
-      let o = mark-ends y d (from .at) limit end fits found h b in
-      let c = mark-counts y d (from .at) limit end fits found h b in
-      let k = found .passed .onward in
+      let p = past-mark y d a limit fits (from .at) removed (g .past) end found m h f in
       let tested = scan-begins (isService y) d (suc (length d)) (end + 2) (omega arith) t z in
-      rw z (record { within = h; onward = omega (arith, g .onward); scanned = rw z at tested; ends = o ∙ g .ends; counts = omega (arith, g .counts, g .onward) })
+      rw z (record { past = p; scanned = rw z at tested })

@@ -13,8 +13,9 @@ use Rattle.cut.specs.declared.service.Syntax.{Syntax}
 use Rattle.cut.proofs.Bytewise.{FirstOf, flags-none}
 use Rattle.cut.proofs.Clearing.{first-cleared}
 use Rattle.element.specs.Components.{extentOf}
-use Rattle.element.specs.Services.{isService}
+use Rattle.element.specs.Services.{isService, isMark}
 use Rattle.element.specs.declared.scan.Extent.{Extent}
+use Rattle.page.specs.Marks.{MarkScanned, MarkSought}
 use Rattle.page.specs.Scans.{waiting, Tested, Foremost, Scanned, Sought, AheadOf}
 use Rattle.page.specs.declared.scan.Scan.{Scan}
 
@@ -146,6 +147,18 @@ sought-flag y d a n m s j f h limit at e =
       onward = flag-onward (isService y) d _ a n m s j f h at e;
       service = λ l. record { passed = record { onward = first .onward; none = first .none }; here = λ k. first .here };
       scanned = flag-behind (isService y) d _ a n m s j f h at e;
+    }
+
+-- the same of a mark
+pub mark-flag
+    : (y : Syntax) (d : List ℕ) (a n m : ℕ) (s : MarkScanned y d a n m) (j : ℕ) → FirstOf 8 (waiting (isMark y) d a n) j → (m ≡ 0 → ⊥) → (at : ℕ) → at ≡ n + j - 7
+    → MarkSought y d a (record { at = at; next = n; left = bitAnd m (m - 1) })
+mark-flag y d a n m s j f h at e =
+    record {
+      onward = flag-onward (isMark y) d _ a n m s j f h at e;
+      inside = omega (arith, f .within, s .within);
+      mark = flag-first (isMark y) d _ a n m s j f h at e;
+      scanned = flag-behind (isMark y) d _ a n m s j f h at e;
     }
 
 -- where no word finds one

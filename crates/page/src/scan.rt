@@ -78,7 +78,7 @@ fn service_on(y: Syntax, d: &[u8], limit: usize, scan: Scan) -> Scan
 }
 
 // Whether the release character releases the next byte: it does not, where it also ends something.
-fn marks(y: Syntax) -> bool
+pub(crate) fn marks(y: Syntax) -> bool
     ensures { λ r. ⌜ r ≡ releases y false (y .release) ⌝ }
 {
     if y.release == y.terminator {

@@ -95,6 +95,10 @@ module _ (d : List ℕ) (e : ℕ) (h : e ≤ length d) where
       let z : i + suc n ≡ i + n + 1 = omega arith in
       rw z (allowed-run i n (λ k l. t k (omega arith)) ∙ allowed-pass (i + n) (t n (omega arith)))
 
+  -- each of them is
+  pub allowed-each : (i : ℕ) → ((k : ℕ) → i ≤ k → k < e → allowedByte (getD d k 0) ≡ true) → allowedBytes (part i e d) ≡ true
+  allowed-each i t = allowed-run i (e - i) (λ k l. t (i + k) (omega arith) (omega arith)) ∙ allowed-none d (i + (e - i)) e (omega arith)
+
   -- eight bytes that are all flagged
   pub eight-allowed
       : (i w m : ℕ) → i + 8 ≤ length d → ((k : ℕ) → getD d k 0 < 256) → w ≡ eightAt d i → Flagged w allowedByte m → m ≡ 0x8080_8080_8080_8080

@@ -1,7 +1,7 @@
 -- Marks: the bytes that end something, the release character and those that are not allowed, eight at once by the high bit of each byte.
 use Prim.Native.Nat.{ℕ, _+_, _*_, _/_, _%_, _≤_, _<_}
 use mathlib.Core.Path.{_≡_, refl, sym, ap, ap₂, _∙_}
-use mathlib.Core.Bool.{Bool, true, false, not, _&&_, _||_, and-true, and-false}
+use mathlib.Core.Bool.{Bool, true, false, not, _&&_, _||_, and-true, and-false, true≢false}
 use native.Mathlib.Omega.{arith}
 use borrow.Author.Tests.{eq-eqb, ne-eqb, eqb-true, eqb-false, leb-true, leb-false}
 use lib.Dec.{eqb, leb, eqb→eq}
@@ -11,6 +11,7 @@ use Rattle.cut.specs.Eights.{flag, flags}
 use Rattle.cut.specs.declared.service.Syntax.{Syntax}
 use Rattle.cut.proofs.Every.{every-at}
 use Rattle.cut.proofs.Bytewise.{Eight, eight-and, eight-or, eight-xor, eight-add, eight-each, low, high, flags-of, xor-none}
+use Rattle.element.proofs.clean.Laws.{byte-text}
 use Rattle.element.proofs.cursor.Standing.{both}
 use Rattle.element.proofs.scan.Services.{service-tests}
 use Rattle.element.specs.Clean.{between, allowedByte}
@@ -116,29 +117,44 @@ none-of true false false false false = refl
 none-of false a b c r =
     rw (and-false a, and-false b, and-false c, and-false r) (sym (and-false (not (((not a && not b) && not c) && not r))))
 
--- no service character has its high bit set
-pub record Low (y : Syntax) : Type 0 where
-  pub terminator : y .terminator < 128
-  pub element : y .element < 128
-  pub component : y .component < 128
-  pub release : y .release < 128
+-- each of the four is one of the numbers from 32 to 64
+pub record Plain (y : Syntax) : Type 0 where
+  pub terminator : between 32 64 (y .terminator) ≡ true
+  pub element : between 32 64 (y .element) ≡ true
+  pub component : between 32 64 (y .component) ≡ true
+  pub release : between 32 64 (y .release) ≡ true
+
+pub services-plain : (y : Syntax) → plainServices y ≡ true → Plain y
+unfolding plainServices
+services-plain y h =
+    let a = both _ _ h in
+    let b = both _ _ (a .1) in
+    let c = both _ _ (b .1) in
+    record { terminator = a .0; element = b .0; component = c .0; release = c .1 }
 
 plain-low : (s : ℕ) → between 32 64 s ≡ true → s < 128
 unfolding between
 plain-low s h = omega (arith, leb-true s 64 (both (leb 32 s) (leb s 64) h .1))
 
-services-low : (y : Syntax) → plainServices y ≡ true → Low y
-unfolding plainServices
-services-low y h =
-    let a = both _ _ h in
-    let b = both _ _ (a .1) in
-    let c = both _ _ (b .1) in
-    record {
-      terminator = plain-low (y .terminator) (a .0);
-      element = plain-low (y .element) (b .0);
-      component = plain-low (y .component) (c .0);
-      release = plain-low (y .release) (c .1);
-    }
+pub plain-allowed : (s : ℕ) → between 32 64 s ≡ true → allowedByte s ≡ true
+unfolding between
+plain-allowed s h =
+    let b = both (leb 32 s) (leb s 64) h in
+    sym (byte-text s (leb-true 32 s (b .0)) (omega (arith, leb-true s 64 (b .1))))
+
+pub text-allowed : (x : ℕ) → between 32 126 x ≡ true → allowedByte x ≡ true
+unfolding allowedByte
+text-allowed x h = rw h
+
+-- a byte that is no mark
+pub mark-not : (y : Syntax) (x : ℕ) → isMark y x ≡ false → (isService y x ≡ false) × (allowedByte x ≡ true)
+unfolding isMark
+mark-not y x h = go (isService y x) (allowedByte x) h
+  where
+    go : (a b : Bool) → a || not b ≡ false → (a ≡ false) × (b ≡ true)
+    go true b h = absurd (true≢false h)
+    go false true h = (refl, refl)
+    go false false h = absurd (true≢false h)
 
 -- the byte x without its high bit, and the byte s
 abbrev differingIn : ℕ → ℕ → ℕ
@@ -155,15 +171,15 @@ markedIn y x = bitAnd (bitOr (bitAnd (endsIn y x) (bitXor (bitAnd x 127 + 1) 128
 abbrev noneIn : Syntax → ℕ → Bool
 noneIn y x = ((not (eqb (bitAnd x 127) (y .terminator)) && not (eqb (bitAnd x 127) (y .element))) && not (eqb (bitAnd x 127) (y .component))) && not (eqb (bitAnd x 127) (y .release))
 
-module _ (y : Syntax) (s : Low y) (x : ℕ) (h : x < 256) where
+module _ (y : Syntax) (s : Plain y) (x : ℕ) (h : x < 256) where
   low-byte : bitAnd x 127 < 128
   low-byte = omega (arith, and-le-r x 127)
 
   ends-high : endsIn y x / 128 ≡ one (noneIn y x)
   ends-high =
       high-and _ _ _ _
-      (high-and _ _ _ _ (high-and _ _ _ _ (high-differing _ _ low-byte (s .terminator)) (high-differing _ _ low-byte (s .element))) (high-differing _ _ low-byte (s .component)))
-      (high-differing _ _ low-byte (s .release))
+      (high-and _ _ _ _ (high-and _ _ _ _ (high-differing _ _ low-byte (plain-low _ (s .terminator))) (high-differing _ _ low-byte (plain-low _ (s .element)))) (high-differing _ _ low-byte (plain-low _ (s .component))))
+      (high-differing _ _ low-byte (plain-low _ (s .release)))
 
   marked-told : bitXor (bitAnd (markedIn y x) 128) 128 ≡ told (noneIn y x) x
   unfolding told
@@ -179,10 +195,10 @@ module _ (y : Syntax) (s : Low y) (x : ℕ) (h : x < 256) where
   wanted-mark : wanted (noneIn y x) x ≡ flag (isMark y x)
   unfolding wanted isMark
   wanted-mark =
-      let t = like-low x (y .terminator) h (s .terminator) in
-      let e = like-low x (y .element) h (s .element) in
-      let c = like-low x (y .component) h (s .component) in
-      let r = like-low x (y .release) h (s .release) in
+      let t = like-low x (y .terminator) h (plain-low _ (s .terminator)) in
+      let e = like-low x (y .element) h (plain-low _ (s .element)) in
+      let c = like-low x (y .component) h (plain-low _ (s .component)) in
+      let r = like-low x (y .release) h (plain-low _ (s .release)) in
       ap (λ (b : Bool). flag (b || not (allowedByte x)))
       (sym (none-of (not (highBit x)) (eqb (bitAnd x 127) (y .terminator)) (eqb (bitAnd x 127) (y .element)) (eqb (bitAnd x 127) (y .component)) (eqb (bitAnd x 127) (y .release)))
       ∙ sym (ap₂ _||_ (ap₂ _||_ (ap₂ _||_ t e) c) r)
@@ -214,9 +230,9 @@ pub mark-flags
     (bitAnd w 0x7f7f_7f7f_7f7f_7f7f + 0x6060_6060_6060_6060)) 0x8080_8080_8080_8080) 0x8080_8080_8080_8080
     ≡ flags (λ k. isMark y (x k))
 mark-flags y w x p h =
-    let s = services-low y h in
+    let s = services-plain y h in
     let q = eight-and p low in
-    let ends = eight-and (eight-and (eight-and (eight-differing w _ x (s .terminator) p) (eight-differing w _ x (s .element) p)) (eight-differing w _ x (s .component) p)) (eight-differing w _ x (s .release) p) in
+    let ends = eight-and (eight-and (eight-and (eight-differing w _ x (plain-low _ (s .terminator)) p) (eight-differing w _ x (plain-low _ (s .element)) p)) (eight-differing w _ x (plain-low _ (s .component)) p)) (eight-differing w _ x (plain-low _ (s .release)) p) in
     let text = eight-add q (eight-each 96 (omega arith)) (λ k. omega (arith, and-le-r (x k) 127)) in
     let delete = eight-add q (eight-each 1 (omega arith)) (λ k. omega (arith, and-le-r (x k) 127)) in
     flags-of (eight-xor (eight-and (eight-and (eight-or (eight-and ends (eight-xor delete high)) p) text) high) high) (λ k. isMark y (x k))

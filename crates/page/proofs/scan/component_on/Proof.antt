@@ -21,7 +21,7 @@ loop-holds c = goes-first _ _ _ _ (c .before .pre .0) (c .before .pre .2)
 service-on-requires : tie.Need-service-on-requires Inv-loop μ-loop
 service-on-requires c κs =
     let g = c .loop .inv in
-    (g .within, c .before .before .pre .1, g .scanned)
+    (g .past .within, c .before .before .pre .1, g .scanned)
 
 sub-end : tie.Need-sub-end Inv-loop μ-loop
 sub-end c = omega (arith, c .before .service-on .ensures .onward)
@@ -38,12 +38,12 @@ shared-slice-read-if2 c = search needs
 sub-t13 : tie.Need-sub-t13 Inv-loop μ-loop
 sub-t13 c =
     let s = c .before .before .before .before .before in
-    omega (arith, s .service-on .ensures .onward, s .before .loop .inv .onward)
+    omega (arith, s .service-on .ensures .onward, s .before .loop .inv .past .onward)
 
 sub-t14 : tie.Need-sub-t14 Inv-loop μ-loop
 sub-t14 c =
     let s = c .before .before .before .before .before in
-    omega (arith, s .service-on .ensures .onward, s .before .loop .inv .onward)
+    omega (arith, s .service-on .ensures .onward, s .before .loop .inv .past .onward)
 
 returns-2 : tie.Need-returns-2 Inv-loop μ-loop
 returns-2 c =
@@ -92,13 +92,13 @@ goes c =
     (sym (m .marks .ensures) ∙ not-false _ (c .before .if4 .left)) _ (c .untested .ensures)
 
 add-removed : tie.Need-add-removed Inv-loop μ-loop
-add-removed c = omega (arith, goes c .onward, goes c .within)
+add-removed c = omega (arith, goes c .past .onward, goes c .past .within)
 
 loop-less : tie.Need-loop-less Inv-loop μ-loop
 loop-less c =
     let s = c .before .before .before .before .before .before .before .before .before in
     let z = ap (λ (x : Scan). x .at) (c .untested .ensures) in
-    omega (arith, s .service-on .ensures .onward, goes c .within)
+    omega (arith, s .service-on .ensures .onward, goes c .past .within)
 
 loop-again : tie.Need-loop-again Inv-loop μ-loop
 loop-again c = goes c
