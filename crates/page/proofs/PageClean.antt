@@ -1,6 +1,6 @@
 -- A component of allowed bytes, by its marks: it ends no segment and goes on behind a release mark and the byte that this releases.
 use Prim.Native.Nat.{ℕ, _+_, _-_, _≤_, _<_}
-use mathlib.Core.Path.{_≡_, refl, sym, ap, _∙_}
+use mathlib.Core.Path.{_≡_, refl, sym, _∙_}
 use mathlib.Core.Bool.{Bool, true, false, not, false≢true, or-true}
 use mathlib.Core.List.{List}
 use native.Mathlib.Omega.{arith}
@@ -51,7 +51,7 @@ module _
   here : Foremost (isMark y) d (from .at) end
   here = rw (← e) at (q .mark)
 
-  pub mark-within : end < length d
+  mark-within : end < length d
   mark-within = omega (arith, q .onward, q .inside)
 
   up-allowed : (k : ℕ) → a ≤ k → k < end → allowedByte (getD d k 0) ≡ true

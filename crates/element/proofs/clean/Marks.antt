@@ -1,11 +1,11 @@
 -- Marks: the bytes that end something, the release character and those that are not allowed, eight at once by the high bit of each byte.
-use Prim.Native.Nat.{ℕ, _+_, _*_, _/_, _%_, _≤_, _<_}
+use Prim.Native.Nat.{ℕ, _+_, _*_, _/_, _%_, _<_}
 use mathlib.Core.Path.{_≡_, refl, sym, ap, ap₂, _∙_}
 use mathlib.Core.Bool.{Bool, true, false, not, _&&_, _||_, and-true, and-false, true≢false}
 use native.Mathlib.Omega.{arith}
 use borrow.Author.Tests.{eq-eqb, ne-eqb, eqb-true, eqb-false, leb-true, leb-false}
 use lib.Dec.{eqb, leb, eqb→eq}
-use lib.Bits.{bitAnd, bitOr, bitXor, and-le-r, and-lt, or-lt, xor-lt, and-mask, and-shr, or-shr}
+use lib.Bits.{bitAnd, bitOr, bitXor, and-le-r, xor-lt, and-mask, and-shr, or-shr}
 use Rattle.cut.specs.Every.{every}
 use Rattle.cut.specs.Eights.{flag, flags}
 use Rattle.cut.specs.declared.service.Syntax.{Syntax}
@@ -79,7 +79,7 @@ module _ (l s : ℕ) (h : l < 128) (k : s < 128) where
           let n = eqb-false (bitXor l s) 0 e in
           omega (arith, xor-lt 7 l s h k)
 
--- a byte is s if it is without its high bit, and has none
+-- a byte is s if it is s without its high bit and this is not set
 like-low : (x s : ℕ) → x < 256 → s < 128 → eqb x s ≡ eqb (bitAnd x 127) s && not (highBit x)
 unfolding one
 like-low x s h k = go (leb 128 x) refl
@@ -100,6 +100,7 @@ like-low x s h k = go (leb 128 x) refl
 told : Bool → ℕ → ℕ
 told e x = flag (not (((e && highBit (bitXor (bitAnd x 127 + 1) 128)) || highBit x) && highBit (bitAnd x 127 + 96)))
 
+-- the flag by what the byte is
 wanted : Bool → ℕ → ℕ
 wanted e x = flag ((not e && not (highBit x)) || not (allowedByte x))
 

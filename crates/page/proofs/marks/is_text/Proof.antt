@@ -1,5 +1,4 @@
 -- `page::marks::is_text` meets its contract.
-use mathlib.Core.Path.{sym}
 use borrow.Author.Tests.{le-leb, lt-leb}
 use Rattle.element.specs.Clean.{between}
 use Rattle.page.proofs.marks.is_text.Statement.{statement}
