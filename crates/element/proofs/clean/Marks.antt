@@ -221,20 +221,24 @@ eight-differing w s x h p =
 
 pub mark-flags
     : (y : Syntax) (w : ℕ) (x : ℕ → ℕ) → Eight w x → plainServices y ≡ true
+    → (t e c r : ℕ) → t ≡ differingBy w (y .terminator) → e ≡ differingBy w (y .element) → c ≡ differingBy w (y .component) → r ≡ differingBy w (y .release)
     → bitXor
     (bitAnd
     (bitAnd
     (bitOr
-    (bitAnd
-    (bitAnd (bitAnd (bitAnd (differingBy w (y .terminator)) (differingBy w (y .element))) (differingBy w (y .component))) (differingBy w (y .release)))
-    (bitXor (bitAnd w 0x7f7f_7f7f_7f7f_7f7f + 0x0101_0101_0101_0101) 0x8080_8080_8080_8080)) w)
+    (bitAnd (bitAnd (bitAnd (bitAnd t e) c) r) (bitXor (bitAnd w 0x7f7f_7f7f_7f7f_7f7f + 0x0101_0101_0101_0101) 0x8080_8080_8080_8080)) w)
     (bitAnd w 0x7f7f_7f7f_7f7f_7f7f + 0x6060_6060_6060_6060)) 0x8080_8080_8080_8080) 0x8080_8080_8080_8080
     ≡ flags (λ k. isMark y (x k))
-mark-flags y w x p h =
+mark-flags y w x p h t e c r ft fe fc fr =
     let s = services-plain y h in
     let q = eight-and p low in
-    let ends = eight-and (eight-and (eight-and (eight-differing w _ x (plain-low _ (s .terminator)) p) (eight-differing w _ x (plain-low _ (s .element)) p)) (eight-differing w _ x (plain-low _ (s .component)) p)) (eight-differing w _ x (plain-low _ (s .release)) p) in
+    let et = eight-differing w _ x (plain-low _ (s .terminator)) p in
+    let ee = eight-differing w _ x (plain-low _ (s .element)) p in
+    let ec = eight-differing w _ x (plain-low _ (s .component)) p in
+    let er = eight-differing w _ x (plain-low _ (s .release)) p in
+    let ends = eight-and (eight-and (eight-and et ee) ec) er in
     let text = eight-add q (eight-each 96 (omega arith)) (λ k. omega (arith, and-le-r (x k) 127)) in
     let delete = eight-add q (eight-each 1 (omega arith)) (λ k. omega (arith, and-le-r (x k) 127)) in
-    flags-of (eight-xor (eight-and (eight-and (eight-or (eight-and ends (eight-xor delete high)) p) text) high) high) (λ k. isMark y (x k))
-    (λ k. mark-byte y s (x k) (p .bytes k))
+    rw (ft, fe, fc, fr)
+    (flags-of (eight-xor (eight-and (eight-and (eight-or (eight-and ends (eight-xor delete high)) p) text) high) high) (λ k. isMark y (x k))
+    (λ k. mark-byte y s (x k) (p .bytes k)))

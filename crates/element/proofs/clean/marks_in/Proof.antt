@@ -28,8 +28,7 @@ returns : tie.Need-returns
 returns c = λ h.
     let b = c .before .before in
     let a = b .before .before .args in
-    rw (b .before .differing .ensures, b .differing2 .ensures, c .before .differing3 .ensures, c .differing4 .ensures)
-    (mark-flags (a .y) (a .w) _ (eight-word (a .w) (omega arith)) h)
+    mark-flags (a .y) (a .w) _ (eight-word (a .w) (omega arith)) h _ _ _ _ (b .before .differing .ensures) (b .differing2 .ensures) (c .before .differing3 .ensures) (c .differing4 .ensures)
 
 pub marks-in-spec : {M : Type 1} → statement M
 marks-in-spec =
