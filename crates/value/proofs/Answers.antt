@@ -18,7 +18,7 @@ use Rattle.value.specs.declared.prices.Number.the-variants.{Amount, Noth
 use Rattle.value.specs.declared.formats.Format.{Format}
 use Rattle.value.specs.declared.formats.Format.the-variants.{AnUpTo, An, NUpTo, N}
 use Rattle.value.specs.Format.{fitsFormat}
-use Rattle.value.specs.Numeral.{some, digitsAhead, behindDigits, unsigned, minus, whole, fraction, digits, isNumber, decimal}
+use Rattle.value.specs.Numeral.{some, digitsAhead, behindDigits, unsigned, minus, whole, fraction, digits, isNumber, digitCount, decimal}
 use Rattle.value.specs.Number.{signed, pickNumber, numberOf}
 use Rattle.value.specs.Inner.{pickNumeral, countedAs, numeralBy, unsignedOf, numeralOf, digitsOf}
 use Rattle.value.proofs.Digitwise.{and-both, onto-is, decimal-append}
@@ -36,7 +36,8 @@ counted-by m v n k true true = refl
 counted-by m v n k false true = refl
 counted-by m v n k long false = refl
 
-digits-number : (y : Syntax) (s : List ℕ) → digitsOf (numeralOf y s) ≡ cond (isNumber y s) (length (digits s)) 0
+pub digits-number : (y : Syntax) (s : List ℕ) → digitsOf (numeralOf y s) ≡ digitCount y s
+unfolding digitCount
 digits-number y s =
     ap digitsOf (numeral-is y s)
     ∙ counted-by (minus s) (decimal (digits s)) (length (digits s)) (length (fraction s)) (ltb 15 (length (digits s))) (isNumber y s)
@@ -53,6 +54,7 @@ number-digits y s h =
     simp length-append (omega arith)
 
 judged-number : (h : ℕ → Bool) (y : Syntax) (s : List ℕ) (n : ℕ) → n ≡ digitsOf (numeralOf y s) → leb 1 n && h n ≡ isNumber y s && h (length (digits s))
+unfolding digitCount
 judged-number h y s n e = go (isNumber y s) refl
   where
     go : (b : Bool) → isNumber y s ≡ b → leb 1 n && h n ≡ b && h (length (digits s))

@@ -2,8 +2,8 @@ pub mod Grammar
 pub mod Digitwise
 pub mod Running
 pub mod Numerals
-pub mod AtOnce
 pub mod Answers
+pub mod DigitRuns
 pub mod Counting
 pub mod Signs
 pub mod Texts

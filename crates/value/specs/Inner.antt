@@ -1,6 +1,6 @@
 -- What the crate's own readers promise each other; no public call cites these.
 use Prim.Native.Nat.{ℕ, _+_, _-_, _*_, _^_, _≤_, _<_}
-use mathlib.Core.Bool.{Bool, true, false, _&&_, _||_}
+use mathlib.Core.Bool.{Bool, true, false, cond, _&&_}
 use mathlib.Core.Path.{_≡_}
 use mathlib.Core.List.{List, [], _∷_, _++_}
 use lib.ListN.{length, getD, drop}
@@ -56,10 +56,13 @@ digitsOf (Short m v n k) = n
 digitsOf (Long n) = n
 digitsOf Other = 0
 
--- r is n, unless r is 0: that says nothing of n
-abbrev pub Told : ℕ → ℕ → Type 0
-Told r n = (r ≡ 0 → ⊥) → r ≡ n
+-- r is the place of the first byte of d from i on that is no digit; e or a place behind it, if none stands before e
+pub record DigitsEnd (d : List ℕ) (i e r : ℕ) : Type 0 where
+  pub onward : i ≤ r
+  pub digits : (k : ℕ) → i ≤ k → k < r → k < e → isDigit (getD d k 0) ≡ true
+  pub other : r < e → isDigit (getD d r 0) ≡ false
+  pub nothing : e ≤ i → r ≡ i
 
--- whether the release character can stand in a number without its sign: as the mark, or as a digit
-unfoldable pub mayRelease : Syntax → Bool
-mayRelease y = eqb (y .release) (y .decimal) || isDigit (y .release)
+-- where a number that begins at a begins without its sign
+unfoldable pub behindSign : List ℕ → ℕ → ℕ
+behindSign d a = cond (eqb (getD d a 0) 45) (a + 1) a

@@ -1,7 +1,7 @@
 -- Numbers as they are written. Document 01, 'Elements': "an optional `-`, digits, and optionally `.` with digits; at least one
 -- digit stands on each side of the mark; sign and mark do not count". All of it on decoded bytes, with y's decimal mark for the `.`.
 use Prim.Native.Nat.{ℕ, _+_, _-_, _*_, _^_}
-use mathlib.Core.Bool.{Bool, true, false, _&&_}
+use mathlib.Core.Bool.{Bool, true, false, cond, _&&_}
 use mathlib.Core.List.{List, [], _∷_, _++_}
 use lib.ListN.{length, drop}
 use lib.Dec.{eqb, leb}
@@ -65,6 +65,10 @@ isTail y (x ∷ xs) = eqb x (y .decimal) && (some (digitsAhead xs) && none (behi
 -- whether the bytes are a number: "at least one digit stands on each side of the mark"
 unfoldable pub isNumber : Syntax → List ℕ → Bool
 isNumber y s = some (whole s) && isTail y (behindDigits (unsigned s))
+
+-- how many digits the number has that the bytes are; 0 where they are none
+unfoldable pub digitCount : Syntax → List ℕ → ℕ
+digitCount y s = cond (isNumber y s) (length (digits s)) 0
 
 -- the decimal value of digits: each counts for the power of ten of its place
 unfoldable pub decimal : List ℕ → ℕ

@@ -1,5 +1,4 @@
 // Whether a part has the format that its page asks for.
-use crate::at_once::digits_at_once;
 use crate::numeral::Numeral;
 use crate::numeral::numeral_of;
 use cut::Syntax;
@@ -58,10 +57,6 @@ fn digits_in(n: Numeral) -> usize
 fn digit_count(y: Syntax, d: &[u8], a: usize, e: usize) -> usize
     ensures { λ r. ⌜ r ≡ digitsOf (numeralOf y (decoded y a e (now (d .entry)))) ⌝ }
 {
-    let n = digits_at_once(y, d, a, e);
-    if n != 0 {
-        return n;
-    }
     digits_in(numeral_of(y, d, a, e))
 }
 

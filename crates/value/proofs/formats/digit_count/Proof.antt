@@ -1,15 +1,9 @@
--- `value::formats::digit_count` meets its contract: told at once, or read.
+-- `value::formats::digit_count` meets its contract: what the numeral has of digits.
 use borrow.Author.Needs.{needs}
 use mathlib.Core.Path.{ap, _∙_}
 use Rattle.value.specs.Inner.{digitsOf}
 use Rattle.value.proofs.formats.digit_count.Statement.{statement}
 use Rattle.value.proofs.formats.digit_count.Tie as tie
-
-digits-at-once-requires : tie.Need-digits-at-once-requires
-digits-at-once-requires c κs = search needs
-
-returns : tie.Need-returns
-returns c = c .before .digits-at-once .ensures (c .if1 .taken)
 
 numeral-of-requires : tie.Need-numeral-of-requires
 numeral-of-requires c κs = search needs
@@ -17,10 +11,8 @@ numeral-of-requires c κs = search needs
 digits-in-requires : tie.Need-digits-in-requires
 digits-in-requires c κs = search needs
 
-returns-2 : tie.Need-returns-2
-returns-2 c = c .digits-in .ensures ∙ ap digitsOf (c .before .numeral-of .ensures)
+returns : tie.Need-returns
+returns c = c .digits-in .ensures ∙ ap digitsOf (c .before .numeral-of .ensures)
 
 pub digit-count-spec : {M : Type 1} → statement M
-digit-count-spec =
-    tie.close
-    (tie.spec digits-at-once-requires returns numeral-of-requires digits-in-requires returns-2)
+digit-count-spec = tie.close (tie.spec numeral-of-requires digits-in-requires returns)

@@ -1,10 +1,10 @@
--- `value::at_once::others_in` meets its contract, by the law of each byte apart.
+-- `value::digit_runs::others_in` meets its contract, by the law of each byte apart.
 use native.Mathlib.Omega.{arith}
 use lib.Bits.{and-le-r}
 use Rattle.cut.proofs.Bytewise.{eight-word}
-use Rattle.value.proofs.AtOnce.{others-flags}
-use Rattle.value.proofs.at_once.others_in.Statement.{statement}
-use Rattle.value.proofs.at_once.others_in.Tie as tie
+use Rattle.value.proofs.DigitRuns.{others-flags}
+use Rattle.value.proofs.digit_runs.others_in.Statement.{statement}
+use Rattle.value.proofs.digit_runs.others_in.Tie as tie
 
 add-above : tie.Need-add-above
 add-above c = record { fits = omega (arith, and-le-r (c .args .w) 0x7f7f_7f7f_7f7f_7f7f) }
