@@ -47,23 +47,33 @@ unfolding some
 some-length [] h = absurd (false≢true h)
 some-length (x ∷ xs) h = omega arith
 
-number-digits : (y : Syntax) (s : List ℕ) → isNumber y s ≡ true → 1 ≤ length (digits s)
+pub number-digits : (y : Syntax) (s : List ℕ) → isNumber y s ≡ true → 1 ≤ length (digits s)
 unfolding isNumber digits
 number-digits y s h =
     let p = some-length (whole s) (and-both (some (whole s)) _ h .0) in
     simp length-append (omega arith)
 
-judged-number : (h : ℕ → Bool) (y : Syntax) (s : List ℕ) (n : ℕ) → n ≡ digitsOf (numeralOf y s) → leb 1 n && h n ≡ isNumber y s && h (length (digits s))
+judged-number : (h : ℕ → Bool) (y : Syntax) (s : List ℕ) (n : ℕ) → n ≡ digitCount y s → leb 1 n && h n ≡ isNumber y s && h (length (digits s))
 unfolding digitCount
 judged-number h y s n e = go (isNumber y s) refl
   where
     go : (b : Bool) → isNumber y s ≡ b → leb 1 n && h n ≡ b && h (length (digits s))
     go true p =
-        let q : n ≡ length (digits s) = e ∙ digits-number y s ∙ rw p in
+        let q : n ≡ length (digits s) = e ∙ rw p in
         rw (q, le-leb 1 (length (digits s)) (number-digits y s p))
     go false p =
-        let q : n ≡ 0 = e ∙ digits-number y s ∙ rw p in
+        let q : n ≡ 0 = e ∙ rw p in
         rw q
+
+-- whether n digits fit
+module _ (y : Syntax) (s : List ℕ) (k n : ℕ) (q : n ≡ digitCount y s) where
+  pub count-up-to : leb 1 n && leb n k ≡ fitsFormat y (NUpTo k) s
+  unfolding fitsFormat
+  count-up-to = judged-number (λ c. leb c k) y s n q
+
+  pub count-exactly : leb 1 n && eqb n k ≡ fitsFormat y (N k) s
+  unfolding fitsFormat
+  count-exactly = judged-number (λ c. eqb c k) y s n q
 
 module _ (y : Syntax) (s : List ℕ) (f : Format) (k : ℕ) where
   pub fits-an-up-to : (n : ℕ) → f ≡ AnUpTo k → n ≡ length s → leb 1 n && leb n k ≡ fitsFormat y f s
@@ -75,12 +85,10 @@ module _ (y : Syntax) (s : List ℕ) (f : Format) (k : ℕ) where
   fits-an n p q = rw (p, q)
 
   pub fits-n-up-to : (n : ℕ) → f ≡ NUpTo k → n ≡ digitsOf (numeralOf y s) → leb 1 n && leb n k ≡ fitsFormat y f s
-  unfolding fitsFormat
-  fits-n-up-to n p q = rw p (judged-number (λ c. leb c k) y s n q)
+  fits-n-up-to n p q = rw p (count-up-to y s k n (q ∙ digits-number y s))
 
   pub fits-n : (n : ℕ) → f ≡ N k → n ≡ digitsOf (numeralOf y s) → leb 1 n && eqb n k ≡ fitsFormat y f s
-  unfolding fitsFormat
-  fits-n n p q = rw p (judged-number (λ c. eqb c k) y s n q)
+  fits-n n p q = rw p (count-exactly y s k n (q ∙ digits-number y s))
 
 -- prices: the numeral's amount and decimals
 abbrev pub amountIn : Numeral → Number

@@ -27,6 +27,8 @@ pub use Rattle.value.proofs.Grammar.{spelled, Spelling, Parts, Apart, n
 pub use Rattle.value.proofs.TextOnly.{count-spelled}
 -- decimal text read back is the number it was made of
 pub use Rattle.value.proofs.TextValue.{count-of-text, number-of-text}
+-- a number has at least one digit; and whether n digits fit n..k and nk
+pub use Rattle.value.proofs.Answers.{number-digits, count-up-to, count-exactly}
 
 -- what fits an..k has 1 to k bytes
 pub an-up-to-fits : (y : Syntax) (k : ℕ) (s : List ℕ) → fitsFormat y (AnUpTo k) s ≡ true → (1 ≤ length s) × (length s ≤ k)
