@@ -66,22 +66,25 @@ module _ (x : ℕ → ℕ) (h : (k : ℕ) → x k < 256) where
   lowest (suc (suc (suc (suc (suc (suc zero)))))) l = and-mask (number 8 x) 48 ∙ omega (arith, h 0, h 1, h 2, h 3, h 4, h 5)
   lowest (suc (suc (suc (suc (suc (suc (suc n))))))) l = absurd (omega arith)
 
--- ---- the number of a component of n bytes
+-- ---- the number of n bytes, and of a component
+
+pub front-key
+    : (d : List ℕ) (a n : ℕ) → n ≤ 6 → a + 8 ≤ length d → ((k : ℕ) → getD d k 0 < 256) → (w top : ℕ) → w ≡ eightAt d a → top ≡ 256 ^ n
+    → bitAnd w (top - 1) + top ≡ wordOf (part a (a + n) d)
+unfolding wordOf
+front-key d a n short there bytes w top e t =
+    let p = eight-there d a there bytes in
+    let l : length (part a (a + n) d) ≤ 6 = rw (length-part d a (a + n) (omega arith)) (omega arith) in
+    rw (le-leb (length (part a (a + n) d)) 6 l, packed-part d n a (omega arith), t, e, p .worth) (ap (λ (m : ℕ). m + 256 ^ n) (lowest (onFrom d a) (p .bytes) n short))
 
 module _ (y : Syntax) (d : List ℕ) (a b n : ℕ) (c : n ≡ length (decoded y a b d)) where
   pub key-long : 6 < n → 0 ≡ wordOf (decoded y a b d)
   unfolding wordOf
   key-long h = rw (← c, lt-leb n 6 h)
 
-  module _ (short : n ≤ 6) (there : a + 8 ≤ length d) (ends : a + n ≡ b) where
-    whole : decoded y a b d ≡ part a (a + n) d
-    unfolding decoded
-    whole =
-        let l : length (part a b d) ≡ b - a = length-part d a b (omega arith) in
-        rw ends (plain-whole y false (part a b d) (sym c ∙ omega arith))
-
-    pub key-there : ((k : ℕ) → getD d k 0 < 256) → (w top : ℕ) → w ≡ eightAt d a → top ≡ 256 ^ n → bitAnd w (top - 1) + top ≡ wordOf (decoded y a b d)
-    unfolding wordOf
-    key-there bytes w top e t =
-        let p = eight-there d a there bytes in
-        rw (← c, le-leb n 6 short, whole, packed-part d n a (omega arith), t, e, p .worth) (ap (λ (m : ℕ). m + 256 ^ n) (lowest (onFrom d a) (p .bytes) n short))
+  -- a component of as many bytes as it takes has no release mark
+  pub unreleased : b ≤ length d → a + n ≡ b → decoded y a b d ≡ part a (a + n) d
+  unfolding decoded
+  unreleased h ends =
+      let l : length (part a b d) ≡ b - a = length-part d a b h in
+      rw ends (plain-whole y false (part a b d) (sym c ∙ omega arith))

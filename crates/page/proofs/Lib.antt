@@ -8,6 +8,7 @@ pub mod PageLookup
 pub mod KeyCodes
 pub mod KeyWords
 pub mod PageFaults
+pub mod PageRight
 pub mod PageMoods
 pub mod PageStops
 pub mod PageSought

@@ -2,10 +2,11 @@
 use crate::words::code_word;
 use cut::Syntax;
 use element::word_of;
-ghost use Prim.Native.Nat.{_-_, _^_, _≤_};
+ghost use Prim.Native.Nat.{_+_, _-_, _^_, _≤_};
 ghost use mathlib.Core.Path.{_≡_};
 ghost use mathlib.Core.List.{[]};
 ghost use lib.ListN.{length};
+ghost use Rattle.cut.specs.Bytes.{part};
 ghost use Rattle.element.specs.Plain.{decoded};
 ghost use Rattle.element.specs.Words.{wordOf};
 ghost use Rattle.guide.specs.Nodes.{chosen};
@@ -14,7 +15,7 @@ ghost use Rattle.page.specs.PageKeys.{keyAmong};
 ghost use Rattle.page.specs.PageWords.{span, codesIn};
 
 // Whether the number is that of a code from one place up to another.
-fn has_code(key: u64, from: usize, next: usize) -> bool
+pub(crate) fn has_code(key: u64, from: usize, next: usize) -> bool
     ensures { λ r. ⌜ r ≡ keyAmong key (span allCodes [] from (next - from)) ⌝ }
 {
     let mut n = from;
@@ -43,6 +44,15 @@ fn above(n: usize) -> u64
     }
 }
 
+// The number of the n bytes from a on, taken from the eight that begin with them.
+pub(crate) fn front_word(d: &[u8], a: usize, n: usize) -> u64
+    requires { ⌜ (n ≤ 6) × (a + 8 ≤ length (now d)) ⌝ }
+    ensures { λ r. ⌜ r ≡ wordOf (part a (a + n) (now (d .entry))) ⌝ }
+{
+    let top = above(n);
+    (cut::eight_at(d, a) & (top - 1)) + top
+}
+
 // The number of a component of n bytes. One without release marks is the beginning of the eight bytes that begin with it, where eight stand there.
 fn key_of(y: Syntax, d: &[u8], a: usize, b: usize, n: usize) -> u64
     requires { ⌜ n ≡ length (decoded y a b (now d)) ⌝ }
@@ -60,8 +70,7 @@ fn key_of(y: Syntax, d: &[u8], a: usize, b: usize, n: usize) -> u64
     if a + n != b {
         return word_of(y, d, a, b);
     }
-    let top = above(n);
-    (cut::eight_at(d, a) & (top - 1)) + top
+    front_word(d, a, n)
 }
 
 // Whether a component of n bytes is on the row that has a word; a row without codes takes any text.

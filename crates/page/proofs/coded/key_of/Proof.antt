@@ -1,9 +1,9 @@
 -- `page::coded::key_of` meets its contract: by the length, and where eight bytes stand there.
-use Prim.Native.Nat.{_-_}
+use mathlib.Core.Path.{sym, ap, _∙_}
 use native.Mathlib.Omega.{arith}
 use borrow.Author.Needs.{needs}
-use lib.Bits.{and-le-r}
-use Rattle.page.proofs.KeyWords.{key-long, key-there}
+use Rattle.element.specs.Words.{wordOf}
+use Rattle.page.proofs.KeyWords.{key-long, unreleased}
 use Rattle.page.proofs.coded.key_of.Statement.{statement}
 use Rattle.page.proofs.coded.key_of.Tie as tie
 
@@ -34,23 +34,13 @@ word-of-requires-3 c κs = search needs
 returns-4 : tie.Need-returns-4
 returns-4 c = search needs
 
-above-requires : tie.Need-above-requires
-above-requires c κs = search needs
-
-eight-at-requires : tie.Need-eight-at-requires
-eight-at-requires c κs = search needs
-
-sub-result : tie.Need-sub-result
-sub-result c = search needs
-
-add-result : tie.Need-add-result
-add-result c = omega (arith, and-le-r (c .eight-at .result) (c .before .above .result - 1), c .before .above .ensures .2)
+front-word-requires : tie.Need-front-word-requires
+front-word-requires c κs = search needs
 
 returns-5 : tie.Need-returns-5
 returns-5 c =
-    let e = c .before .before in
-    let known = e .before .before .before .before in
-    key-there _ _ _ _ _ (known .before .pre) (e .before .before .before .if1 .left) (omega arith) (e .if4 .left) (λ k. omega (arith, known .shared-slice-known .given k)) _ _ (c .eight-at .ensures) (c .before .above .ensures .0)
+    let e = c .before in
+    c .front-word .ensures ∙ ap wordOf (sym (unreleased _ _ _ _ _ (e .before .before .before .before .before .pre) (omega arith) (e .if4 .left)))
 
 pub key-of-spec : {M : Type 1} → statement M
 key-of-spec =
@@ -65,8 +55,5 @@ key-of-spec =
     add-if4
     word-of-requires-3
     returns-4
-    above-requires
-    eight-at-requires
-    sub-result
-    add-result
+    front-word-requires
     returns-5)
