@@ -1,21 +1,21 @@
 -- What the tests on the states say of one component: its fault, the mood after it, what is lacking where its element ends, and the place that is kept.
-use Prim.Native.Nat.{ℕ, zero, suc, _+_, _/_, _%_, _≤_, _<_}
+use Prim.Native.Nat.{ℕ, zero, suc, _+_, _/_, _%_, _<_}
 use mathlib.Core.Bool.{Bool, true, false, not, cond, _||_}
-use mathlib.Core.Path.{_≡_, refl, sym, ap, subst, _∙_}
+use mathlib.Core.Path.{_≡_, refl, sym, _∙_}
 use mathlib.Core.List.{List}
 use native.Mathlib.Omega.{arith}
 use lib.ListN.{length, getD, drop}
 use lib.Dec.{T, eqb, leb, eqb→eq, leb→le}
-use borrow.Author.Tests.{ne-eqb, eqb-true, eqb-false}
+use borrow.Author.Tests.{eqb-true, eqb-false}
 use Rattle.cut.specs.declared.service.Syntax.{Syntax}
 use Rattle.element.specs.declared.components.Span.{Span}
-use Rattle.guide.specs.Page.{must, may, unused, Composite, Page, elementOf}
+use Rattle.guide.specs.Page.{must, may, unused, Page, elementOf}
 use Rattle.guide.specs.PageFault.{textFault}
 use Rattle.guide.proofs.PageFace.{isMust, opened, unused-filled, used-filled}
 use Rattle.page.specs.Cells.{Spot, keepOf}
 use Rattle.page.specs.PagePlaces.{placesOn}
 use Rattle.page.specs.PageWalk.{inside, standOf, standFault, standAfter, standEnd, MoodAfter, EndFault}
-use Rattle.page.specs.PageWords.{codesIn, formatIn, rowBy, rowIn, freeBy, freeRow, elementIn, ElementWord, pageIn, NodeWord}
+use Rattle.page.specs.PageWords.{codesIn, formatIn, rowBy, rowIn, freeBy, freeRow, elementIn, ElementWord, NodeWord}
 use Rattle.page.specs.declared.places.Places.{Places}
 use Rattle.page.proofs.CellTests.{wordAt, wordOf, rowWord, openingOf, moodOn, calm, lastRow, keptOf, freed, each, unless}
 use Rattle.page.proofs.PageCells.{element-arm, row-arm}

@@ -1,7 +1,7 @@
 -- The words of the states are right: each leads where the pass over the components would, by one computation over all states.
 use Prim.Native.Nat.{ℕ, zero, suc, _+_, _/_, _%_, _≤_, _<_}
 use mathlib.Core.Bool.{Bool, true, not, cond, _&&_, _||_}
-use mathlib.Core.Path.{_≡_, refl, subst, _∙_}
+use mathlib.Core.Path.{_≡_, subst, _∙_}
 use lib.ListN.{getD}
 use lib.Dec.{T, eqb, ltb, leb, eqb→eq, ltb→lt, leb→le}
 use borrow.Author.Tests.{eq-eqb, ne-eqb}

@@ -7,7 +7,6 @@ use mathlib.Core.Logic.{⊎-elim}
 use native.Mathlib.Nat.{le-refl}
 use native.Mathlib.Omega.{arith}
 use lib.ListN.{length, getD}
-use lib.Dec.{T}
 use borrow.Author.Tests.{eqb-false}
 use Rattle.cut.specs.Bytes.{part}
 use Rattle.cut.specs.Calls.{segmentAt}
@@ -15,7 +14,7 @@ use Rattle.cut.specs.Carrying.{Carries}
 use Rattle.cut.specs.declared.scan.Cut.the-variants as cut
 use Rattle.cut.specs.declared.service.Syntax.{Syntax}
 use Rattle.cut.proofs.Carrying.{carries-on, carries-plain, ended-here}
-use Rattle.element.specs.Clean.{allowedByte, allowedBytes}
+use Rattle.element.specs.Clean.{allowedBytes}
 use Rattle.element.specs.Plain.{decoded}
 use Rattle.element.specs.Services.{isService, isMark}
 use Rattle.element.proofs.ComponentFace.{Ended, extent-ended, extent-length}
@@ -31,7 +30,7 @@ use Rattle.page.specs.declared.quick.Faultless.{Faultless}
 use Rattle.page.specs.declared.scan.Ahead.{Ahead}
 use Rattle.page.specs.declared.scan.Scan.{Scan}
 use Rattle.page.proofs.CellReads.{next-by}
-use Rattle.page.proofs.CellTests.{furtherOf, behindOf, cell-fits, cell-further, cell-behind, cell-end}
+use Rattle.page.proofs.CellTests.{behindOf, cell-fits, cell-further, cell-behind, cell-end}
 use Rattle.page.proofs.PageScans.{scan-begins}
 use Rattle.page.proofs.PageStops.{stop-segment, stop-element, stop-component}
 use Rattle.page.proofs.QuickStart.{plain-allowed, allowed-parts, allowed-more, plain-terminator, plain-element, plain-component, begun-room, begun-tagged, begun-carries, begun-allowed, stood-begins, first-spot}

@@ -1,7 +1,7 @@
 -- The quick pass behind the tag, and the bytes that it has passed.
-use Prim.Native.Nat.{ℕ, zero, suc, _+_, _-_, _/_, _%_, _≤_, _<_, min}
+use Prim.Native.Nat.{ℕ, zero, suc, _+_, _-_, _/_, _%_, _≤_, _<_}
 use mathlib.Core.Path.{_≡_, refl, sym, ap, subst, _∙_}
-use mathlib.Core.Bool.{Bool, true, false, not, _&&_, _||_, true≢false, false≢true}
+use mathlib.Core.Bool.{Bool, true, false, _&&_, _||_, true≢false, false≢true}
 use mathlib.Core.List.{List, [], _∷_, _++_}
 use native.Mathlib.Nat.{le-refl, add-zero}
 use native.Mathlib.Omega.{arith}
@@ -14,10 +14,9 @@ use Rattle.cut.specs.declared.service.Syntax.{Syntax}
 use Rattle.cut.proofs.Carrying.{carries-run}
 use Rattle.cut.proofs.Parts.{part-none, part-next, part-parts}
 use Rattle.element.specs.Clean.{between, allowedByte, allowedBytes, capital, endsTag, taggedBytes}
-use Rattle.element.specs.Components.{extentOf}
 use Rattle.element.specs.Elements.{endingOf, stays}
 use Rattle.element.specs.Plain.{decoded}
-use Rattle.element.specs.Services.{isService, Passed, Service, plainServices}
+use Rattle.element.specs.Services.{isService, Service, plainServices}
 use Rattle.element.proofs.ComponentFace.{Ended, extent-ended, extent-stop, tag-short, tag-four}
 use Rattle.guide.specs.Page.{Page}
 use Rattle.page.specs.Cells.{Spot, spot}

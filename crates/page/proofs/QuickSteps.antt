@@ -1,10 +1,10 @@
 -- The quick pass over a segment's components, one step further.
 use Prim.Native.Nat.{ℕ, _+_, _/_, _%_, _≤_, _<_}
-use mathlib.Core.Path.{_≡_, refl, sym, ap, subst, _∙_}
+use mathlib.Core.Path.{_≡_, refl, sym, _∙_}
 use mathlib.Core.Bool.{false}
 use mathlib.Core.List.{List}
 use native.Mathlib.Omega.{arith}
-use lib.ListN.{length, getD, drop}
+use lib.ListN.{length, drop}
 use lib.Dec.{T}
 use Rattle.cut.specs.Bytes.{part}
 use Rattle.cut.specs.declared.service.Syntax.{Syntax}
@@ -14,18 +14,17 @@ use Rattle.element.proofs.ComponentFace.{Ended}
 use Rattle.guide.specs.Page.{Page}
 use Rattle.guide.specs.PageFault.{textFault, pageFault}
 use Rattle.guide.proofs.PageFace.{absentFault}
-use Rattle.page.specs.Cells.{Spot, spot, keepOf}
+use Rattle.page.specs.Cells.{Spot, keepOf}
 use Rattle.page.specs.PagePlaces.{placesOn}
 use Rattle.page.specs.PageWalk.{stopOf}
-use Rattle.page.specs.PageWords.{freeRow, pageIn, NodeWord}
+use Rattle.page.specs.PageWords.{freeRow, NodeWord}
 use Rattle.page.specs.declared.places.Places.{Places}
 use Rattle.page.proofs.CellTests.{wordAt, wordOf, rowWord, openingOf, moodOn, calm, lastRow, furtherOf, behindOf, Fits}
 use Rattle.page.proofs.CellRows.{word-here, row-is, opening-is, freed-right, mood-on, calm-fault, last-row, kept-places}
-use Rattle.page.proofs.PageLookup.{row-past}
-use Rattle.page.proofs.PageMoods.{absent-none, ending-calm, mood-kept, tag-calm}
+use Rattle.page.proofs.PageMoods.{absent-none}
 use Rattle.page.proofs.PageResults.{own-word}
-use Rattle.page.proofs.PageSought.{Gathered, gather-begins, gather-further, gather-enter, gather-done, places-other}
-use Rattle.page.proofs.PageSteps.{Before, Behind, pass-begins, pass-on, pass-further, pass-done, pass-enter}
+use Rattle.page.proofs.PageSought.{Gathered, gather-further, gather-enter, gather-done}
+use Rattle.page.proofs.PageSteps.{Before, Behind, pass-on, pass-further, pass-done, pass-enter}
 
 module _ (y : Syntax) (page : Page) (d : List ℕ) (start : ℕ) where
   -- what the page check would find, if the segment went on to the delivery's end

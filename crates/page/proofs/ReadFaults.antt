@@ -11,7 +11,6 @@ use Rattle.cut.specs.declared.scan.Cut.the-variants.{Segment, Nothing}
 use Rattle.cut.specs.declared.service.Syntax.{Syntax}
 use Rattle.element.specs.Clean.{allowedBytes, taggedBytes}
 use Rattle.element.specs.Components.{componentAt}
-use Rattle.element.specs.declared.components.Span.{Span}
 use Rattle.guide.specs.Choices.{orElse}
 use Rattle.guide.specs.Editions.{guideOf, pagesOf}
 use Rattle.guide.specs.Judging.{bytesFault}

@@ -1,5 +1,5 @@
 -- The states of the quick pass, and how a state's word is read. No public promise cites these.
-use Prim.Native.Nat.{ℕ, zero, suc, _+_, _/_, _%_, _<_}
+use Prim.Native.Nat.{ℕ, zero, suc, _/_, _%_, _<_}
 use mathlib.Core.Path.{_≡_}
 use mathlib.Core.Bool.{Bool, cond}
 use mathlib.Core.List.{List, [], _∷_}
@@ -62,7 +62,7 @@ cellTable =
 unfoldable pub cellOf : ℕ → ℕ
 cellOf s = getD cellTable s 0
 
--- the state is before the first component behind the tag of the page; 0 is none
+-- the state, one of 95, is before the first component behind the tag of the page; 0 is none
 unfoldable pub FirstCell : ℕ → Page → Type 0
 FirstCell s page = (s < 95) × ((s ≡ 0 → ⊥) → NodeWord (spotOf s .page) page × (spotOf s .element ≡ 0) × (spotOf s .component ≡ 0))
 

@@ -18,7 +18,7 @@ use Rattle.page.specs.Quick.{Begun}
 use Rattle.page.specs.declared.scan.Scan.{Scan}
 use Rattle.page.proofs.CellReads.{behind-service, behind-next, may-by}
 use Rattle.page.proofs.QuickStart.{begun-room}
-use Rattle.page.proofs.QuickLoop.{Walked, OnPages, walk-begins, pages-begin, here-ended, here-counted, here-onward, walk-on, pages-on, faultless-here}
+use Rattle.page.proofs.QuickLoop.{Walked, OnPages, walk-begins, pages-begin, here-counted, here-onward, walk-on, pages-on, faultless-here}
 use Rattle.page.proofs.quick.faultless_from.Statement.{statement}
 use Rattle.page.proofs.quick.faultless_from.Tie as tie
 
