@@ -53,5 +53,7 @@ pub use Rattle.element.proofs.components.Whole.{segment-joined}
 unfoldable pub use Rattle.element.proofs.components.Whole.{lastOf}
 -- `same` is equality: it says true of a row and itself, and of equal rows only
 pub use Rattle.element.proofs.Sameness.{same-refl, same-true}
+-- whether a part begins with a tag, by its first four bytes
+pub use Rattle.element.proofs.clean.Laws.{tag-short, tag-four}
 -- an empty part has no bytes; what each byte of a part adds to the decoded ones
 pub use Rattle.element.proofs.Decoding.{decoded-none, plain-byte, plain-released, plain-last}

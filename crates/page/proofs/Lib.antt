@@ -1,5 +1,8 @@
 pub mod PageTables
 pub mod PageCells
+pub mod CellArms
+pub mod CellTests
+pub mod CellReads
 pub mod PageSpans
 pub mod PageLookup
 pub mod KeyCodes
@@ -9,8 +12,12 @@ pub mod PageRight
 pub mod PageMoods
 pub mod PageStops
 pub mod PageSought
+pub mod CellRows
 pub mod PageSteps
 pub mod PageResults
+pub mod QuickSteps
+pub mod QuickStart
+pub mod QuickLoop
 pub mod PageScans
 pub mod PageMarks
 pub mod PageClean

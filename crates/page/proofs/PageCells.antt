@@ -12,7 +12,7 @@ use Rattle.page.specs.PageColumns.{joined, column, codesOf, allElements,
 use Rattle.page.specs.PageWords.{span, reach, codesIn, formatIn, rowIn, elementIn, ElementWord, pageIn, lacking, NodeWord}
 
 -- a cell of a column
-cell : {A B : Type 0} (f : A → B) (l : List A) (n : ℕ) (z : A) → getD (column f l) n (f z) ≡ f (getD l n z)
+pub cell : {A B : Type 0} (f : A → B) (l : List A) (n : ℕ) (z : A) → getD (column f l) n (f z) ≡ f (getD l n z)
 unfolding column
 cell f [] n z = refl
 cell f (x ∷ xs) zero z = refl
@@ -34,7 +34,7 @@ module _ (words : List ℕ) (pages : List Page) (order : column pageIn words ≡
         reach = told (λ (w : ℕ). w / 32768) (reach lacking) words pages [] reached refl k n e;
       }
 
-abbrev nodeTable20d : List ℕ
+abbrev pub nodeTable20d : List ℕ
 nodeTable20d =
     0 ∷ 67584 ∷ 70658 ∷ 33799 ∷ 33800 ∷ 33801 ∷ 33802 ∷ 33803 ∷ 33804 ∷ 67597 ∷ 67599 ∷ 67601 ∷ 67603 ∷ 33813 ∷ 33814 ∷ 33815 ∷ 101400 ∷ 67611 ∷
     68637 ∷ 33824 ∷ 67617 ∷ 33827 ∷ 33828 ∷ 101413 ∷ 33832 ∷ 67625 ∷ 67627 ∷ 33827 ∷ []
@@ -51,7 +51,7 @@ pub node-arm-20d : (k n : ℕ) → n ≡ k → NodeWord (getD nodeTable20d k 0) 
 unfolding pageOf
 node-arm-20d = node-arm nodeTable20d pages20d pages-20d reach-20d
 
-abbrev nodeTable20c : List ℕ
+abbrev pub nodeTable20c : List ℕ
 nodeTable20c =
     0 ∷ 67629 ∷ 70658 ∷ 33799 ∷ 33800 ∷ 33801 ∷ 33802 ∷ 33804 ∷ 67597 ∷ 67599 ∷ 67601 ∷ 67603 ∷ 33813 ∷ 33814 ∷ 33815 ∷ 101400 ∷ 67611 ∷ 68655 ∷
     33824 ∷ 33827 ∷ 33828 ∷ 101413 ∷ 33832 ∷ 67625 ∷ 67627 ∷ 33827 ∷ []
@@ -68,7 +68,7 @@ pub node-arm-20c : (k n : ℕ) → n ≡ k → NodeWord (getD nodeTable20c k 0) 
 unfolding pageOf20c
 node-arm-20c = node-arm nodeTable20c pages20c pages-20c reach-20c
 
-abbrev elementTable : List ℕ
+abbrev pub elementTable : List ℕ
 elementTable =
     1082368 ∷ 1217537 ∷ 1082374 ∷ 1082375 ∷ 1032 ∷ 1033 ∷ 1034 ∷ 1149963 ∷ 1149966 ∷ 1149969 ∷ 1116180 ∷ 1116182 ∷ 1116184 ∷ 1082394 ∷ 1149979 ∷
     1082398 ∷ 1149983 ∷ 1082402 ∷ 1082403 ∷ 1082404 ∷ 1116197 ∷ 1116199 ∷ 1149993 ∷ 1082412 ∷ 1082413 ∷ 1070 ∷ 1116207 ∷ 1082417 ∷ 1116210 ∷ 1082420 ∷
@@ -91,7 +91,7 @@ element-arm k n e =
       reach = told (λ (w : ℕ). w / 32768 % 32) (λ (x : Composite). reach isMust (x .rows)) elementTable allElements beyond element-reach refl k n e;
     }
 
-abbrev rowTable : List ℕ
+abbrev pub rowTable : List ℕ
 rowTable =
     14811136 ∷ 6423552 ∷ 3277825 ∷ 3277826 ∷ 2229251 ∷ 6423556 ∷ 3283973 ∷ 73531392 ∷ 0 ∷ 0 ∷ 3212300 ∷ 3277837 ∷ 36831232 ∷ 3277838 ∷ 3277839 ∷
     36831232 ∷ 3277840 ∷ 3277841 ∷ 36831232 ∷ 3277842 ∷ 3277843 ∷ 73531392 ∷ 3277844 ∷ 36831232 ∷ 3277845 ∷ 6163478 ∷ 3277849 ∷ 36831232 ∷ 0 ∷

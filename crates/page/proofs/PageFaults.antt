@@ -64,7 +64,7 @@ module _ (w : ℕ) where
       go (suc (suc zero)) l h = absurd (h refl)
       go (suc (suc (suc k))) l h = refl
 
-filled : (t : List ℕ) → 0 < length t → t ≡ [] → ⊥
+pub filled : (t : List ℕ) → 0 < length t → t ≡ [] → ⊥
 filled t h e = absurd (omega (arith, ap length e))
 
 module _ (y : Syntax) (w : ℕ) (t : List ℕ) (n : ℕ) (p : (n ≡ length t) × (0 < n)) where

@@ -1,6 +1,6 @@
 -- What is read of a segment: one law for each answer.
 use Prim.Native.Nat.{ℕ, zero, suc}
-use mathlib.Core.Path.{_≡_, refl, ap, _∙_}
+use mathlib.Core.Path.{_≡_, refl, sym, ap, _∙_}
 use mathlib.Core.Bool.{Bool, true, false}
 use mathlib.Core.List.{List}
 use Rattle.cut.specs.Bytes.{part}
@@ -17,8 +17,10 @@ use Rattle.guide.specs.Judging.{bytesFault}
 use Rattle.guide.specs.PageFault.{pageFault}
 use Rattle.guide.specs.declared.edition.Edition.{Edition}
 use Rattle.page.specs.Examined.{examinedBy, examinedOf}
+use Rattle.page.specs.Quick.{FaultlessAt}
 use Rattle.page.specs.Reading.{segmentIn, readTo, emptyAt, readFault, readingBy, readingOf}
 use Rattle.page.specs.declared.places.Examined.{Examined}
+use Rattle.page.specs.declared.quick.Faultless.{Faultless}
 use Rattle.page.specs.declared.reads.Reading.{Reading}
 
 -- 12, 10, 11
@@ -68,3 +70,15 @@ module _ (y : Syntax) (ed : Edition) (node : ℕ) (d : List ℕ) (start : ℕ) (
     pub read-page : f ≡ 0 → (x : Examined) → x ≡ examinedOf y (pagesOf ed node) d start e → Read (readTo e x)
     unfolding readingOf readingBy readFault examinedOf
     read-page h x t = ap (readTo e) t ∙ rw (← cuts, at, ← is, h)
+
+-- where the quick pass tells that there is no fault
+module _ (y : Syntax) (ed : Edition) (node : ℕ) (d : List ℕ) (start : ℕ) (r : Faultless) (q : FaultlessAt y (pagesOf ed node) d start r) where
+  seen : record { fault = 0; first = r .places .first; third = r .places .third } ≡ examinedOf y (pagesOf ed node) d start (r .end)
+  unfolding examinedOf examinedBy
+  seen = rw (q .fault, ← q .first, ← q .third)
+
+  clean : 0 ≡ bytesFault y (guideOf ed) (pagesOf ed) (segmentIn start (r .end) false d)
+  clean = no-bytes-fault ed y (segmentIn start (r .end) false d) refl true (sym (q .allowed)) refl true (sym (q .tagged)) refl
+
+  pub read-quick : record { number = 0; first = r .places .first; third = r .places .third; end = r .end } ≡ readingOf y ed node d start
+  read-quick = read-page y ed node d start (segmentAt y d start) refl start (r .end) false (q .whole) 0 clean refl (record { fault = 0; first = r .places .first; third = r .places .third }) seen

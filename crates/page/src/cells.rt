@@ -1,7 +1,16 @@
 // The states of the pass over a segment without a fault: one number for each component of a page.
 use guide::Edition;
+ghost use mathlib.Core.Path.{_≡_};
+ghost use Rattle.guide.specs.Pages20d.{pageOf};
+ghost use Rattle.guide.specs.Pages20c.{pageOf20c};
+ghost use Rattle.guide.specs.Editions.{pagesOf};
+ghost use Rattle.page.specs.Cells.{cellOf, FirstCell};
 
-pub(crate) fn cell(s: usize) -> u64 {
+// The next state behind a component separator and behind an element separator, 8 bits each, where the component is filled, then both where it is empty; a bit
+// each that the segment may end behind it, filled or empty; and the word of its row, with what is kept of its place instead of the status.
+pub(crate) fn cell(s: usize) -> u64
+    ensures { λ r. ⌜ r ≡ cellOf s ⌝ }
+{
     match s {
         0 => 0x0,
         1 => 0xc4103400000002,
@@ -102,7 +111,9 @@ pub(crate) fn cell(s: usize) -> u64 {
     }
 }
 
-fn first_20d(n: usize) -> usize {
+fn first_20d(n: usize) -> usize
+    ensures { λ r. ⌜ FirstCell r (pageOf n) ⌝ }
+{
     match n {
         0 => 0,
         1 => 34,
@@ -136,7 +147,9 @@ fn first_20d(n: usize) -> usize {
     }
 }
 
-fn first_20c(n: usize) -> usize {
+fn first_20c(n: usize) -> usize
+    ensures { λ r. ⌜ FirstCell r (pageOf20c n) ⌝ }
+{
     match n {
         0 => 0,
         1 => 66,
@@ -168,7 +181,10 @@ fn first_20c(n: usize) -> usize {
     }
 }
 
-pub(crate) fn first_cell(edition: Edition, n: usize) -> usize {
+// The state before the first component behind the tag of a node's page; 0, where the node has no page.
+pub(crate) fn first_cell(edition: Edition, n: usize) -> usize
+    ensures { λ r. ⌜ FirstCell r (pagesOf edition n) ⌝ }
+{
     match edition {
         Edition::D => first_20d(n),
         Edition::C => first_20c(n),

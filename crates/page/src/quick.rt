@@ -8,26 +8,32 @@ use crate::scan::untested;
 use cut::Syntax;
 use element::Span;
 use element::tagged;
+ghost use mathlib.Core.Bool.{true};
 ghost use mathlib.Core.Path.{_≡_};
 ghost use Rattle.element.specs.Clean.{between};
 ghost use Rattle.element.specs.Services.{plainServices};
 ghost use Rattle.guide.specs.Page.{Page};
-ghost use Rattle.page.specs.Cells.{FirstCell};
-ghost use Rattle.page.specs.Quick.{FaultlessAt};
+ghost use Rattle.page.specs.Cells.{stepsOf, mayEnd, nextOf, stateBehind, keepOf, FirstCell};
+ghost use Rattle.page.specs.Quick.{Begun, FaultlessAt};
 
 pub(crate) struct Faultless {
     pub(crate) end: usize,
     pub(crate) places: Places,
 }
 
-fn untold(start: usize) -> Faultless {
+fn untold(start: usize) -> Faultless
+    ensures { λ r. ⌜ r .end ≡ 0 ⌝ }
+{
     Faultless {
         end: 0,
         places: nowhere(start),
     }
 }
 
-fn keep(kept: usize, a: usize, b: usize, places: Places) -> Places {
+// The places once a component from a up to b is known, by what its row keeps of it.
+fn keep(kept: usize, a: usize, b: usize, places: Places) -> Places
+    ensures { λ r. ⌜ r ≡ keepOf kept (record { start = a; end = b }) places ⌝ }
+{
     if kept == 0 {
         return places;
     }
@@ -46,21 +52,27 @@ fn keep(kept: usize, a: usize, b: usize, places: Places) -> Places {
 }
 
 // The steps of a cell, by whether the component is empty
-fn steps(w: u64, n: usize) -> u64 {
+fn steps(w: u64, n: usize) -> u64
+    ensures { λ r. ⌜ r ≡ stepsOf w n ⌝ }
+{
     if n == 0 {
         return w / 0x1_0000;
     }
     w
 }
 
-fn may_end(w: u64, n: usize) -> bool {
+fn may_end(w: u64, n: usize) -> bool
+    ensures { λ r. ⌜ r ≡ mayEnd w n ⌝ }
+{
     if n == 0 {
         return w / 0x2_0000_0000 % 2 == 1;
     }
     w / 0x1_0000_0000 % 2 == 1
 }
 
-fn next_state(y: Syntax, x: u8, t: u64) -> usize {
+fn next_state(y: Syntax, x: u8, t: u64) -> usize
+    ensures { λ r. ⌜ r ≡ nextOf y x t ⌝ }
+{
     if x == y.element {
         return (t / 0x100 % 256) as usize;
     }
@@ -68,6 +80,19 @@ fn next_state(y: Syntax, x: u8, t: u64) -> usize {
         return (t % 256) as usize;
     }
     0
+}
+
+// The state behind a component of n bytes that ends at the byte x; where the segment ends there, 1 if it may.
+fn state_behind(y: Syntax, x: u8, w: u64, n: usize) -> usize
+    ensures { λ r. ⌜ r ≡ stateBehind y x w n ⌝ }
+{
+    if x == y.terminator {
+        if may_end(w, n) {
+            return 1;
+        }
+        return 0;
+    }
+    next_state(y, x, steps(w, n))
 }
 
 fn is_plain(x: u8) -> bool
@@ -96,14 +121,20 @@ fn has_plain_services(y: Syntax) -> bool
 }
 
 // The tag is three capital letters and the element separator behind them; the service characters are marks from the blank to 64, so no letter is one of them.
-fn is_begun(y: Syntax, d: &[u8], start: usize) -> bool {
+fn is_begun(y: Syntax, d: &[u8], start: usize) -> bool
+    ensures { λ r. ⌜ (r ≡ true → Begun y (now (d .entry)) start) ⌝ }
+{
     if !has_plain_services(y) {
         return false;
     }
     if !tagged(y, d, start, d.len()) {
         return false;
     }
-    d[start + 3] == y.element
+    let x = d[start + 3];
+    if x == y.terminator {
+        return false;
+    }
+    x != y.release
 }
 
 // The segment that begins at `start`, against the page that the state is the first of; the end 0, where it is not told that there is no fault.
@@ -124,6 +155,11 @@ pub(crate) fn faultless_from(y: Syntax, d: &[u8], start: usize, state: usize) ->
         if end == 0 {
             return untold(start);
         }
+        let x = d[end];
+        s = state_behind(y, x, w, p.length);
+        if s == 0 {
+            return untold(start);
+        }
         let row = (w / 0x4_0000_0000) as usize;
         places = keep(row / 65536 % 4, a, end, places);
         if 0 < p.length {
@@ -131,19 +167,11 @@ pub(crate) fn faultless_from(y: Syntax, d: &[u8], start: usize, state: usize) ->
                 return untold(start);
             }
         }
-        let x = d[end];
         if x == y.terminator {
-            if may_end(w, p.length) {
-                return Faultless {
-                    end: end + 1,
-                    places,
-                };
-            }
-            return untold(start);
-        }
-        s = next_state(y, x, steps(w, p.length));
-        if s == 0 {
-            return untold(start);
+            return Faultless {
+                end: end + 1,
+                places,
+            };
         }
         scan = p.scan;
     }

@@ -1,5 +1,7 @@
 // The segment that begins at a place: its end, and its first fault in the order 12, 10, 11, then the page's.
+use crate::cells::first_cell;
 use crate::examining::examined;
+use crate::quick::faultless_from;
 use cut::Cut;
 use cut::Syntax;
 use cut::segment_at;
@@ -83,9 +85,21 @@ fn read_through(y: Syntax, edition: Edition, node: usize, d: &[u8], start: usize
     }
 }
 
-// What is read of the segment at `start`, against the page of a node of an edition.
+// What is read of the segment at `start`, against the page of a node of an edition: in one pass, where it is told so that there is no fault.
 pub fn read(y: Syntax, edition: Edition, node: usize, d: &[u8], start: usize) -> Reading
     ensures { λ r. ⌜ r ≡ readingOf y edition node (now (d .entry)) start ⌝ }
 {
-    read_through(y, edition, node, d, start)
+    let quick = faultless_from(y, d, start, first_cell(edition, node));
+    if quick.end == 0 {
+        return read_through(y, edition, node, d, start);
+    }
+    let places = quick.places;
+    let first = places.first;
+    let third = places.third;
+    Reading {
+        number: 0,
+        first,
+        third,
+        end: quick.end,
+    }
 }

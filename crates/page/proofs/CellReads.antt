@@ -1,0 +1,134 @@
+-- How a state's word is read.
+use Prim.Native.Nat.{ℕ, zero, suc, _/_, _%_}
+use mathlib.Core.Bool.{Bool, true, false}
+use mathlib.Core.Path.{_≡_, refl, sym, _∙_}
+use mathlib.Core.Logic.{_⊎_, inl, inr, ⊎-elim}
+use lib.Dec.{eqb}
+use borrow.Author.Tests.{eq-eqb, ne-eqb, eqb-true, eqb-false}
+use Rattle.cut.specs.declared.service.Syntax.{Syntax}
+use Rattle.element.specs.Clean.{between}
+use Rattle.element.specs.Elements.{endingOf, stays}
+use Rattle.element.specs.Services.{isService, plainServices}
+use Rattle.element.specs.declared.components.Span.{Span}
+use Rattle.page.specs.Cells.{stepsOf, mayEnd, nextOf, stateBehind, keepOf}
+use Rattle.page.specs.declared.places.Places.{Places}
+
+module _ (w n : ℕ) where
+  pub steps-empty : n ≡ 0 → w / 0x1_0000 ≡ stepsOf w n
+  steps-empty h = rw h
+
+  pub end-empty : n ≡ 0 → eqb (w / 0x2_0000_0000 % 2) 1 ≡ mayEnd w n
+  end-empty h = rw h
+
+pub steps-filled : (w n : ℕ) → (n ≡ 0 → ⊥) → w ≡ stepsOf w n
+steps-filled w zero h = absurd (h refl)
+steps-filled w (suc n) h = refl
+
+pub end-filled : (w n : ℕ) → (n ≡ 0 → ⊥) → eqb (w / 0x1_0000_0000 % 2) 1 ≡ mayEnd w n
+end-filled w zero h = absurd (h refl)
+end-filled w (suc n) h = refl
+
+module _ (y : Syntax) (x t : ℕ) where
+  pub next-element : x ≡ y .element → t / 0x100 % 256 ≡ nextOf y x t
+  unfolding nextOf
+  next-element h = rw (eq-eqb x (y .element) h)
+
+  module _ (i : x ≡ y .element → ⊥) where
+    pub next-component : x ≡ y .component → t % 256 ≡ nextOf y x t
+    unfolding nextOf
+    next-component h = rw (ne-eqb x (y .element) i, eq-eqb x (y .component) h)
+
+    pub next-none : (x ≡ y .component → ⊥) → 0 ≡ nextOf y x t
+    unfolding nextOf
+    next-none h = rw (ne-eqb x (y .element) i, ne-eqb x (y .component) h)
+
+  -- a state comes next behind a separator only
+  pub next-by
+      : (s : ℕ) → s ≡ nextOf y x t → (s ≡ 0 → ⊥)
+      → ((x ≡ y .element) × (s ≡ t / 0x100 % 256)) ⊎ ((x ≡ y .element → ⊥) × (x ≡ y .component) × (s ≡ t % 256))
+  next-by s e z = go (eqb x (y .element)) refl (eqb x (y .component)) refl
+    where
+      go
+          : (a : Bool) → eqb x (y .element) ≡ a → (b : Bool) → eqb x (y .component) ≡ b
+          → ((x ≡ y .element) × (s ≡ t / 0x100 % 256)) ⊎ ((x ≡ y .element → ⊥) × (x ≡ y .component) × (s ≡ t % 256))
+      go true f b g =
+          let h = eqb-true x (y .element) f in
+          inl (h, e ∙ sym (next-element h))
+      go false f true g =
+          let i = eqb-false x (y .element) f in
+          let h = eqb-true x (y .component) g in
+          inr (i, h, e ∙ sym (next-component i h))
+      go false f false g = absurd (z (e ∙ sym (next-none (eqb-false x (y .element) f) (eqb-false x (y .component) g))))
+
+-- what comes behind a component of n bytes, by the byte x that ends it
+module _ (y : Syntax) (x w n : ℕ) where
+  module _ (h : x ≡ y .terminator) where
+    pub behind-may : mayEnd w n ≡ true → 1 ≡ stateBehind y x w n
+    unfolding stateBehind
+    behind-may m = rw (eq-eqb x (y .terminator) h, m)
+
+    pub behind-not : mayEnd w n ≡ false → 0 ≡ stateBehind y x w n
+    unfolding stateBehind
+    behind-not m = rw (eq-eqb x (y .terminator) h, m)
+
+    pub may-by : (s : ℕ) → s ≡ stateBehind y x w n → (s ≡ 0 → ⊥) → mayEnd w n ≡ true
+    may-by s e z = go (mayEnd w n) refl
+      where
+        go : (b : Bool) → mayEnd w n ≡ b → mayEnd w n ≡ true
+        go true m = m
+        go false m = absurd (z (e ∙ sym (behind-not m)))
+
+  pub behind-next : (x ≡ y .terminator → ⊥) → nextOf y x (stepsOf w n) ≡ stateBehind y x w n
+  unfolding stateBehind
+  behind-next h = rw (ne-eqb x (y .terminator) h)
+
+  -- where something comes, a service character stands
+  pub behind-service : (s : ℕ) → s ≡ stateBehind y x w n → (s ≡ 0 → ⊥) → isService y x ≡ true
+  unfolding isService endingOf stays
+  behind-service s e z = go (eqb x (y .terminator)) refl
+    where
+      go : (b : Bool) → eqb x (y .terminator) ≡ b → isService y x ≡ true
+      go true q = rw q
+      go false q =
+          let f = eqb-false x (y .terminator) q in
+          ⊎-elim (λ v. rw (q, eq-eqb x (y .element) (v .0))) (λ v. rw (q, ne-eqb x (y .element) (v .0), eq-eqb x (y .component) (v .1)))
+          (next-by y x (stepsOf w n) s (e ∙ sym (behind-next f)) z)
+
+module _ (s : Span) (p : Places) where
+  pub keep-first : (k : ℕ) → k ≡ 1 → record { first = s; third = p .third } ≡ keepOf k s p
+  keep-first k h = rw h
+
+  pub keep-third : (k : ℕ) → (k ≡ 0 → ⊥) → (k ≡ 1 → ⊥) → record { first = p .first; third = s } ≡ keepOf k s p
+  keep-third zero h i = absurd (h refl)
+  keep-third (suc zero) h i = absurd (i refl)
+  keep-third (suc (suc k)) h i = refl
+
+-- ---- the service characters, one test after the other
+
+module _ (y : Syntax) where
+  abbrev t : Bool
+  t = between 32 64 (y .terminator)
+
+  abbrev e : Bool
+  e = between 32 64 (y .element)
+
+  abbrev c : Bool
+  c = between 32 64 (y .component)
+
+  pub services-first : t ≡ false → false ≡ plainServices y
+  unfolding plainServices
+  services-first h = rw h
+
+  module _ (h : t ≡ true) where
+    pub services-second : e ≡ false → false ≡ plainServices y
+    unfolding plainServices
+    services-second k = rw (h, k)
+
+    module _ (k : e ≡ true) where
+      pub services-third : c ≡ false → false ≡ plainServices y
+      unfolding plainServices
+      services-third l = rw (h, k, l)
+
+      pub services-last : c ≡ true → between 32 64 (y .release) ≡ plainServices y
+      unfolding plainServices
+      services-last l = rw (h, k, l)
