@@ -10,7 +10,7 @@ use Rattle.element.specs.Clean.{between}
 use Rattle.element.specs.Elements.{endingOf, stays}
 use Rattle.element.specs.Services.{isService, plainServices}
 use Rattle.element.specs.declared.components.Span.{Span}
-use Rattle.page.specs.Cells.{stepsOf, mayEnd, nextOf, stateBehind, keepOf}
+use Rattle.page.specs.Cells.{stepsOf, mayEnd, nextOf, keepOf}
 use Rattle.page.specs.declared.places.Places.{Places}
 
 module _ (w n : ℕ) where
@@ -60,39 +60,17 @@ module _ (y : Syntax) (x t : ℕ) where
           inr (i, h, e ∙ sym (next-component i h))
       go false f false g = absurd (z (e ∙ sym (next-none (eqb-false x (y .element) f) (eqb-false x (y .component) g))))
 
--- what comes behind a component of n bytes, by the byte x that ends it
-module _ (y : Syntax) (x w n : ℕ) where
-  module _ (h : x ≡ y .terminator) where
-    pub behind-may : mayEnd w n ≡ true → 1 ≡ stateBehind y x w n
-    unfolding stateBehind
-    behind-may m = rw (eq-eqb x (y .terminator) h, m)
-
-    pub behind-not : mayEnd w n ≡ false → 0 ≡ stateBehind y x w n
-    unfolding stateBehind
-    behind-not m = rw (eq-eqb x (y .terminator) h, m)
-
-    pub may-by : (s : ℕ) → s ≡ stateBehind y x w n → (s ≡ 0 → ⊥) → mayEnd w n ≡ true
-    may-by s e z = go (mayEnd w n) refl
-      where
-        go : (b : Bool) → mayEnd w n ≡ b → mayEnd w n ≡ true
-        go true m = m
-        go false m = absurd (z (e ∙ sym (behind-not m)))
-
-  pub behind-next : (x ≡ y .terminator → ⊥) → nextOf y x (stepsOf w n) ≡ stateBehind y x w n
-  unfolding stateBehind
-  behind-next h = rw (ne-eqb x (y .terminator) h)
-
-  -- where something comes, a service character stands
-  pub behind-service : (s : ℕ) → s ≡ stateBehind y x w n → (s ≡ 0 → ⊥) → isService y x ≡ true
+-- a byte at which the segment ends, or behind which a state comes, is a service character
+module _ (y : Syntax) (x : ℕ) where
+  pub service-last : x ≡ y .terminator → isService y x ≡ true
   unfolding isService endingOf stays
-  behind-service s e z = go (eqb x (y .terminator)) refl
-    where
-      go : (b : Bool) → eqb x (y .terminator) ≡ b → isService y x ≡ true
-      go true q = rw q
-      go false q =
-          let f = eqb-false x (y .terminator) q in
-          ⊎-elim (λ v. rw (q, eq-eqb x (y .element) (v .0))) (λ v. rw (q, ne-eqb x (y .element) (v .0), eq-eqb x (y .component) (v .1)))
-          (next-by y x (stepsOf w n) s (e ∙ sym (behind-next f)) z)
+  service-last h = rw (eq-eqb x (y .terminator) h)
+
+  pub service-next : (x ≡ y .terminator → ⊥) → (t s : ℕ) → s ≡ nextOf y x t → (s ≡ 0 → ⊥) → isService y x ≡ true
+  unfolding isService endingOf stays
+  service-next n t s e z =
+      ⊎-elim (λ v. rw (ne-eqb x (y .terminator) n, eq-eqb x (y .element) (v .0)))
+      (λ v. rw (ne-eqb x (y .terminator) n, ne-eqb x (y .element) (v .0), eq-eqb x (y .component) (v .1))) (next-by y x t s e z)
 
 module _ (s : Span) (p : Places) where
   pub keep-first : (k : ℕ) → k ≡ 1 → record { first = s; third = p .third } ≡ keepOf k s p

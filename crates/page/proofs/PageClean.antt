@@ -79,6 +79,7 @@ module _
   clean-found n =
       record {
         inside = mark-within;
+        ahead = omega (arith, here .onward, g .past .onward);
         extent = λ s. past-found y d a (length d) (omega arith) (from .at) removed (g .past) end (service s) mark-within n;
         allowed = allowed-each d end (omega (arith, mark-within)) a up-allowed;
         carried = up-carried;

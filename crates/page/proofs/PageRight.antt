@@ -75,15 +75,15 @@ module _ (y : Syntax) (w : ℕ) (t : List ℕ) where
             used-filled y false _ (formatIn w) (codesIn w) t (λ e. let l = ap length e in omega arith) ∙ rw (fits, listed)
 
 -- a component of as many bytes as stand there
-module _ (y : Syntax) (d : List ℕ) (a b n : ℕ) (pre : (a ≤ b) × (b ≤ length d) × (n ≡ length (decoded y a b d)) × (0 < n)) (same : b - a ≡ n) where
+module _ (y : Syntax) (d : List ℕ) (a b n : ℕ) (pre : (a ≤ b) × (b ≤ length d) × (0 < n)) (same : b - a ≡ n) where
   pub bytes-there : n ≡ length (part a b d)
   bytes-there = sym (length-part d a b (pre .1) ∙ same)
 
   pub right-there
-      : (w : ℕ) → fitsFormat y (formatIn w) (part a b d) ≡ true → chosen (codesIn w) (part a (a + n) d) ≡ true
+      : n ≡ length (decoded y a b d) → (w : ℕ) → fitsFormat y (formatIn w) (part a b d) ≡ true → chosen (codesIn w) (part a (a + n) d) ≡ true
       → textFault y false (freeRow w) (decoded y a b d) ≡ 0
-  right-there w fits listed =
+  right-there count w fits listed =
       let z : a + n ≡ b = omega (arith, pre .0) in
       let l : chosen (codesIn w) (part a b d) ≡ true = rw z at listed in
-      let u : decoded y a b d ≡ part a b d = unreleased y d a b n (pre .2) (pre .1) z ∙ ap (λ (e : ℕ). part a e d) z in
-      rw u (free-right y w (part a b d) (omega (arith, bytes-there, pre .3)) fits l)
+      let u : decoded y a b d ≡ part a b d = unreleased y d a b n count (pre .1) z ∙ ap (λ (e : ℕ). part a e d) z in
+      rw u (free-right y w (part a b d) (omega (arith, bytes-there, pre .2)) fits l)

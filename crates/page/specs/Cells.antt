@@ -80,10 +80,6 @@ mayEnd w (suc n) = eqb (w / 0x1_0000_0000 % 2) 1
 unfoldable pub nextOf : Syntax → ℕ → ℕ → ℕ
 nextOf y x t = cond (eqb x (y .element)) (t / 0x100 % 256) (cond (eqb x (y .component)) (t % 256) 0)
 
--- and behind a component of n bytes that ends at the byte x; where the segment ends there, 1 if it may
-unfoldable pub stateBehind : Syntax → ℕ → ℕ → ℕ → ℕ
-stateBehind y x w n = cond (eqb x (y .terminator)) (cond (mayEnd w n) 1 0) (nextOf y x (stepsOf w n))
-
 -- the row's word in a cell's
 abbrev pub rowOfCell : ℕ → ℕ
 rowOfCell w = w / 0x4_0000_0000

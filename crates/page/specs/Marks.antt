@@ -30,6 +30,7 @@ pub record MarkSought (y : Syntax) (d : List ℕ) (a : ℕ) (r : Scan) : Type 0 
 -- behind the byte that ends it. A byte that is not allowed also is a mark, and ends nothing: so r says where the component ends only if a service character stands there
 pub record CleanAhead (y : Syntax) (d : List ℕ) (a : ℕ) (r : Ahead) : Type 0 where
   pub inside : r .end < length d
+  pub ahead : a ≤ r .end
   pub extent : isService y (getD d (r .end) 0) ≡ true → record { end = r .end; length = r .length } ≡ extentOf y d a (length d)
   pub allowed : allowedBytes (part a (r .end) d) ≡ true
   pub carried : Carries y d a (r .end)

@@ -13,7 +13,7 @@ ghost use mathlib.Core.Path.{_≡_};
 ghost use Rattle.element.specs.Clean.{between};
 ghost use Rattle.element.specs.Services.{plainServices};
 ghost use Rattle.guide.specs.Page.{Page};
-ghost use Rattle.page.specs.Cells.{stepsOf, mayEnd, nextOf, stateBehind, keepOf, FirstCell};
+ghost use Rattle.page.specs.Cells.{stepsOf, mayEnd, nextOf, keepOf, FirstCell};
 ghost use Rattle.page.specs.Quick.{Begun, FaultlessAt};
 
 pub(crate) struct Faultless {
@@ -82,19 +82,6 @@ fn next_state(y: Syntax, x: u8, t: u64) -> usize
     0
 }
 
-// The state behind a component of n bytes that ends at the byte x; where the segment ends there, 1 if it may.
-fn state_behind(y: Syntax, x: u8, w: u64, n: usize) -> usize
-    ensures { λ r. ⌜ r ≡ stateBehind y x w n ⌝ }
-{
-    if x == y.terminator {
-        if may_end(w, n) {
-            return 1;
-        }
-        return 0;
-    }
-    next_state(y, x, steps(w, n))
-}
-
 fn is_plain(x: u8) -> bool
     ensures { λ r. ⌜ r ≡ between 32 64 x ⌝ }
 {
@@ -155,11 +142,6 @@ pub(crate) fn faultless_from(y: Syntax, d: &[u8], start: usize, state: usize) ->
         if end == 0 {
             return untold(start);
         }
-        let x = d[end];
-        s = state_behind(y, x, w, p.length);
-        if s == 0 {
-            return untold(start);
-        }
         let row = (w / 0x4_0000_0000) as usize;
         places = keep(row / 65536 % 4, a, end, places);
         if 0 < p.length {
@@ -167,11 +149,19 @@ pub(crate) fn faultless_from(y: Syntax, d: &[u8], start: usize, state: usize) ->
                 return untold(start);
             }
         }
+        let x = d[end];
         if x == y.terminator {
-            return Faultless {
-                end: end + 1,
-                places,
-            };
+            if may_end(w, p.length) {
+                return Faultless {
+                    end: end + 1,
+                    places,
+                };
+            }
+            return untold(start);
+        }
+        s = next_state(y, x, steps(w, p.length));
+        if s == 0 {
+            return untold(start);
         }
         scan = p.scan;
     }

@@ -82,8 +82,8 @@ fn is_free(n: usize, row: usize) -> bool
 
 // Whether the component from a up to b, of n bytes and not none, surely has no fault on the row that has a word. One without release marks is its bytes.
 pub(crate) fn is_right(y: Syntax, d: &[u8], a: usize, b: usize, n: usize, row: usize) -> bool
-    requires { ⌜ (a ≤ b) × (b ≤ length (now d)) × (n ≡ length (decoded y a b (now d))) × (0 < n) ⌝ }
-    ensures { λ r. ⌜ (r ≡ true → textFault y false (freeRow row) (decoded y a b (now (d .entry))) ≡ 0) ⌝ }
+    requires { ⌜ (a ≤ b) × (b ≤ length (now d)) × (0 < n) ⌝ }
+    ensures { λ r. ⌜ (r ≡ true → n ≡ length (decoded y a b (now (d .entry))) → textFault y false (freeRow row) (decoded y a b (now (d .entry))) ≡ 0) ⌝ }
 {
     if b - a != n {
         return is_free(n, row);

@@ -8,7 +8,6 @@ use native.Mathlib.Omega.{arith}
 use borrow.Author.Needs.{needs}
 use borrow.Author.Tests.{not-false}
 use lib.ListN.{length, getD}
-use Rattle.element.specs.Services.{isService}
 use Rattle.element.specs.Plain.{decoded}
 use Rattle.guide.specs.PageFault.{textFault}
 use Rattle.page.specs.Cells.{stepsOf, mayEnd, nextOf}
@@ -16,9 +15,9 @@ use Rattle.page.specs.PageWords.{freeRow}
 use Rattle.page.specs.Marks.{CleanAhead}
 use Rattle.page.specs.Quick.{Begun}
 use Rattle.page.specs.declared.scan.Scan.{Scan}
-use Rattle.page.proofs.CellReads.{behind-service, behind-next, may-by}
+use Rattle.page.proofs.CellReads.{service-last, service-next}
 use Rattle.page.proofs.QuickStart.{begun-room}
-use Rattle.page.proofs.QuickLoop.{Walked, OnPages, walk-begins, pages-begin, here-counted, here-onward, walk-on, pages-on, faultless-here}
+use Rattle.page.proofs.QuickLoop.{Walked, OnPages, walk-begins, pages-begin, here-counted, walk-on, pages-on, faultless-here}
 use Rattle.page.proofs.quick.faultless_from.Statement.{statement}
 use Rattle.page.proofs.quick.faultless_from.Tie as tie
 
@@ -73,11 +72,22 @@ untold-requires-2 c κs = search needs
 returns-2 : tie.Need-returns-2 Inv-loop μ-loop
 returns-2 c = λ page f h. absurd (h (c .untold2 .ensures))
 
-shared-slice-read-x : tie.Need-shared-slice-read-x Inv-loop μ-loop
-shared-slice-read-x c = c .before .before .clean-on .ensures (c .before .if2 .left) .inside
+keep-requires : tie.Need-keep-requires Inv-loop μ-loop
+keep-requires c κs = search needs
 
-state-behind-requires : tie.Need-state-behind-requires Inv-loop μ-loop
-state-behind-requires c κs = search needs
+-- what is told of the component
+told
+    : (k : tie.After-keep Inv-loop μ-loop)
+    → let f = k .before .before in
+    let a = f .before .before .before .before .before .before .before .before .args in
+    CleanAhead (a .y) (a .d .now) (f .before .before .loop .scan .at) (f .clean-on .result)
+told k = k .before .before .clean-on .ensures (k .before .if2 .left)
+
+is-right-requires : tie.Need-is-right-requires Inv-loop μ-loop
+is-right-requires c κs =
+    let k = told (c .before .before) in
+    let n = k .inside in
+    (k .ahead, omega (arith, n), c .if3 .taken)
 
 untold-requires-3 : tie.Need-untold-requires-3 Inv-loop μ-loop
 untold-requires-3 c κs = search needs
@@ -85,90 +95,86 @@ untold-requires-3 c κs = search needs
 returns-3 : tie.Need-returns-3 Inv-loop μ-loop
 returns-3 c = λ page f h. absurd (h (c .untold3 .ensures))
 
-keep-requires : tie.Need-keep-requires Inv-loop μ-loop
-keep-requires c κs = search needs
-
--- what is told of the component, and that a service character ends it
-told
-    : (k : tie.After-keep Inv-loop μ-loop)
-    → let f = k .before .before .before .before .before in
+-- a component that is not empty has no fault on its row
+checked
+    : (j : tie.Joined3 Inv-loop μ-loop)
+    → let f = j .before .before .before .before in
     let a = f .before .before .before .before .before .before .before .before .args in
-    CleanAhead (a .y) (a .d .now) (f .before .before .loop .scan .at) (f .clean-on .result)
-told k = k .before .before .before .before .before .clean-on .ensures (k .before .before .before .before .if2 .left)
+    f .clean-on .result .length ≡ length (decoded (a .y) (f .before .before .loop .scan .at) (f .clean-on .result .end) (a .d .now))
+    → 0 < f .clean-on .result .length
+    → textFault (a .y) false (freeRow (f .before .cell .result / 0x4_0000_0000)) (decoded (a .y) (f .before .before .loop .scan .at) (f .clean-on .result .end) (a .d .now)) ≡ 0
+checked j n h = ⊎-elim (λ w. w .1 .ensures (not-false _ (w .2 .left)) n) (λ w. absurd (let z = w .left in omega (arith, z, h))) (j .if3 .came)
 
-ends
-    : (k : tie.After-keep Inv-loop μ-loop)
-    → let f = k .before .before .before .before .before in
-    let a = f .before .before .before .before .before .before .before .before .args in
-    isService (a .y) (getD (a .d .now) (f .clean-on .result .end) 0) ≡ true
-ends k = behind-service _ _ _ _ _ (k .before .before .state-behind .ensures) (k .before .if3 .left)
+shared-slice-read-x : tie.Need-shared-slice-read-x Inv-loop μ-loop
+shared-slice-read-x c = told (c .before .before .before) .inside
 
-is-right-requires : tie.Need-is-right-requires Inv-loop μ-loop
-is-right-requires c κs =
-    let k = c .before .before in
-    let l = k .before .before .before .before .before .before .before .loop .inv in
-    let e = ends k in
-    let n = told k .inside in
-    (here-onward _ _ _ (l .0) _ _ _ (l .1) _ (told k) e, omega (arith, n), here-counted _ _ _ (l .0) _ _ _ (l .1) _ (told k) e, c .if4 .taken)
+may-end-requires : tie.Need-may-end-requires Inv-loop μ-loop
+may-end-requires c κs = search needs
+
+add-t26 : tie.Need-add-t26 Inv-loop μ-loop
+add-t26 c =
+    let j = c .before .before .before .before .before in
+    let k = told (j .before .before) .inside in
+    let good = j .before .before .before .before .before .before .before .before .before .before .before .before .good in
+    omega arith
+
+returns-4 : tie.Need-returns-4 Inv-loop μ-loop
+returns-4 c = λ page f h.
+    let v = c .before .before in
+    let j = v .before .before .before in
+    let k = j .before .before in
+    let u = k .before .before in
+    let w = u .before in
+    let l = w .before .loop in
+    let e = service-last _ _ (v .if5 .taken) in
+    faultless-here _ _ _ (l .inv .0) _ _ _ (l .inv .1) _ (told k) e _ refl _ _ _ (l .inv .2) _ (ap (λ (i : ℕ). i / 0x4_0000_0000) (w .cell .ensures))
+    (checked j (here-counted _ _ _ (l .inv .0) _ _ _ (l .inv .1) _ (told k) e)) _ (k .keep .ensures) (v .if5 .taken)
+    (subst (λ (i : ℕ). mayEnd i (u .clean-on .result .length) ≡ true) (w .cell .ensures) (sym (c .before .may-end .ensures) ∙ c .if6 .taken)) _ refl page f
 
 untold-requires-4 : tie.Need-untold-requires-4 Inv-loop μ-loop
 untold-requires-4 c κs = search needs
 
-returns-4 : tie.Need-returns-4 Inv-loop μ-loop
-returns-4 c = λ page f h. absurd (h (c .untold4 .ensures))
-
-add-t25 : tie.Need-add-t25 Inv-loop μ-loop
-add-t25 c =
-    let k = c .before .before .before .before in
-    let n = told k .inside in
-    let good = k .before .before .before .before .before .before .before .before .before .before .before .before .before .good in
-    omega arith
-
--- a component that is not empty has no fault on its row
-checked
-    : (j : tie.Joined4 Inv-loop μ-loop)
-    → let f = j .before .before .before .before .before .before .before in
-    let a = f .before .before .before .before .before .before .before .before .args in
-    0 < f .clean-on .result .length
-    → textFault (a .y) false (freeRow (f .before .cell .result / 0x4_0000_0000)) (decoded (a .y) (f .before .before .loop .scan .at) (f .clean-on .result .end) (a .d .now)) ≡ 0
-checked j h = ⊎-elim (λ w. w .1 .ensures (not-false _ (w .2 .left))) (λ w. absurd (let z = w .left in omega (arith, z, h))) (j .if4 .came)
-
 returns-5 : tie.Need-returns-5 Inv-loop μ-loop
-returns-5 c = λ page f h.
-    let j = c .before .before in
-    let k = j .before .before in
-    let t = k .before .before in
-    let u = t .before .before .before in
-    let w = u .before in
-    let l = w .before .loop in
-    let m = may-by _ _ _ _ (c .if6 .taken) _ (t .state-behind .ensures) (k .before .if3 .left) in
-    faultless-here _ _ _ (l .inv .0) _ _ _ (l .inv .1) _ (told k) (ends k) _ refl _ _ _ (l .inv .2) _ (ap (λ (v : ℕ). v / 0x4_0000_0000) (w .cell .ensures)) (checked j) _ (k .keep .ensures)
-    (c .if6 .taken) (subst (λ (v : ℕ). mayEnd v (u .clean-on .result .length) ≡ true) (w .cell .ensures) m) _ refl page f
+returns-5 c = λ page f h. absurd (h (c .untold4 .ensures))
+
+steps-requires : tie.Need-steps-requires Inv-loop μ-loop
+steps-requires c κs = search needs
+
+next-state-requires : tie.Need-next-state-requires Inv-loop μ-loop
+next-state-requires c κs = search needs
+
+untold-requires-5 : tie.Need-untold-requires-5 Inv-loop μ-loop
+untold-requires-5 c κs = search needs
+
+returns-6 : tie.Need-returns-6 Inv-loop μ-loop
+returns-6 c = λ page f h. absurd (h (c .untold5 .ensures))
 
 loop-less : tie.Need-loop-less Inv-loop μ-loop
 loop-less c =
-    let k = c .before .before .before .before .before in
-    let l = k .before .before .before .before .before .before .before .loop in
-    let h = here-onward _ _ _ (l .inv .0) _ _ _ (l .inv .1) _ (told k) (ends k) in
-    omega (arith, h, told k .inside, told k .onward)
+    let k = told (c .before .before .before .before .before .before .before .before .before) in
+    omega (arith, k .ahead, k .inside, k .onward)
 
 loop-again : tie.Need-loop-again Inv-loop μ-loop
 loop-again c =
-    let e = c .before in
-    let j = e .before .before in
+    let i = c .before in
+    let s = i .before in
+    let v = s .before .before in
+    let j = v .before .before .before in
     let k = j .before .before in
-    let t = k .before .before in
-    let u = t .before .before .before in
+    let u = k .before .before in
     let w = u .before in
     let l = w .before .loop in
     let a = w .before .before .before .before .before .before .before .args in
-    let z = k .before .if3 .left in
-    let n = e .if6 .left in
-    let b = t .state-behind .ensures ∙ sym (behind-next _ _ _ _ n) in (
+    let x = getD (a .d .now) (u .clean-on .result .end) 0 in
+    let n = v .if5 .left in
+    let z = i .if7 .left in
+    let b = s .next-state .ensures ∙ ap (nextOf (a .y) x) (s .before .steps .ensures) in
+    let e = service-next _ _ n _ _ b z in (
       l .inv .0,
-      walk-on _ _ _ (l .inv .0) _ _ _ (l .inv .1) _ (told k) (ends k) _ refl n _ _ b z,
-      pages-on _ _ _ (l .inv .0) _ _ _ (l .inv .1) _ (told k) (ends k) _ refl _ _ _ (l .inv .2) _ (ap (λ (v : ℕ). v / 0x4_0000_0000) (w .cell .ensures)) (checked j) _ (k .keep .ensures) n _
-          (b ∙ ap (λ (v : ℕ). nextOf (a .y) (getD (a .d .now) (u .clean-on .result .end) 0) (stepsOf v (u .clean-on .result .length))) (w .cell .ensures)) z,
+      walk-on _ _ _ (l .inv .0) _ _ _ (l .inv .1) _ (told k) e _ refl n _ _ b z,
+      pages-on _ _ _ (l .inv .0) _ _ _ (l .inv .1) _ (told k) e _ refl _ _ _ (l .inv .2) _ (ap (λ (i : ℕ). i / 0x4_0000_0000) (w .cell .ensures))
+          (checked j (here-counted _ _ _ (l .inv .0) _ _ _ (l .inv .1) _ (told k) e)) _ (k .keep .ensures) n _
+          (b ∙ ap (λ (i : ℕ). nextOf (a .y) x (stepsOf i (u .clean-on .result .length))) (w .cell .ensures)) z,
     )
 
 pub faultless-from-spec : {M : Type 1} → statement M
@@ -188,15 +194,19 @@ faultless-from-spec =
     clean-on-requires
     untold-requires-2
     returns-2
-    shared-slice-read-x
-    state-behind-requires
-    untold-requires-3
-    returns-3
     keep-requires
     is-right-requires
-    untold-requires-4
+    untold-requires-3
+    returns-3
+    shared-slice-read-x
+    may-end-requires
+    add-t26
     returns-4
-    add-t25
+    untold-requires-4
     returns-5
+    steps-requires
+    next-state-requires
+    untold-requires-5
+    returns-6
     loop-less
     loop-again)

@@ -15,27 +15,27 @@ is-free-requires : tie.Need-is-free-requires
 is-free-requires c κs = search needs
 
 returns : tie.Need-returns
-returns c h =
+returns c h count =
     let p = c .before .before .before .pre in
-    let q = c .is-free .ensures h _ _ (p .2) in
-    free-right _ _ _ (omega (arith, p .2, p .3)) (q .0) (q .1)
+    let q = c .is-free .ensures h _ _ count in
+    free-right _ _ _ (omega (arith, count, p .2)) (q .0) (q .1)
 
 is-sized-requires : tie.Need-is-sized-requires
 is-sized-requires c κs =
     let p = c .before .before .pre in
-    (bytes-there _ _ _ _ _ p (c .if1 .left), p .3)
+    (bytes-there (c .before .before .args .y) _ _ _ _ p (c .if1 .left), p .2)
 
 returns-2 : tie.Need-returns-2
-returns-2 c h = absurd (false≢true h)
+returns-2 c h count = absurd (false≢true h)
 
 is-listed-requires : tie.Need-is-listed-requires
 is-listed-requires c κs = search needs
 
 returns-3 : tie.Need-returns-3
-returns-3 c h =
+returns-3 c h count =
     let two = c .before in
     let one = two .before .before in
-    right-there _ _ _ _ _ (one .before .before .pre) (one .if1 .left) _ (sym (two .before .is-sized .ensures) ∙ not-false _ (two .if2 .left)) (c .is-listed .ensures h)
+    right-there _ _ _ _ _ (one .before .before .pre) (one .if1 .left) count _ (sym (two .before .is-sized .ensures) ∙ not-false _ (two .if2 .left)) (c .is-listed .ensures h)
 
 pub is-right-spec : {M : Type 1} → statement M
 is-right-spec =
