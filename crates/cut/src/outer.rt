@@ -4,7 +4,6 @@ use crate::scan::Cut;
 use crate::scan::segment_at;
 use crate::service::Syntax;
 use crate::tags::Tag;
-use crate::tags::tag_at;
 use crate::tags::tag_of;
 ghost use mathlib.Core.Path.{_≡_};
 ghost use mathlib.Core.Bool.{false};
@@ -28,15 +27,10 @@ fn by_tag(tag: Tag, end: usize) -> Outer
     Outer::Segment { end }
 }
 
-// What the bytes from `at` on begin with, where no message is open. The end of a segment that begins a message is not looked for.
+// What the bytes from `at` on begin with, where no message is open.
 pub fn outer_at(y: Syntax, d: &[u8], at: usize) -> Outer
     ensures { λ r. ⌜ r ≡ headOuter (segmentsFrom y at false (drop at (now (d .entry)))) ⌝ }
 {
-    if at < d.len() {
-        if begins_message(tag_at(y, d, at)) {
-            return Outer::Message;
-        }
-    }
     let c = segment_at(y, d, at);
     let Cut::Segment {
         start,

@@ -1,19 +1,10 @@
 -- `cut::outer::outer_at` meets its contract.
 use mathlib.Core.Path.{sym, _∙_}
 use Rattle.cut.proofs.First.{cutting}
-use Rattle.cut.proofs.Passing.{outer-begins, outer-none, outer-some}
+use Rattle.cut.proofs.Passing.{outer-none, outer-some}
 use borrow.Author.Needs.{needs}
 use Rattle.cut.proofs.outer.outer_at.Statement.{statement}
 use Rattle.cut.proofs.outer.outer_at.Tie as tie
-
-tag-at-requires : tie.Need-tag-at-requires
-tag-at-requires c κs = search needs
-
-begins-message-requires : tie.Need-begins-message-requires
-begins-message-requires c κs = search needs
-
-returns : tie.Need-returns
-returns c = outer-begins _ _ (c .before .before .tag-at .ensures) (sym (c .before .begins-message .ensures) ∙ c .if2 .taken)
 
 segment-at-requires : tie.Need-segment-at-requires
 segment-at-requires c κs = search needs
@@ -24,8 +15,8 @@ enum-known-c c = search needs
 enum-told : tie.Need-enum-told
 enum-told c = search needs
 
-returns-2 : tie.Need-returns-2
-returns-2 c = outer-none _ _ _ (sym (c .before .before .segment-at .ensures) ∙ c .enum-told .given .1)
+returns : tie.Need-returns
+returns c = outer-none _ _ _ (sym (c .before .before .segment-at .ensures) ∙ c .enum-told .given .1)
 
 tag-of-requires : tie.Need-tag-of-requires
 tag-of-requires c κs =
@@ -35,8 +26,8 @@ tag-of-requires c κs =
 by-tag-requires : tie.Need-by-tag-requires
 by-tag-requires c κs = search needs
 
-returns-3 : tie.Need-returns-3
-returns-3 c =
+returns-2 : tie.Need-returns-2
+returns-2 c =
     let tagged = c .before in
     let some = tagged .before in
     outer-some _ _ _ _ _ _ (sym (some .before .before .before .segment-at .ensures) ∙ some .before .c .given .1) _ (tagged .tag-of .ensures) _ (c .by-tag .ensures)
@@ -44,14 +35,4 @@ returns-3 c =
 pub outer-at-spec : {M : Type 1} → statement M
 outer-at-spec =
     tie.close
-    (tie.spec
-    tag-at-requires
-    begins-message-requires
-    returns
-    segment-at-requires
-    enum-known-c
-    enum-told
-    returns-2
-    tag-of-requires
-    by-tag-requires
-    returns-3)
+    (tie.spec segment-at-requires enum-known-c enum-told returns tag-of-requires by-tag-requires returns-2)
