@@ -51,7 +51,7 @@ fn keep(kept: usize, a: usize, b: usize, places: Places) -> Places
     }
 }
 
-// The steps of a cell, by whether the component is empty
+// The steps of a cell for a component of n bytes: those behind an empty one stand above those behind a filled one.
 fn steps(w: u64, n: usize) -> u64
     ensures { λ r. ⌜ r ≡ stepsOf w n ⌝ }
 {
@@ -61,6 +61,7 @@ fn steps(w: u64, n: usize) -> u64
     w
 }
 
+// Whether the segment may end behind it.
 fn may_end(w: u64, n: usize) -> bool
     ensures { λ r. ⌜ r ≡ mayEnd w n ⌝ }
 {
@@ -70,6 +71,7 @@ fn may_end(w: u64, n: usize) -> bool
     w / 0x1_0000_0000 % 2 == 1
 }
 
+// The state behind a separator; 0 where the byte x is none, or the component is the last.
 fn next_state(y: Syntax, x: u8, t: u64) -> usize
     ensures { λ r. ⌜ r ≡ nextOf y x t ⌝ }
 {
