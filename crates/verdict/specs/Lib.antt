@@ -3,4 +3,3 @@ pub mod Answers
 pub mod Workers
 pub mod Moves
 pub mod Named
-pub mod Until
