@@ -1,50 +1,56 @@
--- The articles that came: whether a doubt comes of a segment, one law for each answer of the worker; and where none comes, what is asked of the rest.
-use Prim.Native.Nat.{ℕ}
+-- What is kept after a segment and which articles came, one law for each role; and where no doubt comes of it, what is asked of the rest.
+use Prim.Native.Nat.{ℕ, _+_}
 use mathlib.Core.Path.{_≡_, refl, _∙_}
-use mathlib.Core.Bool.{Bool, true, false, cond, not, _&&_, _||_, true≢false}
+use mathlib.Core.Bool.{Bool, true, false, cond, _||_, true≢false}
 use mathlib.Core.List.{List, _∷_}
 use Rattle.cut.specs.declared.service.Syntax.{Syntax}
 use Rattle.cut.specs.Bytes.{bytesOf, begins}
 use Rattle.cut.specs.Segments.{Segment}
+use Rattle.element.specs.Plain.{same}
 use Rattle.guide.specs.Content.{text}
 use Rattle.agree.specs.AgreeArticles.{articlePrint, articlesIn, apartIn}
 use Rattle.agree.specs.AgreeMarks.{markedIn, markIn}
 use Rattle.agree.proofs.AgreeApart.{apart-lin, apart-other}
 use Rattle.verdict.specs.declared.kept.Kept.{Kept}
 use Rattle.verdict.specs.declared.segment.Found.{Found}
-use Rattle.verdict.specs.Workers.{isLin, printAt, doubtAfter, cameAfter}
+use Rattle.verdict.specs.declared.roles.Role.the-variants.{Lin, Unh, Bgm}
+use Rattle.verdict.specs.Workers.{isLin, isUnh, isBgm, spanned, unasked, printAt, doubtAfter, cameAfter, keptAfter}
 
--- what is wanted of the doubt r and the table t′
-pub record Doubts (y : Syntax) (d t : List ℕ) (s : Found) (k : Kept) (r : Bool) (t′ : List ℕ) : Type 0 where
-  pub doubt : r ≡ doubtAfter y d t s k
-  pub came : t′ ≡ cameAfter y d t s k
-
+-- what is kept after k and a segment, and the table after it, by the segment's role
 module _ (y : Syntax) (d t : List ℕ) (s : Found) (k : Kept) where
-  pub no-comparing : k .intervals ≡ true → Doubts y d t s k true t
+  abbrev Keeps : Kept → List ℕ → Type 0
+  Keeps r t′ = (r ≡ keptAfter y d t s k) × (t′ ≡ cameAfter y d t s k)
+
+  pub after-line
+      : s .role ≡ Lin → (b : Bool) → b ≡ unasked k || markedIn t (printAt y d s) → (t′ : List ℕ) → t′ ≡ cond (unasked k) t (markIn t (printAt y d s)) → (r : Kept)
+      → r ≡ record { last = s .node; positions = k .positions + 1; reference = k .reference; intervals = k .intervals; doubt = b } → Keeps r t′
   unfolding doubtAfter cameAfter
-  no-comparing h = record { doubt = rw h; came = rw h }
+  after-line l b e t′ f r g = (g ∙ rw (l, e), rw l f)
 
-  module _ (compared : k .intervals ≡ false) where
-    pub doubted : k .doubt ≡ true → Doubts y d t s k true t
-    unfolding doubtAfter cameAfter
-    doubted h = record { doubt = rw (compared, h); came = rw (compared, h) }
+  pub after-document
+      : s .role ≡ Bgm → (z : Bool) → z ≡ k .intervals || same (spanned y (s .first) d) (bytesOf "Z04") → (r : Kept)
+      → r ≡ record { last = s .node; positions = k .positions; reference = k .reference; intervals = z; doubt = k .doubt } → Keeps r t
+  unfolding doubtAfter cameAfter
+  after-document l z e r g = (g ∙ rw (l, e), rw l)
 
-    module _ (none : k .doubt ≡ false) where
-      pub article-noted
-          : isLin (s .role) ≡ true → (r : Bool) → r ≡ markedIn t (printAt y d s) → (t′ : List ℕ) → t′ ≡ markIn t (printAt y d s) → Doubts y d t s k r t′
-      unfolding doubtAfter cameAfter
-      article-noted l r a t′ b = record { doubt = rw (compared, none, l) a; came = rw (compared, none, l) b }
+  pub after-beginning
+      : s .role ≡ Unh → (r : Kept)
+      → r ≡ record { last = s .node; positions = k .positions; reference = s .first; intervals = k .intervals; doubt = k .doubt } → Keeps r t
+  unfolding doubtAfter cameAfter
+  after-beginning l r g = (g ∙ rw l, rw l)
 
-      pub no-article : isLin (s .role) ≡ false → Doubts y d t s k false t
-      unfolding doubtAfter cameAfter
-      no-article l = record { doubt = rw (compared, none, l); came = rw (compared, none, l) }
+  pub after-another
+      : isLin (s .role) ≡ false → isUnh (s .role) ≡ false → isBgm (s .role) ≡ false → (r : Kept)
+      → r ≡ record { last = s .node; positions = k .positions; reference = k .reference; intervals = k .intervals; doubt = k .doubt } → Keeps r t
+  unfolding doubtAfter cameAfter
+  after-another l u b r g = (g ∙ rw (l, u, b), rw l)
 
 -- where no doubt comes of a segment, there was none before it, and the articles from it on are apart if those behind it are
 module _ (y : Syntax) (t : List ℕ) (s : Segment) (ss : List Segment) (p : ℕ) (prints : p ≡ articlePrint (text y (s .bytes) 3 0)) where
   pub still-apart
-      : (l : Bool) → begins (bytesOf "LIN") (s .bytes) ≡ l → (a b : Bool) → (a || b) || (l && markedIn t p) ≡ false
-      → apartIn (cond (not (a || b) && l) (markIn t p) t) (articlesIn y ss) ≡ true → (b ≡ false) × (apartIn t (articlesIn y (s ∷ ss)) ≡ true)
-  still-apart l e true b h k = absurd (true≢false h)
-  still-apart l e false true h k = absurd (true≢false h)
+      : (l : Bool) → begins (bytesOf "LIN") (s .bytes) ≡ l → (a b : Bool) → cond l ((a || b) || markedIn t p) b ≡ false
+      → apartIn (cond l (cond (a || b) t (markIn t p)) t) (articlesIn y ss) ≡ true → (b ≡ false) × (apartIn t (articlesIn y (s ∷ ss)) ≡ true)
+  still-apart true e true b h k = absurd (true≢false h)
+  still-apart true e false true h k = absurd (true≢false h)
   still-apart true e false false h k = (refl, apart-lin y t s ss p e prints ∙ rw (h, k))
-  still-apart false e false false h k = (refl, apart-other y t s ss e ∙ k)
+  still-apart false e a b h k = (h, apart-other y t s ss e ∙ k)

@@ -1,7 +1,7 @@
 -- What is kept after a segment: one law for each answer of the workers.
 use Prim.Native.Nat.{ℕ, _+_}
 use mathlib.Core.Path.{_≡_, refl, _∙_}
-use mathlib.Core.Bool.{Bool, true, false, _&&_, _||_}
+use mathlib.Core.Bool.{Bool, true, false, cond, _&&_, _||_}
 use mathlib.Core.List.{List}
 use native.Mathlib.Omega.{arith}
 use Rattle.cut.specs.declared.service.Syntax.{Syntax}
@@ -16,21 +16,20 @@ use Rattle.guide.specs.Sheet.{isTag}
 use Rattle.guide.specs.Tree.{one}
 use Rattle.verdict.specs.declared.kept.Kept.{Kept}
 use Rattle.verdict.specs.declared.segment.Found.{Found}
-use Rattle.verdict.specs.Workers.{spanned, roleOf, isUnh, foundAt, pickSpan, keptAfter}
+use Rattle.verdict.specs.Workers.{spanned, roleOf, isLin, isUnh, isBgm, foundAt, pickSpan, keptAfter}
 use Rattle.verdict.proofs.RoleTags.{role-lin, role-unh, role-bgm}
 use Rattle.verdict.proofs.Texts.{spanned-text}
 
-pub no-more : (k : ℕ) (b : Bool) → b ≡ false → k ≡ k + one b
-no-more k b h =
-    let z : k ≡ k + 0 = omega arith in
-    rw h z
+-- one more where the test holds
+counted-on : (k : ℕ) (b : Bool) → cond b (k + 1) k ≡ k + one b
+counted-on k true = refl
+counted-on k false = omega arith
 
--- whether a message is one for intervals, where nothing before says so
-pub document : (z b s r : Bool) → z ≡ false → b ≡ true → r ≡ s → r ≡ z || (b && s)
-document z b s r h k e = rw (h, k) e
-
-pub no-document : (z b s : Bool) → z ≡ false → b ≡ false → false ≡ z || (b && s)
-no-document z b s h k = rw (h, k)
+-- whether a message is one for intervals, by what was known before and by its BGM
+told-on : (z b s : Bool) → cond b (z || s) z ≡ z || (b && s)
+told-on z true s = refl
+told-on true false s = refl
+told-on false false s = refl
 
 picked-bytes : (y : Syntax) (d : List ℕ) (b : Bool) (s t : Span) → spanned y (pickSpan b s t) d ≡ pickBytes b (spanned y s d) (spanned y t d)
 picked-bytes y d true s t = refl
@@ -56,9 +55,9 @@ module _ (ed : Edition) (y : Syntax) (d t : List ℕ) (start end n : ℕ) (k : K
   kept-found =
       record {
         last = refl;
-        positions = rw (role-lin ed n);
+        positions = counted-on (k .positions) (isLin (roleOf ed n)) ∙ rw (role-lin ed n);
         reference = picked-bytes y d (isUnh (roleOf ed n)) (found .first) (k .reference) ∙ rw (own, role-unh ed n);
-        intervals = rw (own, role-bgm ed n);
+        intervals = told-on (k .intervals) (isBgm (roleOf ed n)) _ ∙ rw (own, role-bgm ed n);
       }
 
   pub kept-after : (f : Found) → f ≡ found → (r : Kept) → r ≡ keptAfter y d t f k → KeptAfter ed y d start end n k r

@@ -1,7 +1,7 @@
 -- What the crate's own workers promise each other; no public call cites these.
 use Prim.Native.Nat.{ℕ, suc, _+_, _<_, _^_}
 use mathlib.Core.Path.{_≡_}
-use mathlib.Core.Bool.{Bool, true, false, cond, not, _&&_, _||_}
+use mathlib.Core.Bool.{Bool, true, false, cond, _||_}
 use mathlib.Core.List.{List}
 use Rattle.cut.specs.declared.scan.Cut.{Cut}
 use Rattle.cut.specs.declared.scan.Cut.the-variants as cut
@@ -19,7 +19,6 @@ use Rattle.guide.specs.Views.{viewOf}
 use Rattle.guide.specs.Editions.{guideOf, pagesOf}
 use Rattle.guide.specs.declared.edition.Edition.{Edition}
 use Rattle.guide.specs.Sheet.{isTag}
-use Rattle.guide.specs.Tree.{one}
 use Rattle.page.specs.Reading.{segmentIn}
 use Rattle.agree.specs.AgreeArticles.{articlePrint}
 use Rattle.agree.specs.AgreeMarks.{markedIn, markIn}
@@ -140,19 +139,19 @@ printAt y d s = articlePrint (spanned y (s .third) d)
 
 -- after k and a segment that is placed: whether there is a doubt, and the table of the articles that came, which was t before it
 unfoldable pub doubtAfter : Syntax → List ℕ → List ℕ → Found → Kept → Bool
-doubtAfter y d t s k = unasked k || (isLin (s .role) && markedIn t (printAt y d s))
+doubtAfter y d t s k = cond (isLin (s .role)) (unasked k || markedIn t (printAt y d s)) (k .doubt)
 
 unfoldable pub cameAfter : Syntax → List ℕ → List ℕ → Found → Kept → List ℕ
-cameAfter y d t s k = cond (not (unasked k) && isLin (s .role)) (markIn t (printAt y d s)) t
+cameAfter y d t s k = cond (isLin (s .role)) (cond (unasked k) t (markIn t (printAt y d s))) t
 
 -- what is kept after k and a segment that is placed
 abbrev pub keptAfter : Syntax → List ℕ → List ℕ → Found → Kept → Kept
 keptAfter y d t s k =
     record {
       last = s .node;
-      positions = k .positions + one (isLin (s .role));
+      positions = cond (isLin (s .role)) (k .positions + 1) (k .positions);
       reference = pickSpan (isUnh (s .role)) (s .first) (k .reference);
-      intervals = k .intervals || (isBgm (s .role) && same (spanned y (s .first) d) (bytesOf "Z04"));
+      intervals = cond (isBgm (s .role)) (k .intervals || same (spanned y (s .first) d) (bytesOf "Z04")) (k .intervals);
       doubt = doubtAfter y d t s k;
     }
 
