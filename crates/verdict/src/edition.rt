@@ -1,11 +1,8 @@
 // Which guide judges a message: the edition that its UNH names.
-use cut::Cut;
 use cut::Syntax;
-use cut::segment_at;
 use element::component_at;
 use element::is_code;
 use guide::Edition;
-ghost use mathlib.Core.Bool.{false};
 ghost use mathlib.Core.Path.{_≡_};
 ghost use Rattle.cut.specs.Bytes.{part};
 ghost use Rattle.cut.specs.Held.{held};
@@ -25,18 +22,9 @@ fn edition_in(y: Syntax, d: &[u8], start: usize, end: usize) -> Edition
     Edition::D
 }
 
-// The edition of the message that the segment at `start` begins.
+// The edition of the message that the segment at `start` begins: its end is not looked for, since what stands from its first byte on is what stands in it.
 pub(crate) fn edition_at(y: Syntax, d: &[u8], start: usize) -> Edition
     ensures { λ r. ⌜ r ≡ editionOf y (held (segmentsAt y (now (d .entry)) start)) ⌝ }
 {
-    let s = segment_at(y, d, start);
-    let Cut::Segment {
-        start: place,
-        end,
-        piece: _,
-    } = s
-    else {
-        return Edition::D;
-    };
-    edition_in(y, d, place, end)
+    edition_in(y, d, start, d.len())
 }
