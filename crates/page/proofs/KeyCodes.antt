@@ -1,11 +1,11 @@
 -- A component is one of a row's codes exactly if its number is that of one.
 use Prim.Native.Nat.{ℕ, zero, suc, _+_, _-_, _/_, _%_, _≤_, _<_}
-use mathlib.Core.Bool.{Bool, true, false}
+use mathlib.Core.Bool.{Bool, true, false, _||_}
 use mathlib.Core.Path.{_≡_, refl, sym, _∙_}
 use mathlib.Core.List.{List, [], _∷_}
 use native.Mathlib.Omega.{arith}
 use lib.ListN.{getD}
-use lib.Dec.{T}
+use lib.Dec.{T, eqb}
 use borrow.Author.Tests.{eq-eqb, ne-eqb}
 use Rattle.element.specs.Words.{Bytes, packed, wordOf}
 use Rattle.element.proofs.Packing.{isShort, allShort, word-same}
@@ -17,20 +17,25 @@ use Rattle.page.specs.PageKeys.{keyAmong}
 use Rattle.page.specs.PageWords.{span, codesIn}
 use Rattle.page.proofs.PageSpans.{span-next, span-none}
 
--- the search through the codes from n up to next
-module _ (key n next : ℕ) where
-  pub search-none : next ≤ n → false ≡ keyAmong key (span allCodes [] n (next - n))
+or-more : (a b c : Bool) → (a || b) || c ≡ a || (b || c)
+or-more true b c = refl
+or-more false b c = refl
+
+or-none : (a : Bool) → a || false ≡ a
+or-none true = refl
+or-none false = refl
+
+-- the search through the codes from n up to next, where f says whether one before them is found
+module _ (key n next : ℕ) (f : Bool) where
+  pub search-end : next ≤ n → f || keyAmong key (span allCodes [] n (next - n)) ≡ f
   unfolding keyAmong
-  search-none h = rw (span-none allCodes [] n next h)
+  search-end h = rw (span-none allCodes [] n next h) (or-none f)
 
-  module _ (h : n < next) (w : ℕ) (p : w ≡ packed (getD allCodes n [])) where
-    pub search-found : w ≡ key → true ≡ keyAmong key (span allCodes [] n (next - n))
-    unfolding keyAmong
-    search-found e = rw (span-next allCodes [] n next h, eq-eqb _ _ (sym e ∙ p))
-
-    pub search-on : (w ≡ key → ⊥) → keyAmong key (span allCodes [] n (next - n)) ≡ keyAmong key (span allCodes [] (n + 1) (next - (n + 1)))
-    unfolding keyAmong
-    search-on e = rw (span-next allCodes [] n next h, ne-eqb key _ (λ z. e (p ∙ sym z)))
+  pub search-next
+      : n < next → (w : ℕ) → w ≡ packed (getD allCodes n [])
+      → (f || eqb key w) || keyAmong key (span allCodes [] (n + 1) (next - (n + 1))) ≡ f || keyAmong key (span allCodes [] n (next - n))
+  unfolding keyAmong
+  search-next h w p = rw (span-next allCodes [] n next h, p) (or-more f (eqb key (packed (getD allCodes n []))) _)
 
 short-codes : T (allShort allCodes)
 unfolding pages20d joined column codesOf rows20d allCodes

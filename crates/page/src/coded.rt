@@ -14,18 +14,18 @@ ghost use Rattle.page.specs.PageColumns.{allCodes};
 ghost use Rattle.page.specs.PageKeys.{keyAmong};
 ghost use Rattle.page.specs.PageWords.{span, codesIn};
 
-// Whether the number is that of a code from one place up to another.
+// Whether the number is that of a code from one place up to another. All are compared: which of them it is cannot be foreseen, so that a loop that ends at
+// the one found is slower.
 pub(crate) fn has_code(key: u64, from: usize, next: usize) -> bool
     ensures { λ r. ⌜ r ≡ keyAmong key (span allCodes [] from (next - from)) ⌝ }
 {
+    let mut found = false;
     let mut n = from;
     while n < next {
-        if code_word(n) == key {
-            return true;
-        }
+        found = found | (key == code_word(n));
         n += 1;
     }
-    false
+    found
 }
 
 // The number above those of n bytes.
