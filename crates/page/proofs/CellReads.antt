@@ -6,11 +6,11 @@ use mathlib.Core.Logic.{_⊎_, inl, inr, ⊎-elim}
 use lib.Dec.{eqb}
 use borrow.Author.Tests.{eq-eqb, ne-eqb, eqb-true, eqb-false}
 use Rattle.cut.specs.declared.service.Syntax.{Syntax}
-use Rattle.element.specs.Clean.{between}
 use Rattle.element.specs.Elements.{endingOf, stays}
-use Rattle.element.specs.Services.{isService, plainServices}
+use Rattle.element.specs.Services.{isService}
 use Rattle.element.specs.declared.components.Span.{Span}
 use Rattle.page.specs.Cells.{stepsOf, mayEnd, nextOf, keepOf}
+use Rattle.page.specs.Quick.{usualServices}
 use Rattle.page.specs.declared.places.Places.{Places}
 
 module _ (w n : ℕ) where
@@ -84,29 +84,20 @@ module _ (s : Span) (p : Places) where
 -- ---- the service characters, one test after the other
 
 module _ (y : Syntax) where
-  abbrev t : Bool
-  t = between 32 64 (y .terminator)
+  pub services-first : (y .terminator ≡ 39 → ⊥) → false ≡ usualServices y
+  unfolding usualServices
+  services-first h = rw (ne-eqb (y .terminator) 39 h)
 
-  abbrev e : Bool
-  e = between 32 64 (y .element)
+  module _ (h : y .terminator ≡ 39) where
+    pub services-second : (y .element ≡ 43 → ⊥) → false ≡ usualServices y
+    unfolding usualServices
+    services-second k = rw (eq-eqb (y .terminator) 39 h, ne-eqb (y .element) 43 k)
 
-  abbrev c : Bool
-  c = between 32 64 (y .component)
+    module _ (k : y .element ≡ 43) where
+      pub services-third : (y .component ≡ 58 → ⊥) → false ≡ usualServices y
+      unfolding usualServices
+      services-third l = rw (eq-eqb (y .terminator) 39 h, eq-eqb (y .element) 43 k, ne-eqb (y .component) 58 l)
 
-  pub services-first : t ≡ false → false ≡ plainServices y
-  unfolding plainServices
-  services-first h = rw h
-
-  module _ (h : t ≡ true) where
-    pub services-second : e ≡ false → false ≡ plainServices y
-    unfolding plainServices
-    services-second k = rw (h, k)
-
-    module _ (k : e ≡ true) where
-      pub services-third : c ≡ false → false ≡ plainServices y
-      unfolding plainServices
-      services-third l = rw (h, k, l)
-
-      pub services-last : c ≡ true → between 32 64 (y .release) ≡ plainServices y
-      unfolding plainServices
-      services-last l = rw (h, k, l)
+      pub services-last : y .component ≡ 58 → eqb (y .release) 63 ≡ usualServices y
+      unfolding usualServices
+      services-last l = rw (eq-eqb (y .terminator) 39 h, eq-eqb (y .element) 43 k, eq-eqb (y .component) 58 l)

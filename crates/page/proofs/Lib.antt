@@ -17,6 +17,7 @@ pub mod PageSteps
 pub mod PageResults
 pub mod QuickSteps
 pub mod QuickStart
+pub mod QuickTags
 pub mod QuickLoop
 pub mod PageScans
 pub mod PageMarks

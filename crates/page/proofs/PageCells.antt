@@ -19,9 +19,9 @@ cell f (x ∷ xs) zero z = refl
 cell f (x ∷ xs) (suc n) z = cell f xs n z
 
 -- what the words of a table say, where they say it in order of the members of a list
-module _ {A B : Type 0} (f : ℕ → B) (g : A → B) (words : List ℕ) (l : List A) (z : A) (order : column f words ≡ column g l) (none : f 0 ≡ g z) where
-  told : (k n : ℕ) → n ≡ k → f (getD words k 0) ≡ g (getD l n z)
-  told k n e = sym (cell f words k 0) ∙ rw (e, order, none) (cell g l k z)
+module _ {A B : Type 0} (f : ℕ → B) (g : A → B) (words : List ℕ) (past : ℕ) (l : List A) (z : A) (order : column f words ≡ column g l) (none : f past ≡ g z) where
+  pub told : (k n : ℕ) → n ≡ k → f (getD words k past) ≡ g (getD l n z)
+  told k n e = sym (cell f words k past) ∙ rw (e, order, none) (cell g l k z)
 
 -- the nodes of an edition, by its pages
 module _ (words : List ℕ) (pages : List Page) (order : column pageIn words ≡ column (λ (p : Page). p) pages)
@@ -30,8 +30,8 @@ module _ (words : List ℕ) (pages : List Page) (order : column pageIn words ≡
   unfolding pageIn span reach
   node-arm k n e =
       record {
-        page = told pageIn (λ (p : Page). p) words pages [] order refl k n e;
-        reach = told (λ (w : ℕ). w / 32768) (reach lacking) words pages [] reached refl k n e;
+        page = told pageIn (λ (p : Page). p) words 0 pages [] order refl k n e;
+        reach = told (λ (w : ℕ). w / 32768) (reach lacking) words 0 pages [] reached refl k n e;
       }
 
 abbrev pub nodeTable20d : List ℕ
@@ -87,8 +87,8 @@ pub element-arm : (k n : ℕ) → n ≡ k → ElementWord (getD elementTable k 0
 unfolding elementIn span reach
 element-arm k n e =
     record {
-      element = told elementIn (λ (x : Composite). x) elementTable allElements beyond element-rows refl k n e;
-      reach = told (λ (w : ℕ). w / 32768 % 32) (λ (x : Composite). reach isMust (x .rows)) elementTable allElements beyond element-reach refl k n e;
+      element = told elementIn (λ (x : Composite). x) elementTable 0 allElements beyond element-rows refl k n e;
+      reach = told (λ (w : ℕ). w / 32768 % 32) (λ (x : Composite). reach isMust (x .rows)) elementTable 0 allElements beyond element-reach refl k n e;
     }
 
 abbrev pub rowTable : List ℕ
@@ -107,7 +107,7 @@ row-table = refl
 
 pub row-arm : (k n : ℕ) → n ≡ k → rowIn (getD rowTable k 0) ≡ getD allRows n unused
 unfolding rowIn
-row-arm = told rowIn (λ (r : Row). r) rowTable allRows unused row-table refl
+row-arm = told rowIn (λ (r : Row). r) rowTable 0 allRows unused row-table refl
 
 abbrev codeTable : List ℕ
 codeTable =

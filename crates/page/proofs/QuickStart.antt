@@ -105,7 +105,7 @@ module _ (y : Syntax) (s : plainServices y ≡ true) where
 -- ---- the tag
 
 -- a tag takes four bytes
-pub tag-room : (y : Syntax) (d : List ℕ) (start : ℕ) → taggedBytes y (part start (length d) d) ≡ true → start + 3 < length d
+tag-room : (y : Syntax) (d : List ℕ) (start : ℕ) → taggedBytes y (part start (length d) d) ≡ true → start + 3 < length d
 tag-room y d start t = go (leb (length d) (start + 3)) refl
   where
     go : (b : Bool) → leb (length d) (start + 3) ≡ b → start + 3 < length d

@@ -1,11 +1,14 @@
 -- The states of the quick pass, and how a state's word is read. No public promise cites these.
 use Prim.Native.Nat.{ℕ, zero, suc, _/_, _%_, _<_}
 use mathlib.Core.Path.{_≡_}
-use mathlib.Core.Bool.{Bool, cond}
+use mathlib.Core.Bool.{Bool, true, cond, _&&_}
 use mathlib.Core.List.{List, [], _∷_}
 use lib.ListN.{getD}
 use lib.Dec.{eqb}
+use Rattle.cut.specs.Base.{edifact}
+use Rattle.cut.specs.Eights.{number, byteOf}
 use Rattle.cut.specs.declared.service.Syntax.{Syntax}
+use Rattle.element.specs.Clean.{capital}
 use Rattle.element.specs.declared.components.Span.{Span}
 use Rattle.guide.specs.Page.{Page}
 use Rattle.page.specs.PageWords.{NodeWord}
@@ -65,6 +68,21 @@ cellOf s = getD cellTable s 0
 -- the state, one of 95, is before the first component behind the tag of the page; 0 is none
 unfoldable pub FirstCell : ℕ → Page → Type 0
 FirstCell s page = (s < 95) × ((s ≡ 0 → ⊥) → NodeWord (spotOf s .page) page × (spotOf s .element ≡ 0) × (spotOf s .component ≡ 0))
+
+-- the first four bytes of a segment with a tag as one number, the first the lowest: the tag and the usual element separator; ZZZ, where there is no tag
+unfoldable pub tagWord : List ℕ → ℕ
+tagWord [] = 0x2b5a5a5a
+tagWord (x ∷ xs) = number 4 (λ k. getD (x ∷ xs) k (edifact .element))
+
+-- the number is that of three capital letters and the usual element separator
+unfoldable pub isTagWord : ℕ → Bool
+isTagWord w = capital (byteOf w 0) && (capital (byteOf w 1) && (capital (byteOf w 2) && eqb (byteOf w 3) (edifact .element)))
+
+-- the first word of the page of a node with a tag: the first state, and above it the tag's number
+pub record FirstWord (tag : List ℕ) (page : Page) (w : ℕ) : Type 0 where
+  pub state : FirstCell (w % 0x1_0000_0000) page
+  pub tagged : w / 0x1_0000_0000 ≡ tagWord tag
+  pub lettered : isTagWord (w / 0x1_0000_0000) ≡ true
 
 -- the steps of a word behind a component of n bytes
 abbrev pub stepsOf : ℕ → ℕ → ℕ

@@ -1,10 +1,12 @@
 // The states of the pass over a segment without a fault: one number for each component of a page.
 use guide::Edition;
 ghost use mathlib.Core.Path.{_≡_};
+ghost use Rattle.guide.specs.Nodes.{node};
+ghost use Rattle.guide.specs.Pricat.{pricat20d, pricat20c};
 ghost use Rattle.guide.specs.Pages20d.{pageOf};
 ghost use Rattle.guide.specs.Pages20c.{pageOf20c};
-ghost use Rattle.guide.specs.Editions.{pagesOf};
-ghost use Rattle.page.specs.Cells.{cellOf, FirstCell};
+ghost use Rattle.guide.specs.Editions.{guideOf, pagesOf};
+ghost use Rattle.page.specs.Cells.{cellOf, FirstWord};
 
 // The next state behind a component separator and behind an element separator, 8 bits each, where the component is filled, then both where it is empty; a bit
 // each that the segment may end behind it, filled or empty; and the word of its row, with what is kept of its place instead of the status.
@@ -111,79 +113,80 @@ pub(crate) fn cell(s: usize) -> u64
     }
 }
 
-fn first_20d(n: usize) -> usize
-    ensures { λ r. ⌜ FirstCell r (pageOf n) ⌝ }
+fn first_20d(n: usize) -> u64
+    ensures { λ r. ⌜ FirstWord (node pricat20d n .tag) (pageOf n) r ⌝ }
 {
     match n {
-        0 => 0,
-        1 => 34,
-        2 => 84,
-        3 => 1,
-        4 => 4,
-        5 => 7,
-        6 => 10,
-        7 => 12,
-        8 => 14,
-        9 => 40,
-        10 => 44,
-        11 => 48,
-        12 => 50,
-        13 => 16,
-        14 => 18,
-        15 => 21,
-        16 => 87,
-        17 => 53,
-        18 => 72,
-        19 => 22,
-        20 => 56,
-        21 => 28,
-        22 => 31,
-        23 => 91,
-        24 => 32,
-        25 => 60,
-        26 => 64,
-        27 => 28,
-        _ => 0,
+        0 => 0x2b5a5a5a_00000000,
+        1 => 0x2b484e55_00000022,
+        2 => 0x2b4d4742_00000054,
+        3 => 0x2b4d5444_00000001,
+        4 => 0x2b4d5444_00000004,
+        5 => 0x2b4d5444_00000007,
+        6 => 0x2b464652_0000000a,
+        7 => 0x2b464652_0000000c,
+        8 => 0x2b464652_0000000e,
+        9 => 0x2b44414e_00000028,
+        10 => 0x2b44414e_0000002c,
+        11 => 0x2b434f4c_00000030,
+        12 => 0x2b415443_00000032,
+        13 => 0x2b4d4f43_00000010,
+        14 => 0x2b585543_00000012,
+        15 => 0x2b494750_00000015,
+        16 => 0x2b4e494c_00000057,
+        17 => 0x2b414950_00000035,
+        18 => 0x2b444d49_00000048,
+        19 => 0x2b495250_00000016,
+        20 => 0x2b474e52_00000038,
+        21 => 0x2b4d5444_0000001c,
+        22 => 0x2b494750_0000001f,
+        23 => 0x2b4e494c_0000005b,
+        24 => 0x2b495250_00000020,
+        25 => 0x2b474e52_0000003c,
+        26 => 0x2b544e55_00000040,
+        27 => 0x2b4d5444_0000001c,
+        _ => 0x2b5a5a5a_00000000,
     }
 }
 
-fn first_20c(n: usize) -> usize
-    ensures { λ r. ⌜ FirstCell r (pageOf20c n) ⌝ }
+fn first_20c(n: usize) -> u64
+    ensures { λ r. ⌜ FirstWord (node pricat20c n .tag) (pageOf20c n) r ⌝ }
 {
     match n {
-        0 => 0,
-        1 => 66,
-        2 => 84,
-        3 => 1,
-        4 => 4,
-        5 => 7,
-        6 => 10,
-        7 => 14,
-        8 => 40,
-        9 => 44,
-        10 => 48,
-        11 => 50,
-        12 => 16,
-        13 => 18,
-        14 => 21,
-        15 => 87,
-        16 => 53,
-        17 => 78,
-        18 => 22,
-        19 => 28,
-        20 => 31,
-        21 => 91,
-        22 => 32,
-        23 => 60,
-        24 => 64,
-        25 => 28,
-        _ => 0,
+        0 => 0x2b5a5a5a_00000000,
+        1 => 0x2b484e55_00000042,
+        2 => 0x2b4d4742_00000054,
+        3 => 0x2b4d5444_00000001,
+        4 => 0x2b4d5444_00000004,
+        5 => 0x2b4d5444_00000007,
+        6 => 0x2b464652_0000000a,
+        7 => 0x2b464652_0000000e,
+        8 => 0x2b44414e_00000028,
+        9 => 0x2b44414e_0000002c,
+        10 => 0x2b434f4c_00000030,
+        11 => 0x2b415443_00000032,
+        12 => 0x2b4d4f43_00000010,
+        13 => 0x2b585543_00000012,
+        14 => 0x2b494750_00000015,
+        15 => 0x2b4e494c_00000057,
+        16 => 0x2b414950_00000035,
+        17 => 0x2b444d49_0000004e,
+        18 => 0x2b495250_00000016,
+        19 => 0x2b4d5444_0000001c,
+        20 => 0x2b494750_0000001f,
+        21 => 0x2b4e494c_0000005b,
+        22 => 0x2b495250_00000020,
+        23 => 0x2b474e52_0000003c,
+        24 => 0x2b544e55_00000040,
+        25 => 0x2b4d5444_0000001c,
+        _ => 0x2b5a5a5a_00000000,
     }
 }
 
-// The state before the first component behind the tag of a node's page; 0, where the node has no page.
-pub(crate) fn first_cell(edition: Edition, n: usize) -> usize
-    ensures { λ r. ⌜ FirstCell r (pagesOf edition n) ⌝ }
+// The state before the first component behind the tag of a node's page, in the lower 32 bits, and above it the first four bytes of a segment of the node as one
+// number, the first the lowest: its tag and the usual element separator. A node without a page has the state 0, behind which nothing is told, and the tag ZZZ.
+pub(crate) fn first_cell(edition: Edition, n: usize) -> u64
+    ensures { λ r. ⌜ FirstWord (node (guideOf edition) n .tag) (pagesOf edition n) r ⌝ }
 {
     match edition {
         Edition::D => first_20d(n),

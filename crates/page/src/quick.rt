@@ -7,14 +7,12 @@ use crate::right::is_right;
 use crate::scan::untested;
 use cut::Syntax;
 use element::Span;
-use element::tagged;
+ghost use Prim.Native.Nat.{_/_, _%_};
 ghost use mathlib.Core.Bool.{true};
 ghost use mathlib.Core.Path.{_≡_};
-ghost use Rattle.element.specs.Clean.{between};
-ghost use Rattle.element.specs.Services.{plainServices};
 ghost use Rattle.guide.specs.Page.{Page};
-ghost use Rattle.page.specs.Cells.{stepsOf, mayEnd, nextOf, keepOf, FirstCell};
-ghost use Rattle.page.specs.Quick.{Begun, FaultlessAt};
+ghost use Rattle.page.specs.Cells.{isTagWord, FirstCell, stepsOf, mayEnd, nextOf, keepOf};
+ghost use Rattle.page.specs.Quick.{usualServices, Begun, FaultlessAt};
 
 pub(crate) struct Faultless {
     pub(crate) end: usize,
@@ -84,58 +82,51 @@ fn next_state(y: Syntax, x: u8, t: u64) -> usize
     0
 }
 
-fn is_plain(x: u8) -> bool
-    ensures { λ r. ⌜ r ≡ between 32 64 x ⌝ }
+// Whether the four service characters that marks are made of are the usual ones. Behind these tests the compiler knows them, so that what is made of them for
+// eight bytes at once is a constant.
+fn has_usual_services(y: Syntax) -> bool
+    ensures { λ r. ⌜ r ≡ usualServices y ⌝ }
 {
-    if x < 32 {
+    if y.terminator != 39 {
         return false;
     }
-    x <= 64
+    if y.element != 43 {
+        return false;
+    }
+    if y.component != 58 {
+        return false;
+    }
+    y.release == 63
 }
 
-// Whether the four service characters that marks are made of are allowed bytes, none of them a letter or with its high bit set.
-fn has_plain_services(y: Syntax) -> bool
-    ensures { λ r. ⌜ r ≡ plainServices y ⌝ }
-{
-    if !is_plain(y.terminator) {
-        return false;
-    }
-    if !is_plain(y.element) {
-        return false;
-    }
-    if !is_plain(y.component) {
-        return false;
-    }
-    is_plain(y.release)
-}
-
-// The tag is three capital letters and the element separator behind them; the service characters are marks from the blank to 64, so no letter is one of them.
-fn is_begun(y: Syntax, d: &[u8], start: usize) -> bool
+// Whether the segment begins with the four bytes of a word, a tag and the element separator; false too, where fewer than eight bytes are left.
+fn is_begun(y: Syntax, d: &[u8], start: usize, tag: u64) -> bool
+    requires { ⌜ isTagWord tag ≡ true ⌝ }
     ensures { λ r. ⌜ (r ≡ true → Begun y (now (d .entry)) start) ⌝ }
 {
-    if !has_plain_services(y) {
+    if !has_usual_services(y) {
         return false;
     }
-    if !tagged(y, d, start, d.len()) {
+    if d.len() < 8 {
         return false;
     }
-    let x = d[start + 3];
-    if x == y.terminator {
+    if d.len() - 8 < start {
         return false;
     }
-    x != y.release
+    cut::eight_at(d, start) % 0x1_0000_0000 == tag
 }
 
-// The segment that begins at `start`, against the page that the state is the first of; the end 0, where it is not told that there is no fault.
-pub(crate) fn faultless_from(y: Syntax, d: &[u8], start: usize, state: usize) -> Faultless
-    ensures { λ r. ⌜ ((page : Page) → FirstCell state page → (r .end ≡ 0 → ⊥) → FaultlessAt y page (now (d .entry)) start r) ⌝ }
+// The segment that begins at `start`, against a page and the tag in front of it, by the page's first word; the end 0, where it is not told that there is no fault.
+pub(crate) fn faultless_from(y: Syntax, d: &[u8], start: usize, first: u64) -> Faultless
+    requires { ⌜ isTagWord (first / 0x1_0000_0000) ≡ true ⌝ }
+    ensures { λ r. ⌜ ((page : Page) → FirstCell (first % 0x1_0000_0000) page → (r .end ≡ 0 → ⊥) → FaultlessAt y page (now (d .entry)) start r) ⌝ }
 {
-    if !is_begun(y, d, start) {
+    if !is_begun(y, d, start, first / 0x1_0000_0000) {
         return untold(start);
     }
     let mut scan = untested(start + 4);
     let mut places = nowhere(start);
-    let mut s = state;
+    let mut s = (first % 0x1_0000_0000) as usize;
     loop {
         let w = cell(s);
         let a = scan.at;

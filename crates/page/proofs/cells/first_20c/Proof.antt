@@ -1,4 +1,5 @@
--- `page::cells::first_20c` meets its contract: each arm is a cell of the table.
+-- `page::cells::first_20c` meets its contract: each arm is a word of the table.
+use Rattle.guide.specs.Pricat.{pricat20c}
 use Rattle.page.proofs.CellArms.{first-arm-20c, first-none}
 use Rattle.page.proofs.cells.first_20c.Statement.{statement}
 use Rattle.page.proofs.cells.first_20c.Tie as tie
@@ -82,7 +83,8 @@ returns-26 : tie.Need-returns-26
 returns-26 c = first-arm-20c 25 _ (c .match .keys26)
 
 returns-27 : tie.Need-returns-27
-returns-27 c = first-none _
+unfolding pricat20c
+returns-27 c = first-none pricat20c _ (c .match .rest) _
 
 pub first-20c-spec : {M : Type 1} → statement M
 first-20c-spec =

@@ -1,4 +1,5 @@
--- `page::cells::first_20d` meets its contract: each arm is a cell of the table.
+-- `page::cells::first_20d` meets its contract: each arm is a word of the table.
+use Rattle.guide.specs.Pricat.{pricat20d}
 use Rattle.page.proofs.CellArms.{first-arm-20d, first-none}
 use Rattle.page.proofs.cells.first_20d.Statement.{statement}
 use Rattle.page.proofs.cells.first_20d.Tie as tie
@@ -88,7 +89,8 @@ returns-28 : tie.Need-returns-28
 returns-28 c = first-arm-20d 27 _ (c .match .keys28)
 
 returns-29 : tie.Need-returns-29
-returns-29 c = first-none _
+unfolding pricat20d
+returns-29 c = first-none pricat20d _ (c .match .rest) _
 
 pub first-20d-spec : {M : Type 1} → statement M
 first-20d-spec =

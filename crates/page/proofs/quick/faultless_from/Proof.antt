@@ -1,6 +1,6 @@
 -- `page::quick::faultless_from` meets its contract. The loop's invariant: the bytes before the component that comes next are passed, and against each page
 -- the pass stands before the spot of the state.
-use Prim.Native.Nat.{ℕ, _+_, _-_, _/_, _<_}
+use Prim.Native.Nat.{ℕ, _+_, _-_, _/_, _%_, _<_}
 use mathlib.Core.Bool.{true, false}
 use mathlib.Core.Path.{_≡_, refl, sym, ap, subst, _∙_}
 use mathlib.Core.Logic.{⊎-elim}
@@ -22,14 +22,14 @@ use Rattle.page.proofs.quick.faultless_from.Statement.{statement}
 use Rattle.page.proofs.quick.faultless_from.Tie as tie
 
 abbrev Inv-loop : tie.InvT-loop
-Inv-loop y d start state scan₀ places₀ s₀ scan places s =
-    Begun y d start × Walked y d start (scan .at) (scan .next) (scan .left) × OnPages y d start state places (scan .at) s
+Inv-loop y d start first scan₀ places₀ s₀ scan places s =
+    Begun y d start × Walked y d start (scan .at) (scan .next) (scan .left) × OnPages y d start (first % 0x1_0000_0000) places (scan .at) s
 
 abbrev μ-loop : tie.MeasureT-loop
-μ-loop y d start state scan₀ places₀ s₀ scan places s = length d - scan .at
+μ-loop y d start first scan₀ places₀ s₀ scan places s = length d - scan .at
 
 is-begun-requires : tie.Need-is-begun-requires Inv-loop μ-loop
-is-begun-requires c κs = search needs
+is-begun-requires c κs = c .before .pre
 
 untold-requires : tie.Need-untold-requires Inv-loop μ-loop
 untold-requires c κs = search needs
@@ -111,8 +111,8 @@ shared-slice-read-x c = told (c .before .before .before) .inside
 may-end-requires : tie.Need-may-end-requires Inv-loop μ-loop
 may-end-requires c κs = search needs
 
-add-t26 : tie.Need-add-t26 Inv-loop μ-loop
-add-t26 c =
+add-t27 : tie.Need-add-t27 Inv-loop μ-loop
+add-t27 c =
     let j = c .before .before .before .before .before in
     let k = told (j .before .before) .inside in
     let good = j .before .before .before .before .before .before .before .before .before .before .before .before .good in
@@ -200,7 +200,7 @@ faultless-from-spec =
     returns-3
     shared-slice-read-x
     may-end-requires
-    add-t26
+    add-t27
     returns-4
     untold-requires-4
     returns-5
