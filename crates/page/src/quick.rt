@@ -116,7 +116,7 @@ fn is_begun(y: Syntax, d: &[u8], start: usize, tag: u64) -> bool
     cut::eight_at(d, start) % 0x1_0000_0000 == tag
 }
 
-// The segment that begins at `start`, against a page and the tag in front of it, by the page's first word; the end 0, where it is not told that there is no fault.
+// The segment that begins at `start`, against the tag and the page of a first word; the end 0, where it is not told that there is no fault.
 pub(crate) fn faultless_from(y: Syntax, d: &[u8], start: usize, first: u64) -> Faultless
     requires { ⌜ isTagWord (first / 0x1_0000_0000) ≡ true ⌝ }
     ensures { λ r. ⌜ ((page : Page) → FirstCell (first % 0x1_0000_0000) page → (r .end ≡ 0 → ⊥) → FaultlessAt y page (now (d .entry)) start r) ⌝ }
