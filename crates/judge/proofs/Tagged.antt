@@ -1,22 +1,23 @@
--- Laws of a node's tag: past the table's end there is none, and equal numbers are equal tags.
+-- Laws of a node's tag: past the table's end there is none, equal numbers are equal tags, and each is letters.
 use Prim.Native.Nat.{ℕ, zero, suc, _-_, _≤_, _<_}
-use mathlib.Core.Path.{_≡_, refl, sym, _∙_, ap₂}
-use mathlib.Core.Bool.{false}
+use mathlib.Core.Path.{_≡_, refl, sym, _∙_, ap₂, subst}
+use mathlib.Core.Bool.{Bool, true, false, true≢false}
 use mathlib.Core.List.{List, [], _∷_}
 use native.Mathlib.Omega.{arith}
 use lib.ListN.{length, List·getD-eq-default}
 use lib.Dec.{T, eqb, eqb→eq}
+use lib.Bits.{bitAnd, and-le-r}
 use borrow.Author.Tests.{ne-eqb}
 use Rattle.element.specs.Plain.{same}
 use Rattle.guide.specs.Nodes.{message, node}
 use Rattle.guide.specs.Pricat.{pricat20d, pricat20c}
 use Rattle.guide.specs.Sheet.{isTag}
 use Rattle.guide.specs.Checks.{every}
-use Rattle.guide.proofs.Basics.{every-at, or-cases}
+use Rattle.guide.proofs.Basics.{every-at, true-T, or-cases}
 use Rattle.guide.specs.declared.edition.Edition.{Edition}
 use Rattle.guide.specs.declared.edition.Edition.the-variants.{D, C}
 use Rattle.guide.specs.Editions.{guideOf}
-use Rattle.judge.specs.Words.{packed, holds, Bytes}
+use Rattle.judge.specs.Words.{packed, holds, letters, Bytes}
 use Rattle.judge.specs.Sets.{taggedOf}
 use Rattle.judge.proofs.Members.{nodes-none}
 use Rattle.judge.proofs.Sound.{sound-at}
@@ -78,10 +79,25 @@ abbrev NoneOf : ℕ → List ℕ → Type 0
 NoneOf t [] = Unit {0}
 NoneOf t (x ∷ xs) = NoneOf t xs × (t ≡ x → ⊥)
 
-none-holds : (t x : ℕ) (xs : List ℕ) → NoneOf t xs → T (holds x xs) → x ≡ t → ⊥
+none-holds : (t : ℕ) (xs : List ℕ) → NoneOf t xs → T (holds t xs) → ⊥
 unfolding holds
-none-holds t x [] d h e = h
-none-holds t x (y ∷ ys) d h e = or-cases (eqb x y) (holds x ys) (λ q. d .1 (sym e ∙ eqb→eq x y q)) (λ q. none-holds t x ys (d .0) q e) h
+none-holds t [] d h = h
+none-holds t (y ∷ ys) d h = or-cases (eqb t y) (holds t ys) (λ q. d .1 (eqb→eq t y q)) (λ q. none-holds t ys (d .0) q) h
+
+-- a test that the tags of all nodes pass, computed, and the number t does not: no node has this tag
+module _ (e : Edition) (test : ℕ → Bool) (all : T (every (λ k. test (packed (node (guideOf e) (suc k) .tag))) (length (guideOf e) - 1))) (t : ℕ) where
+  tag-failing : (T (test t) → ⊥) → taggedOf (guideOf e) t ≡ 0
+  unfolding taggedOf
+  tag-failing fails = nodes-none (guideOf e) _ go
+    where
+      go : (n : ℕ) → 0 < n → n < length (guideOf e) → eqb (packed (node (guideOf e) n .tag)) t ≡ false
+      go zero h l = absurd (omega arith)
+      go (suc n) h l =
+          ne-eqb _ t
+          (λ z.
+          fails
+          (subst (λ (x : ℕ). T (test x)) z
+          (every-at (λ k. test (packed (node (guideOf e) (suc k) .tag))) (length (guideOf e) - 1) n all (omega arith))))
 
 tags-told : (e : Edition) → T (every (λ k. holds (packed (node (guideOf e) (suc k) .tag)) tags) (length (guideOf e) - 1))
 unfolding pricat20d pricat20c every holds packed
@@ -90,11 +106,19 @@ tags-told C = tt
 
 -- no node has a tag that is none of these
 pub tag-other : (e : Edition) (t : ℕ) → NoneOf t tags → 0 ≡ taggedOf (guideOf e) t
-unfolding taggedOf
-tag-other e t d = sym (nodes-none (guideOf e) _ go)
+tag-other e t d = sym (tag-failing e (λ x. holds x tags) (tags-told e) t (none-holds t tags d))
+
+letters-told : (e : Edition) → T (every (λ k. letters (packed (node (guideOf e) (suc k) .tag))) (length (guideOf e) - 1))
+unfolding pricat20d pricat20c every letters packed
+letters-told D = tt
+letters-told C = tt
+
+-- a tag that some nodes have is letters
+pub tag-letters : (e : Edition) (f s t w : ℕ) → s ≡ taggedOf (guideOf e) t → t ≡ w → (bitAnd f s ≡ 0 → ⊥) → letters w ≡ true
+tag-letters e f s t w p q some = rw (sym q) (go (letters t) refl)
   where
-    go : (n : ℕ) → 0 < n → n < length (guideOf e) → eqb (packed (node (guideOf e) n .tag)) t ≡ false
-    go zero h l = absurd (omega arith)
-    go (suc n) h l =
-        ne-eqb _ t
-        (none-holds t _ tags d (every-at (λ k. holds (packed (node (guideOf e) (suc k) .tag)) tags) (length (guideOf e) - 1) n (tags-told e) (omega arith)))
+    go : (b : Bool) → letters t ≡ b → b ≡ true
+    go true h = refl
+    go false h =
+        let z = p ∙ tag-failing e letters (letters-told e) t (λ k. true≢false (sym (true-T _ k) ∙ h)) in
+        absurd (some (omega (arith, and-le-r f s, z)))

@@ -2,11 +2,12 @@
 use cut::Syntax;
 ghost use Prim.Native.Nat.{_+_, _<_, _≤_};
 ghost use mathlib.Core.Path.{_≡_};
+ghost use mathlib.Core.Bool.{true};
 ghost use mathlib.Core.List.{[], _∷_};
 ghost use lib.ListN.{length, take};
 ghost use Rattle.cut.specs.Bytes.{part};
 ghost use Rattle.guide.specs.Views.{viewOf};
-ghost use Rattle.judge.specs.Words.{packed, wordOf};
+ghost use Rattle.judge.specs.Words.{packed, letters, wordOf};
 
 fn wide(x: u8) -> u32
     ensures { λ r. ⌜ (r ≡ x) × (r < 256) ⌝ }
@@ -55,9 +56,11 @@ pub(crate) fn tag_number(d: &[u8], start: usize, end: usize) -> u32
     pack(d, start, start + 3)
 }
 
-// The word of component 0 of element 1 where two words of eight bytes tell it: the tag has three bytes, and the component at most six, of which
-// none is the release character. 0 where they do not tell it.
+// The word of component 0 of element 1 where eight bytes tell it: the service characters are the usual ones, which no letter of the tag is, and the component has
+// at most six bytes, of which none is the release character. 0 where they do not tell it. Behind the tests the compiler knows the four characters, and
+// what the eight bytes are compared with is constant.
 fn front_key(y: Syntax, d: &[u8], start: usize, end: usize) -> u64
+    requires { ⌜ letters (packed (take 3 (part start end (now d)))) ≡ true ⌝ }
     ensures { λ r. ⌜ ((r ≡ 0 → ⊥) → r ≡ wordOf (viewOf y (part start end (now (d .entry))) .key 1 0)) ⌝ }
 {
     let limit = element::limit_of(d, end);
@@ -67,13 +70,19 @@ fn front_key(y: Syntax, d: &[u8], start: usize, end: usize) -> u64
     if limit - 12 < start {
         return 0;
     }
-    if cut::first_of(element::services_in(y, cut::eight_at(d, start))) != 3 {
+    if y.terminator != 39 {
+        return 0;
+    }
+    if y.element != 43 {
+        return 0;
+    }
+    if y.component != 58 {
+        return 0;
+    }
+    if y.release != 63 {
         return 0;
     }
     if d[start + 3] != y.element {
-        return 0;
-    }
-    if y.terminator == y.element {
         return 0;
     }
     let w = cut::eight_at(d, start + 4);
@@ -88,7 +97,7 @@ fn front_key(y: Syntax, d: &[u8], start: usize, end: usize) -> u64
     (w & (scale - 1)) + scale
 }
 
-// A component of the segment, releases removed; 0 where it is longer than any code.
+// A component of a segment whose tag is letters, releases removed; 0 where it is longer than any code.
 pub(crate) fn key_number(
     y: Syntax,
     d: &[u8],
@@ -97,6 +106,7 @@ pub(crate) fn key_number(
     element: usize,
     component: usize,
 ) -> u64
+    requires { ⌜ letters (packed (take 3 (part start end (now d)))) ≡ true ⌝ }
     ensures { λ r. ⌜ r ≡ wordOf (viewOf y (part start end (now (d .entry))) .key element component) ⌝ }
 {
     if element == 1 {

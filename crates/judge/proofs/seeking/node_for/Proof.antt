@@ -14,6 +14,7 @@ use Rattle.guide.specs.Editions.{guideOf}
 use Rattle.judge.specs.Sets.{Nodes, followersOf, taggedOf}
 use Rattle.judge.proofs.Matches.{chosen-any}
 use Rattle.judge.proofs.Sought.{Sought, sought-out, sought-inside, sought-found}
+use Rattle.judge.proofs.Tagged.{tag-letters}
 use Rattle.judge.proofs.Following.{hasCode, seek-begins, seek-keyed}
 use Rattle.judge.proofs.seeking.node_for.Statement.{statement}
 use Rattle.judge.proofs.seeking.node_for.Tie as tie
@@ -74,7 +75,11 @@ component-of-requires : tie.Need-component-of-requires
 component-of-requires c κs = inside (c .before .before .before)
 
 key-number-requires : tie.Need-key-number-requires
-key-number-requires c κs = search needs
+key-number-requires c κs =
+    let some = c .before .before .before .before .before in
+    let told = some .before in
+    let asked = told .before .before in
+    tag-letters (asked .before .before .args .edition) (told .before .followers .result) _ _ _ (told .tagged .ensures) (asked .tag-number .ensures) (some .if1 .left)
 
 found-by-requires : tie.Need-found-by-requires
 unfolding Nodes

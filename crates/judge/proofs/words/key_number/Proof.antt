@@ -1,11 +1,11 @@
--- `judge::words::key_number` meets its contract: the word that two words tell, or that of the component's place. Assumes nothing.
+-- `judge::words::key_number` meets its contract: the word that eight bytes tell, or that of the component's place. Assumes nothing.
 use borrow.Author.Needs.{needs}
 use Rattle.judge.proofs.Packing.{key-word}
 use Rattle.judge.proofs.words.key_number.Statement.{statement}
 use Rattle.judge.proofs.words.key_number.Tie as tie
 
 front-key-requires : tie.Need-front-key-requires
-front-key-requires c κs = search needs
+front-key-requires c κs = c .before .before .before .pre
 
 returns : tie.Need-returns
 returns c = rw (c .before .before .before .if1 .taken, c .before .before .if2 .taken) (c .before .front-key .ensures (c .if3 .taken))
