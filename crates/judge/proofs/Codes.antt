@@ -12,7 +12,7 @@ use Rattle.cut.specs.Bytes.{part}
 use Rattle.cut.proofs.Parts.{part-none, part-next}
 use Rattle.guide.specs.Nodes.{Guide, node}
 use Rattle.guide.specs.Checks.{every, implies}
-use Rattle.guide.proofs.Basics.{T-true, every-at, implied, and-left, and-right, and-both}
+use Rattle.guide.proofs.Basics.{T-true, every-at, implied, and-left, and-right}
 use Rattle.guide.specs.Pricat.{pricat20d, pricat20c}
 use Rattle.guide.specs.declared.edition.Edition.{Edition}
 use Rattle.guide.specs.declared.edition.Edition.the-variants.{D, C}
@@ -69,24 +69,20 @@ module _ (codes : List ℕ) (key j end : ℕ) where
   unfolding holds
   search-out h = rw (part-none codes j end h)
 
--- all rows that have codes have them in one component
-abbrev oneComponent : Guide → ℕ → ℕ → Bool
-oneComponent g n m =
-    implies (ltb 0 (many g n) && ltb 0 (many g m))
-    (eqb (node g n .selector .element) (node g m .selector .element) && eqb (node g n .selector .component) (node g m .selector .component))
+-- all rows that have codes have them in component 0 of element 1
+abbrev inFront : Guide → ℕ → Bool
+inFront g n = implies (ltb 0 (many g n)) (eqb 1 (node g n .selector .element) && eqb 0 (node g n .selector .component))
 
-one-table : (e : Edition) → T (every (λ n. every (oneComponent (guideOf e) n) (length (guideOf e))) (length (guideOf e)))
+front-table : (e : Edition) → T (every (inFront (guideOf e)) (length (guideOf e)))
 unfolding pricat20d pricat20c every
-one-table D = tt
-one-table C = tt
+front-table D = tt
+front-table C = tt
 
-pub one-component
-    : (e : Edition) (n m : ℕ) → n < length (guideOf e) → m < length (guideOf e) → (many (guideOf e) n ≡ 0 → ⊥) → (many (guideOf e) m ≡ 0 → ⊥)
-    → (node (guideOf e) n .selector .element ≡ node (guideOf e) m .selector .element)
-    × (node (guideOf e) n .selector .component ≡ node (guideOf e) m .selector .component)
-one-component e n m a b p q =
-    let one = every-at (oneComponent (guideOf e) n) (length (guideOf e)) m (every-at (λ x. every (oneComponent (guideOf e) x) (length (guideOf e))) (length (guideOf e)) n (one-table e) a) b in
-    let some = and-both (ltb 0 (many (guideOf e) n)) _ (T-true (lt-ltb 0 (many (guideOf e) n) (omega (arith, p)))) (T-true (lt-ltb 0 (many (guideOf e) m) (omega (arith, q)))) in
-    let k = implied (ltb 0 (many (guideOf e) n) && ltb 0 (many (guideOf e) m)) _ one some in
-    let same = eqb (node (guideOf e) n .selector .element) (node (guideOf e) m .selector .element) in
-    (eqb→eq _ _ (and-left same _ k), eqb→eq _ _ (and-right same _ k))
+pub code-place
+    : (e : Edition) (n : ℕ) → n < length (guideOf e) → (many (guideOf e) n ≡ 0 → ⊥)
+    → (1 ≡ node (guideOf e) n .selector .element) × (0 ≡ node (guideOf e) n .selector .component)
+code-place e n row some =
+    let one = every-at (inFront (guideOf e)) (length (guideOf e)) n (front-table e) row in
+    let k = implied (ltb 0 (many (guideOf e) n)) _ one (T-true (lt-ltb 0 (many (guideOf e) n) (omega (arith, some)))) in
+    let first = eqb 1 (node (guideOf e) n .selector .element) in
+    (eqb→eq _ _ (and-left first _ k), eqb→eq _ _ (and-right first _ k))

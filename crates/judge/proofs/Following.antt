@@ -25,7 +25,7 @@ use Rattle.judge.specs.Rows.{childOf, dueOf}
 use Rattle.judge.specs.Sets.{member, nodesThat, someLevel, followsIn, followersOf, taggedOf, dueAfter, afterWord}
 use Rattle.judge.proofs.Sound.{sound-at}
 use Rattle.judge.proofs.Matches.{chosen-picked, match-tagged}
-use Rattle.judge.proofs.Codes.{one-component}
+use Rattle.judge.proofs.Codes.{code-place}
 use Rattle.judge.proofs.Links.{lowest-none, lowest-like, lowest-is}
 use Rattle.judge.proofs.Levels.{level-nowhere, seek-outside}
 use Rattle.judge.proofs.Members.{member-none, nodes-none, both-fit, both-inside, both-are}
@@ -167,14 +167,12 @@ module _ (e : Edition) (y : Syntax) (d : List ℕ) (start end : ℕ) (bytes : By
   pub seek-begins : Sought (guideOf e) (hasCode e view) (seek (guideOf e) view (levels (guideOf e) (suc last) last 0)) s
   seek-begins = record { fits = both-fit e follows named s both; inside = λ n h. both-inside e follows named s n both h; answer = answer }
 
-  -- what the key finds, which is read where the node `first` has its codes
+  -- what the key finds
   pub seek-keyed
-      : (first element component key r : ℕ) → first < length (guideOf e) → (length (node (guideOf e) first .selector .codes) ≡ 0 → ⊥)
-      → element ≡ node (guideOf e) first .selector .element → component ≡ node (guideOf e) first .selector .component
-      → key ≡ wordOf (viewOf y (part start end d) .key element component)
+      : (key r : ℕ) → key ≡ wordOf (viewOf y (part start end d) .key 1 0)
       → r ≡ firstNode (guideOf e) (λ n. member s n && picks (map packed (node (guideOf e) n .selector .codes)) key)
       → r ≡ seek (guideOf e) (viewOf y (part start end d)) (levels (guideOf e) (suc last) last 0)
-  seek-keyed first element component key r row codes p q read h =
+  seek-keyed key r read h =
       h
       ∙ lowest-like (λ n. member s n && picks (map packed (node (guideOf e) n .selector .codes)) key) (within s coded) 1 (length (guideOf e) - 1)
       (λ n a b. ap (λ (x : Bool). member s n && x) (same n a (omega arith)))
@@ -182,7 +180,5 @@ module _ (e : Edition) (y : Syntax) (d : List ℕ) (start end : ℕ) (bytes : By
     where
       same : (n : ℕ) → 0 < n → n < length (guideOf e) → picks (map packed (node (guideOf e) n .selector .codes)) key ≡ coded n
       same n a b =
-          chosen-picked y d start end bytes (guideOf e) n (sound-at e n a b) element component key (picks (map packed (node (guideOf e) n .selector .codes)) key)
-          (λ some.
-          let one = one-component e first n row b codes some in
-          (p ∙ one .0, q ∙ one .1)) read refl
+          chosen-picked y d start end bytes (guideOf e) n (sound-at e n a b) 1 0 key (picks (map packed (node (guideOf e) n .selector .codes)) key)
+          (code-place e n b) read refl

@@ -7,12 +7,12 @@ use lib.ListN.{length}
 use lib.Dec.{eqb}
 use lib.Bits.{bitAnd}
 use lib.Count.{trailingZeros}
-use borrow.Author.Tests.{eqb-true}
+use borrow.Author.Tests.{eqb-true, lt-ltb}
 use Rattle.guide.specs.Nodes.{Guide}
 use Rattle.guide.specs.Placing.{firstNode}
-use Rattle.judge.specs.Sets.{member}
+use Rattle.judge.specs.Sets.{member, nodesThat}
 use Rattle.judge.proofs.Links.{lowest-none, lowest-like, lowest-is}
-use Rattle.judge.proofs.Members.{member-none, first-member, first-lowest, rest-member, rest-less}
+use Rattle.judge.proofs.Members.{member-none, member-and, nodes-member, first-member, first-lowest, rest-member, rest-less}
 
 -- the nodes of the set s that pass the test
 abbrev pub within : ℕ → (ℕ → Bool) → ℕ → Bool
@@ -42,6 +42,14 @@ module _ {g : Guide} {test : ℕ → Bool} {found s : ℕ} (w : Sought g test fo
         (lowest-is (within s test) 1 (length g - 1) n (omega arith) (omega (arith, sought-inside)) (omega (arith, sought-inside)) (rw (first-in, sym asked, t))
         (λ m a l. rw (first-lowest 32 s m (omega arith))))
         ∙ w .answer
+
+    -- of the nodes that pass another test the set has none
+    pub sought-fails : (other : ℕ → Bool) (t : ℕ) → t ≡ nodesThat g other → bitAnd s t ≡ 0 → other n ≡ false
+    sought-fails other t told none =
+        let same : member t n ≡ other n =
+        rw (told, nodes-member g other n, lt-ltb n (length g) (sought-inside .1), lt-ltb 0 n (sought-inside .0)) in
+        let both : member s n && member t n ≡ false = sym (member-and s t n) ∙ ap (λ (x : ℕ). member x n) none ∙ member-none n in
+        sym same ∙ (rw first-in at both)
 
     module _ (rest : ℕ) (out : rest ≡ bitAnd s (s - 1)) where
       rest-in : (m : ℕ) → member rest m ≡ member s m && not (eqb m n)

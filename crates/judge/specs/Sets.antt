@@ -49,6 +49,10 @@ followersOf g last = nodesThat g (λ n. someLevel (followsIn g n) (levels g (suc
 unfoldable pub taggedOf : Guide → ℕ → ℕ
 taggedOf g tag = nodesThat g (λ n. eqb (packed (node g n .tag)) tag)
 
+-- the nodes that have codes
+unfoldable pub codedOf : Guide → ℕ
+codedOf g = nodesThat g (λ n. ltb 0 (length (node g n .selector .codes)))
+
 -- the nodes that may be missed in an open instance after the node `last`
 unfoldable pub dueAfter : Guide → ℕ → ℕ
 dueAfter g last = nodesThat g (λ m. someLevel (λ l. dueOf g (l .node) m) (levels g (suc last) last 0))

@@ -66,22 +66,6 @@ pub(crate) fn codes_from(edition: Edition, n: usize) -> usize
     (terms(edition, n) / 0x10_0000_0000 % 256) as usize
 }
 
-// The component of the selector, counted from 0.
-pub(crate) fn component_of(edition: Edition, n: usize) -> usize
-    requires { ⌜ n < length (guideOf edition) ⌝ }
-    ensures { λ r. ⌜ r ≡ node (guideOf edition) n .selector .component ⌝ }
-{
-    (terms(edition, n) / 0x4_0000_0000 % 4) as usize
-}
-
-// The element of the selector, counted from 0.
-pub(crate) fn element_of(edition: Edition, n: usize) -> usize
-    requires { ⌜ n < length (guideOf edition) ⌝ }
-    ensures { λ r. ⌜ r ≡ node (guideOf edition) n .selector .element ⌝ }
-{
-    (terms(edition, n) / 0x1_0000_0000 % 4) as usize
-}
-
 // The parent.
 pub(crate) fn parent_of(edition: Edition, n: usize) -> usize
     requires { ⌜ n < length (guideOf edition) ⌝ }

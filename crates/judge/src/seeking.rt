@@ -1,8 +1,6 @@
 // Seeks the node that takes a segment: 13's question.
 use crate::matching::is_chosen;
-use crate::rows::codes_count;
-use crate::rows::component_of;
-use crate::rows::element_of;
+use crate::sets::coded;
 use crate::sets::first_in;
 use crate::sets::followers;
 use crate::sets::without_first;
@@ -40,8 +38,8 @@ fn found_by(edition: Edition, nodes: u32, key: u64) -> usize
 }
 
 // The node that takes the segment after the node `last`, in the innermost open instance that has one; 0 if none has. No two instances have followers
-// of one tag, so of those that have the segment's the lowest that it fits is the one. All codes are looked for in one component,
-// which is read once.
+// of one tag, so of those that have the segment's the lowest that it fits is the one. The component in which all codes are looked for is read once,
+// and where none of them has codes it is not read.
 pub(crate) fn node_for(
     y: Syntax,
     edition: Edition,
@@ -57,12 +55,10 @@ pub(crate) fn node_for(
     if likely == 0 {
         return 0;
     }
-    let first = first_in(likely);
-    if codes_count(edition, first) == 0 {
-        return first;
+    let keyed = likely & coded(edition);
+    if keyed == 0 {
+        return first_in(likely);
     }
-    let element = element_of(edition, first);
-    let component = component_of(edition, first);
-    let key = key_number(y, d, start, end, element, component);
+    let key = key_number(y, d, start, end);
     found_by(edition, likely, key)
 }

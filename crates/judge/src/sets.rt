@@ -8,7 +8,7 @@ ghost use lib.ListN.{length};
 ghost use lib.Bits.{bitAnd};
 ghost use lib.Count.{trailingZeros};
 ghost use Rattle.guide.specs.Editions.{guideOf};
-ghost use Rattle.judge.specs.Sets.{followersOf, dueAfter, precedingOf, childrenOf};
+ghost use Rattle.judge.specs.Sets.{followersOf, dueAfter, codedOf, precedingOf, childrenOf};
 
 // The lowest node of a set that is not empty.
 pub(crate) fn first_in(set: u32) -> usize
@@ -37,6 +37,16 @@ pub(crate) fn due(edition: Edition, last: usize) -> u32
     ensures { λ r. ⌜ r ≡ dueAfter (guideOf edition) last ⌝ }
 {
     (after(edition, last) / 0x1_0000_0000) as u32
+}
+
+// The nodes that have codes.
+pub(crate) fn coded(edition: Edition) -> u32
+    ensures { λ r. ⌜ r ≡ codedOf (guideOf edition) ⌝ }
+{
+    match edition {
+        Edition::D => 0x086087f8,
+        Edition::C => 0x021843f8,
+    }
 }
 
 // The nodes that node n must come behind.

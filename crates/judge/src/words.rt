@@ -97,26 +97,15 @@ fn front_key(y: Syntax, d: &[u8], start: usize, end: usize) -> u64
     (w & (scale - 1)) + scale
 }
 
-// A component of a segment whose tag is letters, releases removed; 0 where it is longer than any code.
-pub(crate) fn key_number(
-    y: Syntax,
-    d: &[u8],
-    start: usize,
-    end: usize,
-    element: usize,
-    component: usize,
-) -> u64
+// Component 0 of element 1, where all codes stand, of a segment whose tag is letters, releases removed; 0 where it is longer than any code.
+pub(crate) fn key_number(y: Syntax, d: &[u8], start: usize, end: usize) -> u64
     requires { ⌜ letters (packed (take 3 (part start end (now d)))) ≡ true ⌝ }
-    ensures { λ r. ⌜ r ≡ wordOf (viewOf y (part start end (now (d .entry))) .key element component) ⌝ }
+    ensures { λ r. ⌜ r ≡ wordOf (viewOf y (part start end (now (d .entry))) .key 1 0) ⌝ }
 {
-    if element == 1 {
-        if component == 0 {
-            let key = front_key(y, d, start, end);
-            if key != 0 {
-                return key;
-            }
-        }
+    let key = front_key(y, d, start, end);
+    if key != 0 {
+        return key;
     }
-    let span = element::component_at(y, d, start, end, element, component);
+    let span = element::component_at(y, d, start, end, 1, 0);
     element::word_of(y, d, span.start, span.end)
 }

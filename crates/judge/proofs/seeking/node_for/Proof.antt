@@ -1,19 +1,21 @@
 -- `judge::seeking::node_for` meets its contract: one law for each return, of the search through the followers that have the segment's tag. Assumes nothing.
-use Prim.Native.Nat.{suc, _<_}
-use mathlib.Core.Path.{_≡_, refl, sym, _∙_, ap₂}
+use Prim.Native.Nat.{suc}
+use mathlib.Core.Path.{_≡_, refl, ap₂}
 use mathlib.Core.Bool.{true}
 use borrow.Author.Needs.{needs}
 use native.Mathlib.Omega.{arith}
 use lib.ListN.{length}
 use lib.Bits.{bitAnd}
+use lib.Dec.{ltb}
+use borrow.Author.Tests.{ltb-false}
 use Rattle.cut.specs.Bytes.{part}
 use Rattle.guide.specs.Nodes.{node}
 use Rattle.guide.specs.Placing.{levels, seek}
 use Rattle.guide.specs.Views.{viewOf}
 use Rattle.guide.specs.Editions.{guideOf}
-use Rattle.judge.specs.Sets.{Nodes, followersOf, taggedOf}
+use Rattle.judge.specs.Sets.{Nodes, followersOf, taggedOf, codedOf}
 use Rattle.judge.proofs.Matches.{chosen-any}
-use Rattle.judge.proofs.Sought.{Sought, sought-out, sought-inside, sought-found}
+use Rattle.judge.proofs.Sought.{Sought, sought-out, sought-fails, sought-found}
 use Rattle.judge.proofs.Tagged.{tag-letters}
 use Rattle.judge.proofs.Following.{hasCode, seek-begins, seek-keyed}
 use Rattle.judge.proofs.seeking.node_for.Statement.{statement}
@@ -38,9 +40,6 @@ begun c =
     let a = asked .before .before .args in
     seek-begins (a .edition) (a .y) (a .d .now) (a .start) (a .end) (λ i. omega (arith, asked .before .shared-slice-known .given i)) _ (asked .tag-number .ensures) (a .last) _ (both c)
 
-inside : (c : tie.After-first-in) → c .first-in .result < length (guideOf (c .before .before .before .before .before .before .args .edition))
-inside c = sought-inside (begun (c .before .before)) (c .before .if1 .left) _ (c .first-in .ensures) .1
-
 tag-number-requires : tie.Need-tag-number-requires
 tag-number-requires c κs = search needs
 
@@ -53,50 +52,42 @@ tagged-requires c κs = search needs
 returns : tie.Need-returns
 returns c = sought-out (begun (c .before)) (c .if1 .taken)
 
+coded-requires : tie.Need-coded-requires
+coded-requires c κs = search needs
+
 first-in-requires : tie.Need-first-in-requires
 first-in-requires c κs = search needs
 
-codes-count-requires : tie.Need-codes-count-requires
-codes-count-requires c κs = inside c
-
 returns-2 : tie.Need-returns-2
+unfolding codedOf
 returns-2 c =
-    let first = c .before .before in
-    let some = first .before in
+    let asked = c .before .before in
+    let some = asked .before in
+    let begins = begun (some .before) in
     let a = some .before .before .before .before .before .args in
-    let codes = node (guideOf (a .edition)) (first .first-in .result) .selector .codes in
-    sought-found (begun (some .before)) (some .if1 .left) _ (first .first-in .ensures) true
-    (chosen-any codes _ (sym (c .before .codes-count .ensures) ∙ c .if2 .taken)) refl
-
-element-of-requires : tie.Need-element-of-requires
-element-of-requires c κs = inside (c .before .before)
-
-component-of-requires : tie.Need-component-of-requires
-component-of-requires c κs = inside (c .before .before .before)
+    let codes = node (guideOf (a .edition)) (c .first-in .result) .selector .codes in
+    let out = sought-fails begins (some .if1 .left) _ (c .first-in .ensures) (λ n. ltb 0 (length (node (guideOf (a .edition)) n .selector .codes))) _ (asked .coded .ensures) (c .before .if2 .taken) in
+    sought-found begins (some .if1 .left) _ (c .first-in .ensures) true (chosen-any codes _ (omega (arith, ltb-false 0 (length codes) out))) refl
 
 key-number-requires : tie.Need-key-number-requires
 key-number-requires c κs =
-    let some = c .before .before .before .before .before in
+    let some = c .before .before in
     let told = some .before in
     let asked = told .before .before in
     tag-letters (asked .before .before .args .edition) (told .before .followers .result) _ _ _ (told .tagged .ensures) (asked .tag-number .ensures) (some .if1 .left)
 
 found-by-requires : tie.Need-found-by-requires
 unfolding Nodes
-found-by-requires c κs = begun (c .before .before .before .before .before .before .before) .inside
+found-by-requires c κs = begun (c .before .before .before .before) .inside
 
 returns-3 : tie.Need-returns-3
 returns-3 c =
     let read = c .before in
-    let second = read .before in
-    let coded = second .before .before in
-    let first = coded .before .before in
-    let told = first .before .before in
+    let told = read .before .before .before .before in
     let asked = told .before .before in
     let a = asked .before .before .args in
     seek-keyed (a .edition) (a .y) (a .d .now) (a .start) (a .end) (λ i. omega (arith, asked .before .shared-slice-known .given i)) _ (asked .tag-number .ensures) (a .last) _ (both told)
-    _ _ _ _ _ (inside first) (λ z. coded .if2 .left (coded .before .codes-count .ensures ∙ z)) (second .before .element-of .ensures) (second .component-of .ensures)
-    (read .key-number .ensures) (c .found-by .ensures)
+    _ _ (read .key-number .ensures) (c .found-by .ensures)
 
 pub node-for-spec : {M : Type 1} → statement M
 node-for-spec =
@@ -106,11 +97,9 @@ node-for-spec =
     followers-requires
     tagged-requires
     returns
+    coded-requires
     first-in-requires
-    codes-count-requires
     returns-2
-    element-of-requires
-    component-of-requires
     key-number-requires
     found-by-requires
     returns-3)

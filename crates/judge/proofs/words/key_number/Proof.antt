@@ -5,10 +5,10 @@ use Rattle.judge.proofs.words.key_number.Statement.{statement}
 use Rattle.judge.proofs.words.key_number.Tie as tie
 
 front-key-requires : tie.Need-front-key-requires
-front-key-requires c κs = c .before .before .before .pre
+front-key-requires c κs = c .before .pre
 
 returns : tie.Need-returns
-returns c = rw (c .before .before .before .if1 .taken, c .before .before .if2 .taken) (c .before .front-key .ensures (c .if3 .taken))
+returns c = c .before .front-key .ensures (c .if1 .taken)
 
 component-at-requires : tie.Need-component-at-requires
 component-at-requires c κs = search needs
