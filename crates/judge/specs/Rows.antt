@@ -38,7 +38,4 @@ termWord g n =
     + 1048576
     * (node g n .parent
     + 4096
-    * (node g n .selector .element
-    + 4
-    * (node g n .selector .component
-    + 4 * (length (codesOf (take n g)) + 256 * (length (node g n .selector .codes) + 16 * (nextDue g n + 256 * firstDue g n))))))
+    * (length (codesOf (take n g)) + 256 * (length (node g n .selector .codes) + 16 * (nextDue g n + 256 * firstDue g n))))

@@ -39,7 +39,7 @@ pub(crate) fn first_due(edition: Edition, n: usize) -> usize
     requires { ⌜ n < length (guideOf edition) ⌝ }
     ensures { λ r. ⌜ r ≡ firstDue (guideOf edition) n ⌝ }
 {
-    (terms(edition, n) / 0x100_0000_0000_0000) as usize
+    (terms(edition, n) / 0x10_0000_0000_0000) as usize
 }
 
 // The next node with the same parent that is required or one of a pair, or 0.
@@ -47,7 +47,7 @@ pub(crate) fn next_due(edition: Edition, n: usize) -> usize
     requires { ⌜ n < length (guideOf edition) ⌝ }
     ensures { λ r. ⌜ r ≡ nextDue (guideOf edition) n ⌝ }
 {
-    (terms(edition, n) / 0x1_0000_0000_0000 % 256) as usize
+    (terms(edition, n) / 0x1000_0000_0000 % 256) as usize
 }
 
 // How many codes the row has.
@@ -55,7 +55,7 @@ pub(crate) fn codes_count(edition: Edition, n: usize) -> usize
     requires { ⌜ n < length (guideOf edition) ⌝ }
     ensures { λ r. ⌜ r ≡ length (node (guideOf edition) n .selector .codes) ⌝ }
 {
-    (terms(edition, n) / 0x1000_0000_0000 % 16) as usize
+    (terms(edition, n) / 0x100_0000_0000 % 16) as usize
 }
 
 // Where the codes of the row begin among all.
@@ -63,7 +63,7 @@ pub(crate) fn codes_from(edition: Edition, n: usize) -> usize
     requires { ⌜ n < length (guideOf edition) ⌝ }
     ensures { λ r. ⌜ r ≡ length (codesOf (take n (guideOf edition))) ⌝ }
 {
-    (terms(edition, n) / 0x10_0000_0000 % 256) as usize
+    (terms(edition, n) / 0x1_0000_0000 % 256) as usize
 }
 
 // The parent.

@@ -16,7 +16,7 @@ terms-requires c κs = search needs
 
 returns : tie.Need-returns
 unfolding pricat20d pricat20c termWord codesOf firstDue nextDue paired lowest
-returns c = digit-at termWord (λ (g : Guide) (n : ℕ). length (node g n .selector .codes)) (λ (x : ℕ). x / 17592186044416 % 16) refl refl (c .before .args .edition) (c .before .args .n) (c .before .pre) _ (c .terms .ensures)
+returns c = digit-at termWord (λ (g : Guide) (n : ℕ). length (node g n .selector .codes)) (λ (x : ℕ). x / 1099511627776 % 16) refl refl (c .before .args .edition) (c .before .args .n) (c .before .pre) _ (c .terms .ensures)
 
 pub codes-count-spec : {M : Type 1} → statement M
 codes-count-spec = tie.close (tie.spec terms-requires returns)

@@ -16,7 +16,7 @@ terms-requires c κs = search needs
 
 returns : tie.Need-returns
 unfolding pricat20d pricat20c termWord codesOf firstDue nextDue paired lowest
-returns c = digit-at termWord (λ (g : Guide) (n : ℕ). length (codesOf (take n g))) (λ (x : ℕ). x / 68719476736 % 256) refl refl (c .before .args .edition) (c .before .args .n) (c .before .pre) _ (c .terms .ensures)
+returns c = digit-at termWord (λ (g : Guide) (n : ℕ). length (codesOf (take n g))) (λ (x : ℕ). x / 4294967296 % 256) refl refl (c .before .args .edition) (c .before .args .n) (c .before .pre) _ (c .terms .ensures)
 
 pub codes-from-spec : {M : Type 1} → statement M
 codes-from-spec = tie.close (tie.spec terms-requires returns)

@@ -15,7 +15,7 @@ terms-requires c κs = search needs
 
 returns : tie.Need-returns
 unfolding pricat20d pricat20c termWord codesOf firstDue nextDue paired lowest
-returns c = digit-at termWord firstDue (λ (x : ℕ). x / 72057594037927936) refl refl (c .before .args .edition) (c .before .args .n) (c .before .pre) _ (c .terms .ensures)
+returns c = digit-at termWord firstDue (λ (x : ℕ). x / 4503599627370496) refl refl (c .before .args .edition) (c .before .args .n) (c .before .pre) _ (c .terms .ensures)
 
 pub first-due-spec : {M : Type 1} → statement M
 first-due-spec = tie.close (tie.spec terms-requires returns)

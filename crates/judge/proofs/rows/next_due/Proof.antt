@@ -15,7 +15,7 @@ terms-requires c κs = search needs
 
 returns : tie.Need-returns
 unfolding pricat20d pricat20c termWord codesOf firstDue nextDue paired lowest
-returns c = digit-at termWord nextDue (λ (x : ℕ). x / 281474976710656 % 256) refl refl (c .before .args .edition) (c .before .args .n) (c .before .pre) _ (c .terms .ensures)
+returns c = digit-at termWord nextDue (λ (x : ℕ). x / 17592186044416 % 256) refl refl (c .before .args .edition) (c .before .args .n) (c .before .pre) _ (c .terms .ensures)
 
 pub next-due-spec : {M : Type 1} → statement M
 next-due-spec = tie.close (tie.spec terms-requires returns)
