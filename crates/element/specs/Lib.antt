@@ -5,4 +5,5 @@ pub mod Clean
 pub mod Elements
 pub mod Services
 pub mod Components
+pub mod Scans
 pub mod Cursors

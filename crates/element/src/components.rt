@@ -1,6 +1,7 @@
 // The part of the delivery that is one component of a segment.
+use crate::ahead::component_on;
+use crate::ahead::untested;
 use crate::limit::limit_of;
-use crate::scan::component_from;
 use cut::Syntax;
 ghost use mathlib.Core.Path.{_≡_};
 ghost use mathlib.Core.Bool.{not, _&&_};
@@ -53,12 +54,13 @@ pub fn component_at(
     }
     let mut e = 0;
     let mut c = 0;
-    let mut i = start;
+    let mut scan = untested(start);
     loop {
-        let stop = component_from(y, d, i, limit).end;
+        let p = component_on(y, d, limit, scan);
+        let stop = p.end;
         if numbered(e, c, element, component) {
             return Span {
-                start: i,
+                start: scan.at,
                 end: stop,
             };
         }
@@ -71,6 +73,6 @@ pub fn component_at(
         } else {
             c += 1;
         }
-        i = stop + 1;
+        scan = p.scan;
     }
 }

@@ -1,5 +1,6 @@
 // Reads what stands in one segment: its bytes and tag, its components, bytes without release marks. Every call answers for any service
 // characters and for any part of a delivery, from one place up to another.
+mod ahead;
 mod clean;
 mod components;
 mod cursor;

@@ -45,15 +45,16 @@ module _ (y : Syntax) (d : List ℕ) (start end element component′ limit : ℕ
         sym (search-out y d start element component′ done (rest-done y d))
         ∙ search-begins y d start element component′ end done (rw (le-ltb _ _ l))
 
-    pub walk-start : start < limit → Walking 0 0 start
+    pub walk-start : start < limit → (i : ℕ) → i ≡ start → Walking 0 0 i
     unfolding opening
-    walk-start h =
+    walk-start h i p =
         let l : start < min end (length d) = omega arith in
-        record {
+        rw p
+        (record {
           within = w;
           stands = record { place = omega arith; element = omega arith; component = omega arith };
           search = search-begins y d start element component′ end (at 0 0 start end) (rw (lt-ltb _ _ l));
-        }
+        })
 
   module _ (e c i : ℕ) (w : Walking e c i) (stop : ℕ) (s : stop ≡ i + length (component y (part i limit d) 0 0)) where
     stopped : Stopped y d (at e c i end) stop limit
@@ -98,27 +99,27 @@ module _ (y : Syntax) (d : List ℕ) (start end element component′ limit : ℕ
             go true p true q g = absurd (false≢true g)
             go true p false q g = (omega arith, ltb-true _ _ p, eqb-false _ _ q)
 
-        -- the numbers of the next component, by the byte before it
-        pub walk-element : (e′ c′ : ℕ) → getD d stop 0 ≡ y .element → e′ ≡ e + 1 → c′ ≡ 0 → Walking e′ c′ (stop + 1)
+        -- the numbers and the place of the next component, by the byte before it
+        pub walk-element : (e′ c′ i′ : ℕ) → getD d stop 0 ≡ y .element → e′ ≡ e + 1 → c′ ≡ 0 → i′ ≡ stop + 1 → Walking e′ c′ i′
         unfolding nextBy
-        walk-element e′ c′ x p q =
+        walk-element e′ c′ i′ x p q r =
             let k = walk-inside in
             let b = w .within in
             let t = w .stands in
-            rw (p, q)
+            rw (p, q, r)
             (record {
               within = w .within;
               stands = record { place = omega arith; element = omega arith; component = omega arith };
               search = on _ (after-element y d (at e c i end) stop limit stopped (k .1) (k .2) x);
             })
 
-        pub walk-component : (e′ c′ : ℕ) → (getD d stop 0 ≡ y .element → ⊥) → e′ ≡ e → c′ ≡ c + 1 → Walking e′ c′ (stop + 1)
+        pub walk-component : (e′ c′ i′ : ℕ) → (getD d stop 0 ≡ y .element → ⊥) → e′ ≡ e → c′ ≡ c + 1 → i′ ≡ stop + 1 → Walking e′ c′ i′
         unfolding nextBy
-        walk-component e′ c′ x p q =
+        walk-component e′ c′ i′ x p q r =
             let k = walk-inside in
             let b = w .within in
             let t = w .stands in
-            rw (p, q)
+            rw (p, q, r)
             (record {
               within = w .within;
               stands = record { place = omega arith; element = omega arith; component = omega arith };
