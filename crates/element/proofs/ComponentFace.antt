@@ -33,9 +33,6 @@ unfoldable pub use Rattle.element.proofs.cursor.Walks.{walk, given}
 pub use Rattle.element.proofs.scan.Extents.{extent-ended, extent-length}
 -- it ends at the first service character, where this stands in the part and is not the release character
 pub use Rattle.element.proofs.scan.Extents.{extent-stop}
--- where it is the release character, what is left of the component stands from there on
-pub use Rattle.element.proofs.scan.Extents.{Reached, reached-service}
-pub use Rattle.element.proofs.scan.Scanning.{first-component}
 pub use Rattle.element.proofs.scan.Stopping.{from, Ended}
 pub use Rattle.element.proofs.scan.Splits.{Last, Stop}
 -- what a byte ends, by the tests on it

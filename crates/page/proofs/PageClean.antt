@@ -1,7 +1,7 @@
 -- A component of allowed bytes, by its marks: it ends no segment and goes on behind a release mark and the byte that this releases.
 use Prim.Native.Nat.{ℕ, _+_, _-_, _≤_, _<_}
 use mathlib.Core.Path.{_≡_, refl, sym, _∙_}
-use mathlib.Core.Bool.{Bool, true, false, not, false≢true, or-true}
+use mathlib.Core.Bool.{Bool, true, false, not, or-true}
 use mathlib.Core.List.{List}
 use native.Mathlib.Omega.{arith}
 use lib.ListN.{length, getD}
@@ -12,20 +12,15 @@ use Rattle.cut.specs.declared.service.Syntax.{Syntax}
 use Rattle.cut.proofs.Carrying.{carries-on, carries-run, carries-released}
 use Rattle.element.specs.Clean.{between, allowedByte}
 use Rattle.element.specs.Elements.{endingOf, stays, releases}
+use Rattle.element.specs.Scans.{Foremost}
 use Rattle.element.specs.Services.{isService, isMark, plainServices, Service}
-use Rattle.element.proofs.MarkFace.{allowed-each, services-plain, plain-allowed, text-allowed, mark-not, plain-stays, plain-no-mark}
+use Rattle.element.proofs.MarkFace.{allowed-each, services-plain, plain-allowed, text-allowed, mark-not, mark-both, plain-stays, plain-no-mark, stays-inside}
 use Rattle.page.specs.Marks.{MarkScanned, MarkSought, CleanAhead}
-use Rattle.page.specs.Scans.{Foremost}
 use Rattle.page.specs.declared.scan.Scan.{Scan}
-use Rattle.page.proofs.PageMarks.{Past, past-first, past-found, past-mark, mark-both}
+use Rattle.page.proofs.PageMarks.{Past, past-first, past-found, past-mark}
 use Rattle.page.proofs.PageScans.{scan-begins}
 
 -- ---- one byte
-
--- a byte that stays in its component ends no segment
-stays-inside : (y : Syntax) (x : ℕ) → stays (endingOf y false x) ≡ true → x ≡ y .terminator → ⊥
-unfolding stays endingOf
-stays-inside y x h e = false≢true (rw (eq-eqb x (y .terminator) e) at h)
 
 release-serves : (y : Syntax) (x : ℕ) → x ≡ y .release → isService y x ≡ true
 unfolding isService

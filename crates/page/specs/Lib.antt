@@ -3,7 +3,6 @@ pub mod PageWords
 pub mod PageKeys
 pub mod PageWalk
 pub mod Examined
-pub mod Scans
 pub mod PagePlaces
 pub mod Marks
 pub mod Quick

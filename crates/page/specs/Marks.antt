@@ -10,8 +10,8 @@ use Rattle.cut.specs.Carrying.{Carries}
 use Rattle.cut.specs.declared.service.Syntax.{Syntax}
 use Rattle.element.specs.Clean.{allowedBytes}
 use Rattle.element.specs.Components.{extentOf}
+use Rattle.element.specs.Scans.{Tested, Foremost}
 use Rattle.element.specs.Services.{isService, isMark}
-use Rattle.page.specs.Scans.{Tested, Foremost}
 use Rattle.page.specs.declared.scan.Ahead.{Ahead}
 use Rattle.page.specs.declared.scan.Scan.{Scan}
 

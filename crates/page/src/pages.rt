@@ -1,4 +1,4 @@
-// The first fault of a segment against its page, in one pass over its components from left to right. The pass keeps plain numbers: the scan before the
+// The first fault of a segment against its page, in one pass over its components from left to right. The pass keeps plain numbers: the place of the
 // component that comes next, its element's number, its own, the word of its element, and the mood: 0 idle, 1 asking, 2 owing, 3 in the tag, of which nothing is
 // asked; and the places of two components.
 use crate::formed::is_must;
@@ -9,9 +9,8 @@ use crate::places::places_on;
 use crate::places::told;
 use crate::rows::element_behind;
 use crate::rows::row_at;
-use crate::scan::component_on;
-use crate::scan::untested;
 use cut::Syntax;
+use element::component_from;
 ghost use Prim.Native.Nat.{_+_, _^_, _≤_, _<_};
 ghost use mathlib.Core.Path.{_≡_};
 ghost use lib.ListN.{length, drop};
@@ -112,15 +111,14 @@ pub(crate) fn pass(y: Syntax, d: &[u8], start: usize, limit: usize, page: usize)
     requires { ⌜ (start < limit) × (limit ≤ length (now d)) × NodeWord page (pageIn page) ⌝ }
     ensures { λ r. ⌜ r ≡ examinedOf y (pageIn page) (now (d .entry)) start limit ⌝ }
 {
-    let mut scan = untested(start);
+    let mut a = start;
     let mut places = nowhere(start);
     let mut e = 0;
     let mut c = 0;
     let mut word = 0;
     let mut mood = 3;
     loop {
-        let a = scan.at;
-        let p = component_on(y, d, limit, scan);
+        let p = component_from(y, d, a, limit);
         let row = row_at(word, c);
         let fault = known_fault(y, d, a, p.end, p.length, row, mood);
         if 0 < fault {
@@ -128,7 +126,7 @@ pub(crate) fn pass(y: Syntax, d: &[u8], start: usize, limit: usize, page: usize)
         }
         places = places_on(e, c, a, p.end, places);
         mood = mood_after(p.length, row, mood);
-        scan = p.scan;
+        a = p.end + 1;
         let stop = stop_at(y, d, p.end, limit);
         if stop == 2 {
             c += 1;
