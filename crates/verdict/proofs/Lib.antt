@@ -6,6 +6,7 @@ pub mod Noting
 pub mod TagGiven
 pub mod Answering
 pub mod NodeSought
+pub mod Until
 pub mod Ends
 pub mod Upcoming
 pub mod Judging

@@ -3,3 +3,4 @@ pub mod Answers
 pub mod Workers
 pub mod Moves
 pub mod Named
+pub mod Until
