@@ -1,17 +1,18 @@
 -- The end of a message whose segments have no fault: 24, 23 or accepted.
 use Prim.Native.Nat.{ℕ, suc, _+_, _-_, _^_, _≤_, _<_}
-use mathlib.Core.Path.{_≡_, refl, sym, _∙_, ap}
+use mathlib.Core.Path.{_≡_, refl, sym, _∙_, ap, subst}
 use mathlib.Core.Bool.{Bool, true, false}
 use mathlib.Core.List.{List}
 use native.Mathlib.Omega.{arith}
-use lib.ListN.{length, take, drop}
+use lib.ListN.{length}
 use Rattle.cut.specs.declared.service.Syntax.{Syntax}
 use Rattle.cut.specs.Bytes.{bytesOf, part}
 use Rattle.cut.specs.Segments.{Segment, segmentsFrom, segmentsAt}
-use Rattle.cut.specs.Held.{unless}
+use Rattle.cut.specs.Held.{unless, held}
 use Rattle.cut.specs.Messages.{lastEnd}
-use Rattle.element.proofs.Limits.{part-out, part-front}
-use Rattle.guide.specs.Editions.{guideOf}
+use Rattle.cut.proofs.Starts.{Rising, segments-rising}
+use Rattle.guide.specs.Editions.{guideOf, pagesOf}
+use Rattle.guide.specs.Judging.{accepts, refuses, pickVerdict, fresh}
 use Rattle.guide.specs.declared.edition.Edition.{Edition}
 use Rattle.guide.specs.Sheet.{isTag}
 use Rattle.agree.specs.AgreePositions.{positionsOf, firstAgreeing}
@@ -24,17 +25,41 @@ use Rattle.verdict.specs.declared.kept.Kept.{Kept}
 use Rattle.verdict.specs.declared.message.Walked.{Walked}
 use Rattle.verdict.specs.declared.message.Walked.the-variants as walked
 use Rattle.verdict.specs.Answers.{declared, judgedAs}
+use Rattle.verdict.specs.Until.{judgeUntil}
 use Rattle.verdict.specs.Verdicts.{nodeOf, unlessAgreeing}
-use Rattle.verdict.specs.Workers.{NoneAgrees, agreementAt, endedWith, closedBy, Closable}
+use Rattle.verdict.specs.Workers.{NoneAgrees, agreementAt, endedWith, closedBy, fitted, toldBy, Through, Closable}
+use Rattle.verdict.proofs.Until.{until-agrees}
 
 module _ (ed : Edition) (y : Syntax) (d : List ℕ) (start n at : ℕ) where
   abbrev ss : List Segment
   ss = segmentsFrom y start false (part start at d)
 
   module _ (a : Agreeing) (is : a ≡ firstAgreeing y (positionsOf ss)) where
-    pub agrees : (i p : ℕ) → a ≡ At i p → (m : ℕ) → m ≡ nodeOf y (guideOf ed) ss i → Refused 23 i p m ≡ declared (agreementAt ed y d start n at)
-    unfolding agreementAt unlessAgreeing
-    agrees i p h m k = rw (sym is ∙ h, k)
+    -- a position agrees with an earlier one, and w is the walk up to it
+    module _ (through : Through ed y d start at (accepts n at)) (i p : ℕ) (found : a ≡ At i p) (w : Walked)
+        (told : toldBy ed w ≡ declared (judgeUntil y (guideOf ed) (pagesOf ed) p 0 start fresh (held (segmentsAt y d start)))) where
+      named : firstAgreeing y (positionsOf (held (segmentsAt y d start))) ≡ At i p
+      named = rw (← through .0) (sym is ∙ found)
+
+      tells : toldBy ed w ≡ Refused 23 i p (nodeOf y (guideOf ed) (held (segmentsAt y d start)) i)
+      tells =
+          told
+          ∙ ap declared (until-agrees y (guideOf ed) (pagesOf ed) (held (segmentsAt y d start)) n at start start i p (subst (Rising start) (through .0) (segments-rising y start false (part start at d))) (through .1) named)
+
+      agreement-told : Refused 23 i p (nodeOf y (guideOf ed) (held (segmentsAt y d start)) i) ≡ declared (agreementAt ed y d start n at)
+      unfolding agreementAt unlessAgreeing
+      agreement-told = rw (through .0, named)
+
+      pub agrees : (o : Judged) → w ≡ walked.Refused o → o .verdict ≡ declared (agreementAt ed y d start n at)
+      agrees o h = sym (ap (toldBy ed) h) ∙ tells ∙ agreement-told
+
+      -- the walk does not come to the message's end
+      pub not-through : (k : Kept) (m e : ℕ) → w ≡ walked.Fits k m e → ⊥
+      not-through k m e h = go (isTag (guideOf ed) (bytesOf "UNT") (k .last)) (sym (ap (toldBy ed) h) ∙ tells)
+        where
+          go : (b : Bool) → declared (pickVerdict b (accepts m e) (refuses 24 (suc m) e 0)) ≡ Refused 23 i p (nodeOf y (guideOf ed) (held (segmentsAt y d start)) i) → ⊥
+          go true x = let z : _≡_ {A = ℕ} 0 1 = cc in omega arith
+          go false x = let z : _≡_ {A = ℕ} 24 23 = cc in omega arith
 
     pub none-agrees : a ≡ Nothing → Accepted n at ≡ declared (agreementAt ed y d start n at)
     unfolding agreementAt unlessAgreeing
@@ -43,6 +68,9 @@ module _ (ed : Edition) (y : Syntax) (d : List ℕ) (start n at : ℕ) where
   module _ (kept : Kept) (u : Bool) (unt : u ≡ isTag (guideOf ed) (bytesOf "UNT") (kept .last)) where
     abbrev Ended : Verdict → Type 0
     Ended r = r ≡ declared (endedWith ed y d start kept n at)
+
+    pub through-ended : u ≡ true → Through ed y d start at (fitted ed kept n at) → Through ed y d start at (accepts n at)
+    through-ended h t = (t .0, (rw (← unt, h) at (t .1)))
 
     pub no-end : u ≡ false → Ended (Refused 24 (n + 1) at 0)
     unfolding endedWith
@@ -62,17 +90,6 @@ module _ (ed : Edition) (y : Syntax) (d : List ℕ) (start n at : ℕ) where
       -- no article may have come twice
       pub undoubted : kept .intervals ≡ false → NoneAgrees y d start at → Ended (Accepted n at)
       undoubted h z = compared h (Accepted n at) (none-agrees _ refl z)
-
--- the node of a segment of a part, from all segments from its start on
-module _ (ed : Edition) (y : Syntax) (d : List ℕ) (start end i r : ℕ) where
-  abbrev InPart : Type 0
-  InPart = r ≡ nodeOf y (guideOf ed) (segmentsFrom y start false (part start end d)) i
-
-  pub node-all : length d ≤ end → r ≡ nodeOf y (guideOf ed) (segmentsAt y d start) i → InPart
-  node-all h a = rw (part-out d start end h) a
-
-  pub node-front : end ≤ length d → r ≡ nodeOf y (guideOf ed) (segmentsAt y (take (end - 0) (drop 0 d)) start) i → InPart
-  node-front h a = rw (← part-front d start end h) a
 
 -- where the message ends of which a segment ends at e
 module _ (e : ℕ) (b : Bool) (ss : List Segment) where
@@ -95,6 +112,6 @@ module _ (ed : Edition) (y : Syntax) (d : List ℕ) (start : ℕ) (w : Walked) (
 
 -- where all segments fit, their end may be judged
 pub can-end
-    : (y : Syntax) (d : List ℕ) (start : ℕ) (w : Walked) → Closable y d start w → (k : Kept) (n at : ℕ) → w ≡ walked.Fits k n at
-    → (suc n < 2 ^ 64) × (k .doubt ≡ false → NoneAgrees y d start at)
-can-end y d start w h k n at e = rw e at h
+    : (ed : Edition) (y : Syntax) (d : List ℕ) (start : ℕ) (w : Walked) → Closable ed y d start w → (k : Kept) (n at : ℕ) → w ≡ walked.Fits k n at
+    → (suc n < 2 ^ 64) × ((k .doubt ≡ false → NoneAgrees y d start at) × Through ed y d start at (fitted ed k n at))
+can-end ed y d start w h k n at e = rw e at h

@@ -4,13 +4,15 @@ use mathlib.Core.Path.{_≡_, refl, sym, _∙_, ap, ap₂, subst}
 use mathlib.Core.Bool.{Bool, true, false, _||_}
 use mathlib.Core.List.{List, [], _∷_, map}
 use native.Mathlib.Omega.{arith}
+use lib.Dec.{eqb}
 use lib.ListN.{length, replicate, length-replicate}
+use borrow.Author.Tests.{eq-eqb, ne-eqb}
 use Rattle.cut.specs.declared.scan.Cut.the-variants as cut
 use Rattle.cut.specs.declared.service.Syntax.{Syntax}
 use Rattle.cut.specs.Bytes.{bytesOf, begins, part}
 use Rattle.cut.specs.Calls.{segmentAt}
 use Rattle.cut.specs.Segments.{Segment, endOf, segmentsFrom, segmentsAt}
-use Rattle.cut.specs.Held.{unless, held}
+use Rattle.cut.specs.Held.{unless, held, members}
 use Rattle.cut.specs.Messages.{lastEnd}
 use Rattle.cut.proofs.First.{Cutting, cutting}
 use Rattle.cut.proofs.Holding.{held-alone}
@@ -19,7 +21,7 @@ use Rattle.element.proofs.ComponentFace.{decoded-none}
 use Rattle.guide.specs.Accepted.{seen}
 use Rattle.guide.specs.Answers.{Answer, placed, refused}
 use Rattle.guide.specs.Content.{text}
-use Rattle.guide.specs.Judging.{Memory, accepts, refuses, pickVerdict, fresh, bytesFault, thenContent, segmentAnswer, remember, decide, judgeFrom}
+use Rattle.guide.specs.Judging.{Memory, Verdict, accepts, refuses, pickVerdict, fresh, bytesFault, thenContent, segmentAnswer, remember, decide, judgeFrom}
 use Rattle.guide.specs.Placing.{countsAfter, lastAfter, place, given}
 use Rattle.guide.specs.Nodes.{numberOf}
 use Rattle.guide.specs.Editions.{guideOf, pagesOf}
@@ -36,13 +38,15 @@ use Rattle.verdict.specs.declared.answers.Judged.{Judged}
 use Rattle.verdict.specs.declared.answers.Verdict.{Verdict as Told}
 use Rattle.verdict.specs.declared.answers.Verdict.the-variants.{Refused}
 use Rattle.verdict.specs.declared.kept.Kept.{Kept}
+use Rattle.verdict.specs.declared.message.Walked.{Walked}
 use Rattle.verdict.specs.declared.message.Walked.the-variants as walked
 use Rattle.verdict.specs.declared.segment.Answered.{Answered}
 use Rattle.verdict.specs.declared.segment.Answered.the-variants as outcome
 use Rattle.verdict.specs.declared.segment.Found.{Found}
 use Rattle.verdict.specs.Answers.{declared, judgedAs}
+use Rattle.verdict.specs.Until.{decideUntil, judgeUntil}
 use Rattle.verdict.specs.Verdicts.{nodesOf, forIntervals, settled, verdictFrom}
-use Rattle.verdict.specs.Workers.{spanned, noted, isLin, foundAt, answered, cutAnswer, placedAnswer, CountedOn, keptFirst, printAt, doubtAfter, cameAfter, keptAfter, NoneAgrees, agreementAt, endedWith, closedBy, Closable}
+use Rattle.verdict.specs.Workers.{spanned, noted, isLin, foundAt, answered, cutAnswer, placedAnswer, CountedOn, keptFirst, printAt, doubtAfter, cameAfter, keptAfter, NoneAgrees, agreementAt, endedWith, closedBy, fitted, toldBy, Closable}
 use Rattle.verdict.proofs.Answering.{answered-refused, answered-fits, then-placed, place-placed}
 use Rattle.verdict.proofs.Noting.{still-apart}
 use Rattle.verdict.proofs.Remembering.{KeptAfter, kept-after}
@@ -73,7 +77,7 @@ module _ (ed : Edition) (y : Syntax) (i : ℕ) (m : Memory) (s : Segment) where
       let a = place-placed ed y (bytesFault y (guideOf ed) (pagesOf ed) s) (thenContent y (guideOf ed) (pagesOf ed) i m s sought) n h in
       (a .0, then-placed ed y i m s sought n (a .1))
 
-module _ (ed : Edition) (y : Syntax) (d : List ℕ) (start : ℕ) where
+module _ (ed : Edition) (y : Syntax) (d : List ℕ) (start stop : ℕ) where
   -- the message's segments
   abbrev all : List Segment
   all = held (segmentsAt y d start)
@@ -82,9 +86,22 @@ module _ (ed : Edition) (y : Syntax) (d : List ℕ) (start : ℕ) where
   abbrev aheadFor : List Segment → Kept → List ℕ → Bool
   aheadFor ss k cs = forIntervals y (guideOf ed) (given (guideOf ed) (map (seen y) ss) (record { last = k .last; counts = cs })) ss
 
-  -- n segments have been judged without a fault, up to the place `at`, ss are the message's others, and t is the table of the articles that came
+  -- what the walk that ends at `stop` tells
+  abbrev untilStop : Verdict
+  untilStop = judgeUntil y (guideOf ed) (pagesOf ed) stop 0 start fresh all
+
+  -- what the walk w promises; z are the service characters
+  abbrev Promised : Walked → Syntax → Type 0
+  Promised w z =
+      (length d ≤ stop
+      → closedBy ed z d start w ≡ judgedAs (declared (verdictFrom z (guideOf ed) (pagesOf ed) start (held (segmentsAt z d start)))) (lastEnd start (held (segmentsAt z d start))))
+      × (Closable ed z d start w × (toldBy ed w ≡ declared (judgeUntil z (guideOf ed) (pagesOf ed) stop 0 start fresh (held (segmentsAt z d start)))))
+
+  -- n segments have been judged without a fault, up to the place `at`, ss are the message's others, and t is the table of the articles that came; none of
+  -- those judged begins at `stop`
   pub record Passed (ss : List Segment) (cs t : List ℕ) (k : Kept) (at n : ℕ) : Type 0 where
     pub judged : judgeFrom y (guideOf ed) (pagesOf ed) n at (noted y k cs d) ss ≡ judgeFrom y (guideOf ed) (pagesOf ed) 0 start fresh all
+    pub until : judgeUntil y (guideOf ed) (pagesOf ed) stop n at (noted y k cs d) ss ≡ untilStop
     pub document : k .intervals || aheadFor ss k cs ≡ forIntervals y (guideOf ed) (nodesOf y (guideOf ed) all) all
     pub apart : k .doubt ≡ false → apartIn t (articlesIn y ss) ≡ true → firstAgreeing y (positionsOf all) ≡ Nothing
     pub closes : lastEnd at ss ≡ lastEnd start all
@@ -97,6 +114,7 @@ module _ (ed : Edition) (y : Syntax) (d : List ℕ) (start : ℕ) where
   first-passed =
       record {
         judged = rw (decoded-none y d start start (omega arith));
+        until = rw (decoded-none y d start start (omega arith));
         document = refl;
         apart = λ e h. articles-apart y (replicate 8192 0) all (length-replicate {A = ℕ} 8192 0) h;
         closes = refl;
@@ -111,9 +129,13 @@ module _ (ed : Edition) (y : Syntax) (d : List ℕ) (start : ℕ) where
   module _ (ss : List Segment) (cs t : List ℕ) (k : Kept) (at n : ℕ) (p : Passed ss cs t k at n) where
     -- no segment is left
     module _ (none : ss ≡ []) where
-      is-judged : judgeFrom y (guideOf ed) (pagesOf ed) 0 start fresh all ≡ pickVerdict (isTag (guideOf ed) (bytesOf "UNT") (k .last)) (accepts n at) (refuses 24 (suc n) at 0)
+      is-judged : judgeFrom y (guideOf ed) (pagesOf ed) 0 start fresh all ≡ fitted ed k n at
       unfolding judgeFrom
       is-judged = sym (p .judged) ∙ rw none
+
+      is-until : untilStop ≡ fitted ed k n at
+      unfolding judgeUntil
+      is-until = sym (p .until) ∙ rw none
 
       is-document : forIntervals y (guideOf ed) (nodesOf y (guideOf ed) all) all ≡ k .intervals
       unfolding given forIntervals
@@ -143,11 +165,9 @@ module _ (ed : Edition) (y : Syntax) (d : List ℕ) (start : ℕ) where
           go false = refl
 
       -- what the walk promises where all segments fit
-      pub all-fit
-          : suc n < 2 ^ 64
-          → (closedBy ed y d start (walked.Fits k n at) ≡ judgedAs (declared (verdictFrom y (guideOf ed) (pagesOf ed) start all)) (lastEnd start all))
-          × Closable y d start (walked.Fits k n at)
-      all-fit h = (ap₂ judgedAs (ap declared is-ended) is-end, (h, none-agree))
+      pub all-fit : suc n < 2 ^ 64 → (z : Syntax) → y ≡ z → Promised (walked.Fits k n at) z
+      all-fit h z same =
+          subst (Promised (walked.Fits k n at)) same (λ far. ap₂ judgedAs (ap declared is-ended) is-end, ((h, (none-agree, (alone, is-judged))), ap declared (sym is-until)))
 
     -- the next segment, and the message's others after it, which its end tells
     module _ (s e : ℕ) (piece : Bool) (cuts : segmentAt y d at ≡ cut.Segment s e piece)
@@ -167,6 +187,13 @@ module _ (ed : Edition) (y : Syntax) (d : List ℕ) (start : ℕ) where
           ≡ judgeFrom y (guideOf ed) (pagesOf ed) 0 start fresh all
       unfolding judgeFrom
       judged-here = rw next at (p .judged)
+
+      until-here
+          : decideUntil y (guideOf ed) (pagesOf ed) stop (eqb at stop) (suc n) at answer
+          (judgeUntil y (guideOf ed) (pagesOf ed) stop (suc n) (endOf here) (remember y (guideOf ed) (pagesOf ed) answer here (noted y k cs d)) (rest e))
+          ≡ untilStop
+      unfolding judgeUntil
+      until-here = rw next at (p .until)
 
       ends : endOf here ≡ e
       ends =
@@ -194,13 +221,28 @@ module _ (ed : Edition) (y : Syntax) (d : List ℕ) (start : ℕ) where
 
         pub passed-refused
             : (j m t : ℕ) → r ≡ outcome.Refused j m t → (v : Told) → v ≡ Refused j (n + 1) at (numberOf (guideOf ed) m) → (c : ℕ) → c ≡ lastEnd t (rest t) → (o : Judged)
-            → o ≡ judgedAs v c → o ≡ judgedAs (declared (verdictFrom y (guideOf ed) (pagesOf ed) start all)) (lastEnd start all)
-        passed-refused j m t h v u c l o g =
+            → o ≡ judgedAs v c → (z : Syntax) → y ≡ z → Promised (walked.Refused o) z
+        passed-refused j m t h v u c l o g z same =
             let a = answered-refused ed y d at e answer j m t (sym is-answer ∙ h) in
-            g ∙ ap₂ judgedAs (u ∙ is-refused j m (a .0)) (l ∙ ap (λ (x : ℕ). lastEnd x (rest x)) (sym (a .1)) ∙ more-closes)
+            let i : n + 1 ≡ suc n = omega arith in
+            subst (Promised (walked.Refused o)) same (
+              λ far. g ∙ ap₂ judgedAs (u ∙ is-refused j m (a .0)) (l ∙ ap (λ (x : ℕ). lastEnd x (rest x)) (sym (a .1)) ∙ more-closes),
+              (tt, ap (λ (x : Judged). x .verdict) g ∙ u ∙ rw (← until-here, a .0, i)),
+            )
+
+        -- the walk ends at this one, which fits
+        pub passed-stopped
+            : (f : Found) (u : ℕ) → r ≡ outcome.Fits f u → at ≡ stop → (w : Walked) → w ≡ walked.Refused (judgedAs (Refused 23 (n + 1) at (f .node)) u)
+            → (z : Syntax) → y ≡ z → Promised w z
+        passed-stopped f u h b w g z same =
+            let a = answered-fits ed y d at e answer f u (sym is-answer ∙ h) in
+            let i : n + 1 ≡ suc n = omega arith in
+            let some = q .some in
+            let fits = q .fits in
+            subst (Promised w) same (rw g (λ far. absurd (omega (arith, b)), (tt, rw (← until-here, a .0, eq-eqb at stop b, i))))
 
         module _ (f : Found) (u : ℕ) (taken : r ≡ outcome.Fits f u) (cs′ t′ : List ℕ) (k′ : Kept) (keeps : k′ ≡ keptAfter y d t f k) (notes : t′ ≡ cameAfter y d t f k)
-            (left : CountedOn ed r cs cs′) where
+            (left : CountedOn ed r cs cs′) (goes : at ≡ stop → ⊥) where
           abbrev m : ℕ
           m = f .node
 
@@ -226,6 +268,11 @@ module _ (ed : Edition) (y : Syntax) (d : List ℕ) (start : ℕ) where
           more-judged : judgeFrom y (guideOf ed) (pagesOf ed) (suc n) e (noted y k′ cs′ d) (rest e) ≡ judgeFrom y (guideOf ed) (pagesOf ed) 0 start fresh all
           more-judged =
               ap₂ (λ (a : ℕ) (v : Memory). judgeFrom y (guideOf ed) (pagesOf ed) (suc n) a v (rest e)) (sym ends) (sym is-kept) ∙ (rw is-placed at judged-here)
+
+          more-until : judgeUntil y (guideOf ed) (pagesOf ed) stop (suc n) e (noted y k′ cs′ d) (rest e) ≡ untilStop
+          more-until =
+              ap₂ (λ (a : ℕ) (v : Memory). judgeUntil y (guideOf ed) (pagesOf ed) stop (suc n) a v (rest e)) (sym ends) (sym is-kept)
+              ∙ (rw (is-placed, ne-eqb at stop goes) at until-here)
 
           more-document : k′ .intervals || aheadFor (rest e) k′ cs′ ≡ forIntervals y (guideOf ed) (nodesOf y (guideOf ed) all) all
           unfolding lastAfter given forIntervals
@@ -257,6 +304,7 @@ module _ (ed : Edition) (y : Syntax) (d : List ℕ) (start : ℕ) where
               let o = one-few (isTag (guideOf ed) (bytesOf "LIN") m) in
               record {
                 judged = rw z more-judged;
+                until = rw z more-until;
                 document = more-document;
                 apart = more-apart;
                 closes = more-closes;
@@ -274,10 +322,18 @@ module _ (ed : Edition) (y : Syntax) (d : List ℕ) (start : ℕ) where
               (subst (λ (x : ℕ). Passed (rest x) cs′ t′ k′ x (n + 1)) z passed-here, omega arith, omega arith)
 
 -- a message whose UNT has been judged has no other segment; any other goes on with what its body takes
-module _ (ed : Edition) (y : Syntax) (d : List ℕ) (start : ℕ) (l : Bool) (ss : List Segment) (cs t : List ℕ) (k : Kept) (at n : ℕ)
-    (p : Passed ed y d start (unless l ss) cs t k at n) where
+module _ (ed : Edition) (y : Syntax) (d : List ℕ) (start stop : ℕ) (l : Bool) (ss : List Segment) (cs t : List ℕ) (k : Kept) (at n : ℕ)
+    (p : Passed ed y d start stop (unless l ss) cs t k at n) where
   pub none-left : l ≡ true → unless l ss ≡ []
   none-left h = rw h
 
-  pub passed-more : l ≡ false → Passed ed y d start ss cs t k at n
+  pub passed-more : l ≡ false → Passed ed y d start stop ss cs t k at n
   passed-more h = rw h at p
+
+-- what has been passed, for service characters that are the same
+pub passed-as
+    : (ed : Edition) (y : Syntax) (d : List ℕ) (start stop : ℕ) (b : Bool) (cs t : List ℕ) (k : Kept) (at n : ℕ)
+    → Passed ed y d start stop (members b (segmentsAt y d at)) cs t k at n → (z : Syntax) → y ≡ z
+    → Passed ed z d start stop (members b (segmentsAt z d at)) cs t k at n
+passed-as ed y d start stop b cs t k at n p z same =
+    subst (λ (x : Syntax). Passed ed x d start stop (members b (segmentsAt x d at)) cs t k at n) same p

@@ -5,7 +5,6 @@ pub mod Remembering
 pub mod Noting
 pub mod TagGiven
 pub mod Answering
-pub mod NodeSought
 pub mod Until
 pub mod Ends
 pub mod Upcoming

@@ -15,8 +15,7 @@ use Rattle.guide.specs.Sheet.{isTag}
 module _ (y : Syntax) (g : Guide) (pages : ℕ → Page) (stop : ℕ) where
   -- segment i at a place got the answer; b: the walk ends at it; the rest is what comes of those after it
   abbrev pub decideUntil : Bool → ℕ → ℕ → Answer → Verdict → Verdict
-  decideUntil true i p (placed n) rest = refuses 23 i p n
-  decideUntil false i p (placed n) rest = rest
+  decideUntil b i p (placed n) rest = pickVerdict b (refuses 23 i p n) rest
   decideUntil b i p (refused k n) rest = refuses k i p (numberOf g n)
 
   -- the segments after the first i, which end at e, up to the one that begins at `stop`

@@ -7,13 +7,14 @@ use Rattle.cut.specs.declared.scan.Cut.{Cut}
 use Rattle.cut.specs.declared.scan.Cut.the-variants as cut
 use Rattle.cut.specs.declared.service.Syntax.{Syntax}
 use Rattle.cut.specs.Bytes.{bytesOf, part}
-use Rattle.cut.specs.Segments.{Segment, segmentsFrom}
+use Rattle.cut.specs.Held.{held}
+use Rattle.cut.specs.Segments.{Segment, segmentsFrom, segmentsAt}
 use Rattle.element.specs.Components.{componentAt}
 use Rattle.element.specs.Plain.{decoded, same}
 use Rattle.element.specs.declared.components.Span.{Span}
 use Rattle.guide.specs.Answers.{Answer, placed, refused}
 use Rattle.guide.specs.Choices.{pickℕ}
-use Rattle.guide.specs.Judging.{Memory, Verdict, accepts, refuses, pickVerdict, bytesFault, endFault, lineFault, thenContent, thenPlace}
+use Rattle.guide.specs.Judging.{Memory, Verdict, accepts, refuses, pickVerdict, bytesFault, endFault, lineFault, thenContent, thenPlace, fresh, judgeFrom}
 use Rattle.guide.specs.Placing.{place, countsAfter}
 use Rattle.guide.specs.Views.{viewOf}
 use Rattle.guide.specs.Editions.{guideOf, pagesOf}
@@ -25,6 +26,7 @@ use Rattle.agree.specs.AgreeMarks.{markedIn, markIn}
 use Rattle.agree.specs.AgreePositions.{positionsOf, firstAgreeing}
 use Rattle.agree.specs.declared.agree_first.Agreeing.the-variants.{Nothing}
 use Rattle.verdict.specs.declared.answers.Judged.{Judged}
+use Rattle.verdict.specs.declared.answers.Verdict.{Verdict as Told}
 use Rattle.verdict.specs.declared.kept.Kept.{Kept}
 use Rattle.verdict.specs.declared.message.Walked.{Walked}
 use Rattle.verdict.specs.declared.message.Walked.the-variants as walked
@@ -177,7 +179,23 @@ abbrev pub closedBy : Edition → Syntax → List ℕ → ℕ → Walked → Jud
 closedBy ed y d start (walked.Refused o) = o
 closedBy ed y d start (walked.Fits k n at) = judgedAs (declared (endedWith ed y d start k n at)) at
 
--- where all segments fit, one more can be counted, and without a doubt no position agrees with an earlier one
-abbrev pub Closable : Syntax → List ℕ → ℕ → Walked → Type 0
-Closable y d start (walked.Refused o) = Unit {0}
-Closable y d start (walked.Fits k n at) = (suc n < 2 ^ 64) × (k .doubt ≡ false → NoneAgrees y d start at)
+-- 24 or accepted, for n segments up to `at` that fit
+abbrev pub fitted : Edition → Kept → ℕ → ℕ → Verdict
+fitted ed k n at = pickVerdict (isTag (guideOf ed) (bytesOf "UNT") (k .last)) (accepts n at) (refuses 24 (suc n) at 0)
+
+-- what a walk tells of a message, agreeing positions aside
+abbrev pub toldBy : Edition → Walked → Told
+toldBy ed (walked.Refused o) = o .verdict
+toldBy ed (walked.Fits k n at) = declared (fitted ed k n at)
+
+-- the segments from `start` up to `at` are those of the message that begins there, which is told v, agreeing positions aside
+abbrev pub Through : Edition → Syntax → List ℕ → ℕ → ℕ → Verdict → Type 0
+Through ed y d start at v =
+    (segmentsFrom y start false (part start at d) ≡ held (segmentsAt y d start))
+    × (judgeFrom y (guideOf ed) (pagesOf ed) 0 start fresh (held (segmentsAt y d start)) ≡ v)
+
+-- where all segments fit, one more can be counted, without a doubt no position agrees with an earlier one, and they are the message's
+abbrev pub Closable : Edition → Syntax → List ℕ → ℕ → Walked → Type 0
+Closable ed y d start (walked.Refused o) = Unit {0}
+Closable ed y d start (walked.Fits k n at) =
+    (suc n < 2 ^ 64) × ((k .doubt ≡ false → NoneAgrees y d start at) × Through ed y d start at (fitted ed k n at))

@@ -15,19 +15,22 @@ use cut::head_at;
 use cut::message_end;
 use guide::Edition;
 use judge::number_of;
+ghost use Prim.Native.Nat.{_≤_};
 ghost use mathlib.Core.Bool.{false};
 ghost use mathlib.Core.Path.{_≡_};
-ghost use lib.ListN.{drop};
+ghost use lib.ListN.{length, drop};
 ghost use Rattle.cut.specs.Held.{unless, held};
 ghost use Rattle.cut.specs.Messages.{lastEnd, body};
 ghost use Rattle.cut.specs.Segments.{segmentsFrom, segmentsAt};
 ghost use Rattle.guide.specs.Nodes.{numberOf};
-ghost use Rattle.guide.specs.Judging.{refuses};
+ghost use Rattle.guide.specs.Judging.{refuses, fresh};
 ghost use Rattle.guide.specs.Editions.{guideOf, pagesOf};
 ghost use Rattle.verdict.specs.Answers.{declared, judgedAs};
 ghost use Rattle.verdict.specs.Named.{verdictNamed};
+ghost use Rattle.verdict.specs.Until.{judgeUntil};
 ghost use Rattle.verdict.specs.Verdicts.{verdictFrom};
-ghost use Rattle.verdict.specs.Workers.{closedBy, Closable};
+ghost use Rattle.verdict.specs.Workers.{closedBy, toldBy, Closable};
+ghost use Rattle.verdict.specs.declared.message.Walked.the-variants.{Refused};
 
 // What comes of a message's segments: if one is refused, the answer for the message; or else what is kept of them, how many there are, and where they
 // end.
@@ -65,12 +68,44 @@ fn close_of(y: Syntax, d: &[u8], end: usize, last: bool) -> usize
     message_end(y, d, end)
 }
 
-// The segments of the message that begins at `start`, one after the other. It returns before positions are compared: that takes a table of its own, which
-// would not fit beside `came`.
-fn walk(y: Syntax, edition: Edition, d: &[u8], start: usize) -> Walked
-    ensures { λ r. ⌜ closedBy edition y (now (d .entry)) start r ≡ judgedAs (declared (verdictFrom y (guideOf edition) (pagesOf edition) start (held (segmentsAt y (now (d .entry)) start)))) (lastEnd start (held (segmentsAt y (now (d .entry)) start))) ⌝ }
-    ensures { λ r. ⌜ Closable y (now (d .entry)) start r ⌝ }
+// The walk ends at a segment that has no fault, with its node.
+fn stopped(segment: usize, place: usize, node: usize, end: usize) -> Walked
+    ensures { λ r. ⌜ r ≡ Refused (judgedAs (declared (refuses 23 segment place node)) end) ⌝ }
 {
+    let verdict = Verdict::Refused {
+        number: 23,
+        segment,
+        place,
+        node,
+    };
+    Walked::Refused(with_end(verdict, end))
+}
+
+fn syntax_of(component: u8, element: u8, decimal: u8, release: u8, terminator: u8) -> Syntax
+    ensures { λ r. ⌜ r ≡ record { component = component; element = element; decimal = decimal; release = release; terminator = terminator } ⌝ }
+{
+    Syntax {
+        component,
+        element,
+        decimal,
+        release,
+        terminator,
+    }
+}
+
+// The segments of the message that begins at `start`, one after the other, up to one that begins at `stop`. It returns before positions are compared: that
+// takes a table of its own, which would not fit beside `came`. The service characters are read once, so that what depends on them alone is done before the
+// loop.
+pub(crate) fn walk(y: Syntax, edition: Edition, d: &[u8], start: usize, stop: usize) -> Walked
+    ensures { λ r. ⌜ (length (now (d .entry)) ≤ stop → closedBy edition y (now (d .entry)) start r ≡ judgedAs (declared (verdictFrom y (guideOf edition) (pagesOf edition) start (held (segmentsAt y (now (d .entry)) start)))) (lastEnd start (held (segmentsAt y (now (d .entry)) start)))) ⌝ }
+    ensures { λ r. ⌜ Closable edition y (now (d .entry)) start r ⌝ }
+    ensures { λ r. ⌜ toldBy edition r ≡ declared (judgeUntil y (guideOf edition) (pagesOf edition) stop 0 start fresh (held (segmentsAt y (now (d .entry)) start))) ⌝ }
+{
+    let component = y.component;
+    let element = y.element;
+    let decimal = y.decimal;
+    let release = y.release;
+    let terminator = y.terminator;
     let mut counts = [0u32; 96];
     let mut came = [0u8; 8192];
     let mut kept = begun(start);
@@ -78,19 +113,23 @@ fn walk(y: Syntax, edition: Edition, d: &[u8], start: usize) -> Walked
     let mut n = 0;
     let mut first = true;
     loop {
-        let s = head_at(y, d, at, first);
+        let z = syntax_of(component, element, decimal, release, terminator);
+        let s = head_at(z, d, at, first);
         let Head::Inside { last } = s else {
             return Walked::Fits(kept, n, at);
         };
-        let answer = segment_answer(y, edition, d, at, n + 1, kept, &mut counts);
+        let answer = segment_answer(z, edition, d, at, n + 1, kept, &mut counts);
         let end = match answer {
             Answered::Fits(found, end) => {
-                kept = keep(y, d, found, kept, &mut came);
+                if at == stop {
+                    return stopped(n + 1, at, found.node, end);
+                }
+                kept = keep(z, d, found, kept, &mut came);
                 end
             }
             Answered::Refused { number, node, end } => {
                 let verdict = refused(edition, number, n + 1, at, node);
-                return Walked::Refused(with_end(verdict, close_of(y, d, end, last)));
+                return Walked::Refused(with_end(verdict, close_of(z, d, end, last)));
             }
         };
         n += 1;
@@ -102,11 +141,11 @@ fn walk(y: Syntax, edition: Edition, d: &[u8], start: usize) -> Walked
     }
 }
 
-// The verdict and the end of the message that the segment at `start` begins, by the guide of an edition.
+// The verdict and the end of the message that the segment at `start` begins, by the guide of an edition. No segment begins at the end of `d`.
 fn judged_by(y: Syntax, edition: Edition, d: &[u8], start: usize) -> Judged
     ensures { λ r. ⌜ r ≡ judgedAs (declared (verdictFrom y (guideOf edition) (pagesOf edition) start (held (segmentsAt y (now (d .entry)) start)))) (lastEnd start (held (segmentsAt y (now (d .entry)) start))) ⌝ }
 {
-    match walk(y, edition, d, start) {
+    match walk(y, edition, d, start, d.len()) {
         Walked::Refused(told) => told,
         Walked::Fits(kept, n, at) => with_end(ended(y, edition, d, start, kept, n, at), at),
     }

@@ -1,6 +1,6 @@
 -- `verdict::ended::ended` meets its contract.
 use borrow.Author.Tests.{not-true, not-false}
-use Rattle.verdict.proofs.Ends.{no-end, not-compared, undoubted, compared}
+use Rattle.verdict.proofs.Ends.{through-ended, no-end, not-compared, undoubted, compared}
 use borrow.Author.Needs.{needs}
 use Rattle.verdict.proofs.ended.ended.Statement.{statement}
 use Rattle.verdict.proofs.ended.ended.Tie as tie
@@ -26,10 +26,13 @@ returns-3 c =
     let rule = c .before .before in
     let start = rule .before .before .before .before in
     let a = start .args in
-    undoubted (a .edition) (a .y) (a .d .now) (a .start) _ _ (a .kept) _ (rule .before .before .has-tag .ensures) (not-false _ (rule .before .if1 .left)) (rule .if2 .left) (start .pre .1 (not-true _ (c .if3 .taken)))
+    undoubted (a .edition) (a .y) (a .d .now) (a .start) _ _ (a .kept) _ (rule .before .before .has-tag .ensures) (not-false _ (rule .before .if1 .left)) (rule .if2 .left) (start .pre .1 .0 (not-true _ (c .if3 .taken)))
 
 agreement-requires : tie.Need-agreement-requires
-agreement-requires c κs = search needs
+agreement-requires c κs =
+    let rule = c .before .before in
+    let start = rule .before .before .before .before in
+    through-ended (start .args .edition) _ _ _ _ _ (start .args .kept) _ (rule .before .before .has-tag .ensures) (not-false _ (rule .before .if1 .left)) (start .pre .1 .1)
 
 returns-4 : tie.Need-returns-4
 returns-4 c =
