@@ -1,10 +1,9 @@
 -- The walk that ends at a segment of an accepted message names that segment's node.
-use Prim.Native.Nat.{ℕ, zero, suc, _+_, _≤_, _<_}
-use mathlib.Core.Path.{_≡_, refl, sym, _∙_, ap, ap₂}
+use Prim.Native.Nat.{ℕ, zero, suc, _+_, _≤_}
+use mathlib.Core.Path.{_≡_, refl, sym}
 use mathlib.Core.Bool.{Bool, true, false, cond}
 use mathlib.Core.List.{List, [], _∷_, _++_, map}
 use native.Mathlib.Omega.{arith}
-use lib.Dec.{eqb}
 use lib.ListN.{getD}
 use borrow.Author.Tests.{eq-eqb, ne-eqb}
 use Rattle.cut.specs.declared.service.Syntax.{Syntax}
@@ -13,7 +12,7 @@ use Rattle.cut.specs.Segments.{Segment, endOf}
 use Rattle.cut.proofs.Starts.{Rising}
 use Rattle.guide.specs.Accepted.{seen}
 use Rattle.guide.specs.Answers.{Answer, placed, refused}
-use Rattle.guide.specs.Judging.{Memory, Verdict, accepts, refuses, segmentAnswer, remember, decide, judgeFrom, fresh}
+use Rattle.guide.specs.Judging.{Memory, accepts, refuses, segmentAnswer, remember, decide, judgeFrom, fresh}
 use Rattle.guide.specs.Nodes.{Guide}
 use Rattle.guide.specs.Page.{Page}
 use Rattle.guide.specs.Placing.{lastAfter, given, place}
@@ -23,7 +22,7 @@ use Rattle.guide.proofs.Verdicts.{accepts-refuses}
 use Rattle.agree.specs.Agreement.{Heading}
 use Rattle.agree.specs.AgreePositions.{Listed, headingFrom, positionsFrom, positionsOf, agreesAny, firstAfter, firstAgreeing}
 use Rattle.agree.specs.declared.agree_first.Agreeing.the-variants.{At}
-use Rattle.verdict.specs.Until.{decideUntil, judgeUntil}
+use Rattle.verdict.specs.Until.{judgeUntil}
 use Rattle.verdict.specs.Verdicts.{nodesOf, nodeOf}
 
 -- segment j of some, counted from 0, begins at p

@@ -1,6 +1,6 @@
--- What a message is told where its walk ends at a segment that has no fault: its node is named with 23.
+-- What a message is told where its walk ends at a segment that begins at a place: without a fault its node is named, with 23.
 use Prim.Native.Nat.{ℕ, suc}
-use mathlib.Core.Bool.{Bool, true, false}
+use mathlib.Core.Bool.{Bool}
 use mathlib.Core.List.{List, [], _∷_}
 use lib.Dec.{eqb}
 use Rattle.cut.specs.declared.service.Syntax.{Syntax}

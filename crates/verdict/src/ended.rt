@@ -53,8 +53,8 @@ pub(crate) fn ended(
     agreement(y, edition, d, start, n, at)
 }
 
-// 23, or accepted with n segments up to `at`. The node that 23 names is found by a second walk, up to its LIN: this is rare, and the walk has one call of
-// `place`, which is then part of its loop.
+// 23, or accepted with n segments up to `at`. The node that 23 names is found by a second walk, up to its LIN: with a call of `place` for it alone, the
+// compiler would not make `place` part of the walk.
 fn agreement(y: Syntax, edition: Edition, d: &[u8], start: usize, n: usize, at: usize) -> Verdict
     requires { ⌜ Through edition y (now d) start at (accepts n at) ⌝ }
     ensures { λ r. ⌜ r ≡ declared (agreementAt edition y (now (d .entry)) start n at) ⌝ }

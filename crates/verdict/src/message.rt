@@ -68,7 +68,7 @@ fn close_of(y: Syntax, d: &[u8], end: usize, last: bool) -> usize
     message_end(y, d, end)
 }
 
-// The walk ends at a segment that has no fault, with its node.
+// The walk ends at a segment that has no fault, and names its node.
 fn stopped(segment: usize, place: usize, node: usize, end: usize) -> Walked
     ensures { λ r. ⌜ r ≡ Refused (judgedAs (declared (refuses 23 segment place node)) end) ⌝ }
 {
@@ -93,9 +93,9 @@ fn syntax_of(component: u8, element: u8, decimal: u8, release: u8, terminator: u
     }
 }
 
-// The segments of the message that begins at `start`, one after the other, up to one that begins at `stop`. It returns before positions are compared: that
-// takes a table of its own, which would not fit beside `came`. The service characters are read once, so that what depends on them alone is done before the
-// loop.
+// The segments of the message that begins at `start`, one after the other; at one that begins at `stop` and has no fault it ends with 23. It returns before
+// positions are compared: that takes a table of its own, which would not fit beside `came`. The service characters are read before the loop and put
+// together in it, so that the compiler does before the loop what depends on them alone.
 pub(crate) fn walk(y: Syntax, edition: Edition, d: &[u8], start: usize, stop: usize) -> Walked
     ensures { λ r. ⌜ (length (now (d .entry)) ≤ stop → closedBy edition y (now (d .entry)) start r ≡ judgedAs (declared (verdictFrom y (guideOf edition) (pagesOf edition) start (held (segmentsAt y (now (d .entry)) start)))) (lastEnd start (held (segmentsAt y (now (d .entry)) start)))) ⌝ }
     ensures { λ r. ⌜ Closable edition y (now (d .entry)) start r ⌝ }
