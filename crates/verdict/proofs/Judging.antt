@@ -12,7 +12,7 @@ use Rattle.cut.specs.declared.service.Syntax.{Syntax}
 use Rattle.cut.specs.Bytes.{bytesOf, begins, part}
 use Rattle.cut.specs.Calls.{segmentAt}
 use Rattle.cut.specs.Segments.{Segment, endOf, segmentsFrom, segmentsAt}
-use Rattle.cut.specs.Held.{unless, held, members}
+use Rattle.cut.specs.Held.{unless, held}
 use Rattle.cut.specs.Messages.{lastEnd}
 use Rattle.cut.proofs.First.{Cutting, cutting}
 use Rattle.cut.proofs.Holding.{held-alone}
@@ -90,12 +90,11 @@ module _ (ed : Edition) (y : Syntax) (d : List ℕ) (start stop : ℕ) where
   abbrev untilStop : Verdict
   untilStop = judgeUntil y (guideOf ed) (pagesOf ed) stop 0 start fresh all
 
-  -- what the walk w promises; z are the service characters
-  abbrev Promised : Walked → Syntax → Type 0
-  Promised w z =
-      (length d ≤ stop
-      → closedBy ed z d start w ≡ judgedAs (declared (verdictFrom z (guideOf ed) (pagesOf ed) start (held (segmentsAt z d start)))) (lastEnd start (held (segmentsAt z d start))))
-      × (Closable ed z d start w × (toldBy ed w ≡ declared (judgeUntil z (guideOf ed) (pagesOf ed) stop 0 start fresh (held (segmentsAt z d start)))))
+  -- what the walk w promises
+  abbrev Promised : Walked → Type 0
+  Promised w =
+      (length d ≤ stop → closedBy ed y d start w ≡ judgedAs (declared (verdictFrom y (guideOf ed) (pagesOf ed) start all)) (lastEnd start all))
+      × (Closable ed y d start w × (toldBy ed w ≡ declared untilStop))
 
   -- n segments have been judged without a fault, up to the place `at`, ss are the message's others, and t is the table of the articles that came; none of
   -- those judged begins at `stop`
@@ -165,9 +164,8 @@ module _ (ed : Edition) (y : Syntax) (d : List ℕ) (start stop : ℕ) where
           go false = refl
 
       -- what the walk promises where all segments fit
-      pub all-fit : suc n < 2 ^ 64 → (z : Syntax) → y ≡ z → Promised (walked.Fits k n at) z
-      all-fit h z same =
-          subst (Promised (walked.Fits k n at)) same (λ far. ap₂ judgedAs (ap declared is-ended) is-end, ((h, (none-agree, (alone, is-judged))), ap declared (sym is-until)))
+      pub all-fit : suc n < 2 ^ 64 → Promised (walked.Fits k n at)
+      all-fit h = (λ far. ap₂ judgedAs (ap declared is-ended) is-end, ((h, (none-agree, (alone, is-judged))), ap declared (sym is-until)))
 
     -- the next segment, and the message's others after it, which its end tells
     module _ (s e : ℕ) (piece : Bool) (cuts : segmentAt y d at ≡ cut.Segment s e piece)
@@ -221,11 +219,10 @@ module _ (ed : Edition) (y : Syntax) (d : List ℕ) (start stop : ℕ) where
 
         pub passed-refused
             : (j m t : ℕ) → r ≡ outcome.Refused j m t → (v : Told) → v ≡ Refused j (n + 1) at (numberOf (guideOf ed) m) → (c : ℕ) → c ≡ lastEnd t (rest t) → (o : Judged)
-            → o ≡ judgedAs v c → (z : Syntax) → y ≡ z → Promised (walked.Refused o) z
-        passed-refused j m t h v u c l o g z same =
+            → o ≡ judgedAs v c → Promised (walked.Refused o)
+        passed-refused j m t h v u c l o g =
             let a = answered-refused ed y d at e answer j m t (sym is-answer ∙ h) in
-            let i : n + 1 ≡ suc n = omega arith in
-            subst (Promised (walked.Refused o)) same (
+            let i : n + 1 ≡ suc n = omega arith in (
               λ far. g ∙ ap₂ judgedAs (u ∙ is-refused j m (a .0)) (l ∙ ap (λ (x : ℕ). lastEnd x (rest x)) (sym (a .1)) ∙ more-closes),
               (tt, ap (λ (x : Judged). x .verdict) g ∙ u ∙ rw (← until-here, a .0, i)),
             )
@@ -233,13 +230,13 @@ module _ (ed : Edition) (y : Syntax) (d : List ℕ) (start stop : ℕ) where
         -- the walk ends at this one, which fits
         pub passed-stopped
             : (f : Found) (u : ℕ) → r ≡ outcome.Fits f u → at ≡ stop → (w : Walked) → w ≡ walked.Refused (judgedAs (Refused 23 (n + 1) at (f .node)) u)
-            → (z : Syntax) → y ≡ z → Promised w z
-        passed-stopped f u h b w g z same =
+            → Promised w
+        passed-stopped f u h b w g =
             let a = answered-fits ed y d at e answer f u (sym is-answer ∙ h) in
             let i : n + 1 ≡ suc n = omega arith in
             let some = q .some in
             let fits = q .fits in
-            subst (Promised w) same (rw g (λ far. absurd (omega (arith, b)), (tt, rw (← until-here, a .0, eq-eqb at stop b, i))))
+            rw g (λ far. absurd (omega (arith, b)), (tt, rw (← until-here, a .0, eq-eqb at stop b, i)))
 
         module _ (f : Found) (u : ℕ) (taken : r ≡ outcome.Fits f u) (cs′ t′ : List ℕ) (k′ : Kept) (keeps : k′ ≡ keptAfter y d t f k) (notes : t′ ≡ cameAfter y d t f k)
             (left : CountedOn ed r cs cs′) (goes : at ≡ stop → ⊥) where
@@ -329,11 +326,3 @@ module _ (ed : Edition) (y : Syntax) (d : List ℕ) (start stop : ℕ) (l : Bool
 
   pub passed-more : l ≡ false → Passed ed y d start stop ss cs t k at n
   passed-more h = rw h at p
-
--- what has been passed, for service characters that are the same
-pub passed-as
-    : (ed : Edition) (y : Syntax) (d : List ℕ) (start stop : ℕ) (b : Bool) (cs t : List ℕ) (k : Kept) (at n : ℕ)
-    → Passed ed y d start stop (members b (segmentsAt y d at)) cs t k at n → (z : Syntax) → y ≡ z
-    → Passed ed z d start stop (members b (segmentsAt z d at)) cs t k at n
-passed-as ed y d start stop b cs t k at n p z same =
-    subst (λ (x : Syntax). Passed ed x d start stop (members b (segmentsAt x d at)) cs t k at n) same p

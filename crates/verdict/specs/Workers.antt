@@ -24,9 +24,11 @@ use Rattle.page.specs.Reading.{segmentIn}
 use Rattle.agree.specs.AgreeArticles.{articlePrint}
 use Rattle.agree.specs.AgreeMarks.{markedIn, markIn}
 use Rattle.agree.specs.AgreePositions.{positionsOf, firstAgreeing}
-use Rattle.agree.specs.declared.agree_first.Agreeing.the-variants.{Nothing}
+use Rattle.agree.specs.declared.agree_first.Agreeing.the-variants.{At, Nothing}
 use Rattle.verdict.specs.declared.answers.Judged.{Judged}
 use Rattle.verdict.specs.declared.answers.Verdict.{Verdict as Told}
+use Rattle.verdict.specs.declared.ended.Conclusion.{Conclusion}
+use Rattle.verdict.specs.declared.ended.Conclusion.the-variants as ended
 use Rattle.verdict.specs.declared.kept.Kept.{Kept}
 use Rattle.verdict.specs.declared.message.Walked.{Walked}
 use Rattle.verdict.specs.declared.message.Walked.the-variants as walked
@@ -173,6 +175,18 @@ endedWith ed y d start k n at =
     pickVerdict (isTag (guideOf ed) (bytesOf "UNT") (k .last))
     (pickVerdict (k .intervals) (accepts n at) (agreementAt ed y d start n at))
     (refuses 24 (suc n) at 0)
+
+-- what comes of the end of n segments up to `at` that fit: a verdict, or the first position that agrees with an earlier one, whose node is not told
+abbrev pub EndedAs : Edition → Syntax → List ℕ → ℕ → Kept → ℕ → ℕ → Conclusion → Type 0
+EndedAs ed y d start k n at (ended.Told v) = v ≡ declared (endedWith ed y d start k n at)
+EndedAs ed y d start k n at (ended.Agrees i p) =
+    (isTag (guideOf ed) (bytesOf "UNT") (k .last) ≡ true)
+    × ((k .intervals ≡ false) × (firstAgreeing y (positionsOf (segmentsFrom y start false (part start at d))) ≡ At i p))
+
+-- the answer of a walk that refuses; that of a second one is closed where the first one came to
+abbrev pub toldAgain : Bool → Judged → ℕ → Judged
+toldAgain true o c = judgedAs (o .verdict) c
+toldAgain false o c = o
 
 -- the answer for the message that begins at `start`, once its segments have been walked
 abbrev pub closedBy : Edition → Syntax → List ℕ → ℕ → Walked → Judged

@@ -3,6 +3,7 @@
 use crate::answers::Judged;
 use crate::answers::Verdict;
 use crate::edition::edition_at;
+use crate::ended::Conclusion;
 use crate::ended::ended;
 use crate::kept::Kept;
 use crate::kept::begun;
@@ -29,7 +30,7 @@ ghost use Rattle.verdict.specs.Answers.{declared, judgedAs};
 ghost use Rattle.verdict.specs.Named.{verdictNamed};
 ghost use Rattle.verdict.specs.Until.{judgeUntil};
 ghost use Rattle.verdict.specs.Verdicts.{verdictFrom};
-ghost use Rattle.verdict.specs.Workers.{closedBy, toldBy, Closable};
+ghost use Rattle.verdict.specs.Workers.{closedBy, toldBy, toldAgain, Closable};
 ghost use Rattle.verdict.specs.declared.message.Walked.the-variants.{Refused};
 
 // What comes of a message's segments: if one is refused, the answer for the message; or else what is kept of them, how many there are, and where they
@@ -81,31 +82,13 @@ fn stopped(segment: usize, place: usize, node: usize, end: usize) -> Walked
     Walked::Refused(with_end(verdict, end))
 }
 
-fn syntax_of(component: u8, element: u8, decimal: u8, release: u8, terminator: u8) -> Syntax
-    ensures { λ r. ⌜ r ≡ record { component = component; element = element; decimal = decimal; release = release; terminator = terminator } ⌝ }
-{
-    Syntax {
-        component,
-        element,
-        decimal,
-        release,
-        terminator,
-    }
-}
-
 // The segments of the message that begins at `start`, one after the other; at one that begins at `stop` and has no fault it ends with 23. It returns before
-// positions are compared: that takes a table of its own, which would not fit beside `came`. The service characters are read before the loop and put
-// together in it, so that the compiler does before the loop what depends on them alone.
-pub(crate) fn walk(y: Syntax, edition: Edition, d: &[u8], start: usize, stop: usize) -> Walked
+// positions are compared: that takes a table of its own, which would not fit beside `came`.
+fn walk(y: Syntax, edition: Edition, d: &[u8], start: usize, stop: usize) -> Walked
     ensures { λ r. ⌜ (length (now (d .entry)) ≤ stop → closedBy edition y (now (d .entry)) start r ≡ judgedAs (declared (verdictFrom y (guideOf edition) (pagesOf edition) start (held (segmentsAt y (now (d .entry)) start)))) (lastEnd start (held (segmentsAt y (now (d .entry)) start)))) ⌝ }
     ensures { λ r. ⌜ Closable edition y (now (d .entry)) start r ⌝ }
     ensures { λ r. ⌜ toldBy edition r ≡ declared (judgeUntil y (guideOf edition) (pagesOf edition) stop 0 start fresh (held (segmentsAt y (now (d .entry)) start))) ⌝ }
 {
-    let component = y.component;
-    let element = y.element;
-    let decimal = y.decimal;
-    let release = y.release;
-    let terminator = y.terminator;
     let mut counts = [0u32; 96];
     let mut came = [0u8; 8192];
     let mut kept = begun(start);
@@ -113,23 +96,22 @@ pub(crate) fn walk(y: Syntax, edition: Edition, d: &[u8], start: usize, stop: us
     let mut n = 0;
     let mut first = true;
     loop {
-        let z = syntax_of(component, element, decimal, release, terminator);
-        let s = head_at(z, d, at, first);
+        let s = head_at(y, d, at, first);
         let Head::Inside { last } = s else {
             return Walked::Fits(kept, n, at);
         };
-        let answer = segment_answer(z, edition, d, at, n + 1, kept, &mut counts);
+        let answer = segment_answer(y, edition, d, at, n + 1, kept, &mut counts);
         let end = match answer {
             Answered::Fits(found, end) => {
                 if at == stop {
                     return stopped(n + 1, at, found.node, end);
                 }
-                kept = keep(z, d, found, kept, &mut came);
+                kept = keep(y, d, found, kept, &mut came);
                 end
             }
             Answered::Refused { number, node, end } => {
                 let verdict = refused(edition, number, n + 1, at, node);
-                return Walked::Refused(with_end(verdict, close_of(z, d, end, last)));
+                return Walked::Refused(with_end(verdict, close_of(y, d, end, last)));
             }
         };
         n += 1;
@@ -141,13 +123,42 @@ pub(crate) fn walk(y: Syntax, edition: Edition, d: &[u8], start: usize, stop: us
     }
 }
 
-// The verdict and the end of the message that the segment at `start` begins, by the guide of an edition. No segment begins at the end of `d`.
+// What a walk that refuses tells of the message: a second one names 23's node, and the message closes where the first one came to.
+fn told_by(told: Judged, again: bool, close: usize) -> Judged
+    ensures { λ r. ⌜ r ≡ toldAgain again told close ⌝ }
+{
+    let verdict = told.verdict;
+    if again {
+        return with_end(verdict, close);
+    }
+    told
+}
+
+// The verdict and the end of the message that the segment at `start` begins, by the guide of an edition. No segment begins at the end of `d`, so the first walk
+// goes through. Where a position agrees with an earlier one, a second walk up to it names its node. Both are one call, and `place` has no other, so that
+// the compiler makes it part of the walk.
 fn judged_by(y: Syntax, edition: Edition, d: &[u8], start: usize) -> Judged
     ensures { λ r. ⌜ r ≡ judgedAs (declared (verdictFrom y (guideOf edition) (pagesOf edition) start (held (segmentsAt y (now (d .entry)) start)))) (lastEnd start (held (segmentsAt y (now (d .entry)) start))) ⌝ }
 {
-    match walk(y, edition, d, start, d.len()) {
-        Walked::Refused(told) => told,
-        Walked::Fits(kept, n, at) => with_end(ended(y, edition, d, start, kept, n, at), at),
+    let mut stop = d.len();
+    let mut close = start;
+    let mut again = false;
+    loop {
+        match walk(y, edition, d, start, stop) {
+            Walked::Refused(told) => {
+                return told_by(told, again, close);
+            }
+            Walked::Fits(kept, n, at) => match ended(y, edition, d, start, kept, n, at) {
+                Conclusion::Told(verdict) => {
+                    return with_end(verdict, at);
+                }
+                Conclusion::Agrees { segment: _, place } => {
+                    stop = place;
+                    close = at;
+                }
+            },
+        }
+        again = true;
     }
 }
 

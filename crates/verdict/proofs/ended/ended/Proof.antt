@@ -1,6 +1,7 @@
 -- `verdict::ended::ended` meets its contract.
 use borrow.Author.Tests.{not-true, not-false}
-use Rattle.verdict.proofs.Ends.{through-ended, no-end, not-compared, undoubted, compared}
+use mathlib.Core.Path.{refl}
+use Rattle.verdict.proofs.Ends.{told-as, no-end, not-compared, undoubted, agreeing}
 use borrow.Author.Needs.{needs}
 use Rattle.verdict.proofs.ended.ended.Statement.{statement}
 use Rattle.verdict.proofs.ended.ended.Tie as tie
@@ -8,39 +9,78 @@ use Rattle.verdict.proofs.ended.ended.Tie as tie
 has-tag-requires : tie.Need-has-tag-requires
 has-tag-requires c κs = search needs
 
-add-t10 : tie.Need-add-t10
-add-t10 c = search needs
+add-t12 : tie.Need-add-t12
+add-t12 c = search needs
 
 returns : tie.Need-returns
 returns c =
     let a = c .before .before .before .args in
     no-end (a .edition) (a .y) (a .d .now) (a .start) _ _ (a .kept) _ (c .before .has-tag .ensures) (not-true _ (c .if1 .taken))
 
+accepted-requires : tie.Need-accepted-requires
+accepted-requires c κs = search needs
+
 returns-2 : tie.Need-returns-2
 returns-2 c =
-    let a = c .before .before .before .before .args in
-    not-compared (a .edition) (a .y) (a .d .now) (a .start) _ _ (a .kept) _ (c .before .before .has-tag .ensures) (not-false _ (c .before .if1 .left)) (c .if2 .taken)
+    let rule = c .before in
+    let a = rule .before .before .before .before .args in
+    told-as (a .edition) (a .y) (a .d .now) (a .start) _ _ (a .kept) _ (rule .before .before .has-tag .ensures) _ _ (c .accepted .ensures)
+    (not-compared (a .edition) (a .y) (a .d .now) (a .start) _ _ (a .kept) _ (rule .before .before .has-tag .ensures) (not-false _ (rule .before .if1 .left)) (rule .if2 .taken))
+
+accepted-requires-2 : tie.Need-accepted-requires-2
+accepted-requires-2 c κs = search needs
 
 returns-3 : tie.Need-returns-3
 returns-3 c =
-    let rule = c .before .before in
+    let sure = c .before in
+    let rule = sure .before .before in
     let start = rule .before .before .before .before in
     let a = start .args in
-    undoubted (a .edition) (a .y) (a .d .now) (a .start) _ _ (a .kept) _ (rule .before .before .has-tag .ensures) (not-false _ (rule .before .if1 .left)) (rule .if2 .left) (start .pre .1 .0 (not-true _ (c .if3 .taken)))
+    told-as (a .edition) (a .y) (a .d .now) (a .start) _ _ (a .kept) _ (rule .before .before .has-tag .ensures) _ _ (c .accepted2 .ensures)
+    (undoubted (a .edition) (a .y) (a .d .now) (a .start) _ _ (a .kept) _ (rule .before .before .has-tag .ensures) (not-false _ (rule .before .if1 .left)) (rule .if2 .left) _ refl (start .pre .1 (not-true _ (sure .if3 .taken))))
 
-agreement-requires : tie.Need-agreement-requires
-agreement-requires c κs =
-    let rule = c .before .before in
-    let start = rule .before .before .before .before in
-    through-ended (start .args .edition) _ _ _ _ _ (start .args .kept) _ (rule .before .before .has-tag .ensures) (not-false _ (rule .before .if1 .left)) (start .pre .1 .1)
+first-agreeing-requires : tie.Need-first-agreeing-requires
+first-agreeing-requires c κs = search needs
+
+enum-known-segment : tie.Need-enum-known-segment
+enum-known-segment c = search needs
+
+enum-told : tie.Need-enum-told
+enum-told c = search needs
+
+accepted-requires-3 : tie.Need-accepted-requires-3
+accepted-requires-3 c κs = search needs
 
 returns-4 : tie.Need-returns-4
 returns-4 c =
-    let rule = c .before .before .before in
+    let found = c .before .before .before in
+    let rule = found .before .before .before in
     let a = rule .before .before .before .before .args in
-    compared (a .edition) (a .y) (a .d .now) (a .start) _ _ (a .kept) _ (rule .before .before .has-tag .ensures) (not-false _ (rule .before .if1 .left)) (rule .if2 .left) _ (c .agreement .ensures)
+    agreeing (a .edition) (a .y) (a .d .now) (a .start) (a .n) (a .at) (a .kept) _ (rule .before .before .has-tag .ensures) (not-false _ (rule .before .if1 .left)) (rule .if2 .left) _ (found .first-agreeing .ensures) _ _ (c .before .segment .given .1)
+
+returns-5 : tie.Need-returns-5
+returns-5 c =
+    let none = c .before in
+    let found = none .before .before in
+    let rule = found .before .before .before in
+    let a = rule .before .before .before .before .args in
+    told-as (a .edition) (a .y) (a .d .now) (a .start) _ _ (a .kept) _ (rule .before .before .has-tag .ensures) _ _ (c .accepted3 .ensures)
+    (undoubted (a .edition) (a .y) (a .d .now) (a .start) _ _ (a .kept) _ (rule .before .before .has-tag .ensures) (not-false _ (rule .before .if1 .left)) (rule .if2 .left) _ (found .first-agreeing .ensures) (none .enum-told .given .1))
 
 pub ended-spec : {M : Type 1} → statement M
 ended-spec =
     tie.close
-    (tie.spec has-tag-requires add-t10 returns returns-2 returns-3 agreement-requires returns-4)
+    (tie.spec
+    has-tag-requires
+    add-t12
+    returns
+    accepted-requires
+    returns-2
+    accepted-requires-2
+    returns-3
+    first-agreeing-requires
+    enum-known-segment
+    enum-told
+    accepted-requires-3
+    returns-4
+    returns-5)
