@@ -1,5 +1,6 @@
 pub mod PriceKinds
 pub mod PriceAnswers
+pub mod PriceUnits
 pub mod PriceSpots
 pub mod PricePuts
 pub mod PriceRuns

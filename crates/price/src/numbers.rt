@@ -13,7 +13,8 @@ ghost use mathlib.Core.Path.{_≡_};
 ghost use lib.IntN.{pos};
 ghost use lib.ListN.{length};
 ghost use Rattle.cut.specs.Bytes.{part};
-ghost use Rattle.price.specs.PriceNumbers.{articlePlace, amountOf, decimalsOf, priceIn, unitRank, placeOfFirst, numbersOf};
+ghost use Rattle.element.specs.Components.{componentAt};
+ghost use Rattle.price.specs.PriceNumbers.{articlePlace, amountOf, decimalsOf, unitRank, placeOfFirst, numbersOf};
 ghost use Rattle.price.specs.PriceParts.{rngIn, listedIn, Within, NextWithin};
 
 // In document 01's order.
@@ -70,17 +71,14 @@ fn decimals_in(n: Number) -> i64
     }
 }
 
-// The price of the PRI from `start` to `end`.
-fn price_in(y: Syntax, d: &[u8], start: usize, end: usize) -> Number
-    ensures { λ r. ⌜ r ≡ priceIn y (part start end (now (d .entry))) ⌝ }
-{
-    let s = component_at(y, d, start, end, 1, 1);
-    number_of(y, d, s.start, s.end)
-}
-
-fn unit_in(y: Syntax, d: &[u8], start: usize, end: usize) -> i64
+// The unit of the PRI from `start` to `end`, whose price is known: where that is the last component, nothing stands behind it.
+fn unit_in(y: Syntax, d: &[u8], start: usize, end: usize, price: Span) -> i64
+    requires { ⌜ (start ≤ length (now d)) × (price ≡ componentAt y (now d) start end 1 1) ⌝ }
     ensures { λ r. ⌜ r ≡ unitRank y (part start end (now (d .entry))) ⌝ }
 {
+    if end <= price.end + 1 {
+        return 0;
+    }
     let s = component_at(y, d, start, end, 1, 5);
     if is_code(y, d, s.start, s.end, b"ANN") {
         return 1;
@@ -123,14 +121,15 @@ pub(crate) fn numbers_at(
     ensures { λ r. ⌜ r ≡ numbersOf y base (listedIn (now (d .entry)) p start end next) ⌝ }
 {
     let a = component_at(y, d, p.start, p.end, 3, 0);
-    let n = price_in(y, d, start, end);
+    let s = component_at(y, d, start, end, 1, 1);
+    let n = number_of(y, d, s.start, s.end);
     Numbers {
         position: p.number as i64,
         article: article_place(base, a),
         length: (a.end - a.start) as i64,
         amount: amount_in(n),
         decimals: decimals_in(n),
-        unit: unit_in(y, d, start, end),
+        unit: unit_in(y, d, start, end, s),
         pri: from_start(base, start),
         rng: rng_place(d, base, next),
     }

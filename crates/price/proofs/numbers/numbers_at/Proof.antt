@@ -1,7 +1,7 @@
 -- `price::numbers::numbers_at` meets its contract.
 use Prim.Native.Nat.{_-_, _^_, _<_}
 use native.Mathlib.Omega.{arith}
-use Rattle.price.proofs.PriceAnswers.{kept, component-bounds, numbers-made}
+use Rattle.price.proofs.PriceAnswers.{kept, price-read, component-bounds, numbers-made}
 use borrow.Author.Needs.{needs}
 use Rattle.price.proofs.numbers.numbers_at.Statement.{statement}
 use Rattle.price.proofs.numbers.numbers_at.Tie as tie
@@ -9,25 +9,28 @@ use Rattle.price.proofs.numbers.numbers_at.Tie as tie
 component-at-requires : tie.Need-component-at-requires
 component-at-requires c κs = search needs
 
-price-in-requires : tie.Need-price-in-requires
-price-in-requires c κs = search needs
+component-at-requires-2 : tie.Need-component-at-requires-2
+component-at-requires-2 c κs = search needs
 
-cast-t10 : tie.Need-cast-t10
-cast-t10 c = search needs
+number-of-requires : tie.Need-number-of-requires
+number-of-requires c κs = search needs
+
+cast-t11 : tie.Need-cast-t11
+cast-t11 c = search needs
 
 article-place-requires : tie.Need-article-place-requires
 article-place-requires c κs =
-    let w = component-bounds _ _ _ _ _ _ _ (c .before .before .component-at .ensures) in
-    let p = c .before .before .before .before .pre .0 in
+    let w = component-bounds _ _ _ _ _ _ _ (c .before .before .before .component-at .ensures) in
+    let p = c .before .before .before .before .before .pre .0 in
     (omega (arith, w .from, p .from), omega (arith, w .ordered, w .to, p .to))
 
-sub-t12 : tie.Need-sub-t12
-sub-t12 c = component-bounds _ _ _ _ _ _ _ (c .before .before .before .before .component-at .ensures) .ordered
+sub-t13 : tie.Need-sub-t13
+sub-t13 c = component-bounds _ _ _ _ _ _ _ (c .before .before .before .before .before .component-at .ensures) .ordered
 
-cast-t13 : tie.Need-cast-t13
-cast-t13 c =
-    let w = component-bounds _ _ _ _ _ _ _ (c .before .before .before .before .component-at .ensures) in
-    let p = c .before .before .before .before .before .before .pre .0 in
+cast-t14 : tie.Need-cast-t14
+cast-t14 c =
+    let w = component-bounds _ _ _ _ _ _ _ (c .before .before .before .before .before .component-at .ensures) in
+    let p = c .before .before .before .before .before .before .before .pre .0 in
     record { sfits = omega (arith, w .from, w .ordered, w .to, p .to) }
 
 amount-in-requires : tie.Need-amount-in-requires
@@ -48,13 +51,14 @@ rng-place-requires c κs = search needs
 returns : tie.Need-returns
 returns c =
     let amounts = c .before .before .before .before in
-    let found = amounts .before .before .before .before .before in
+    let read = amounts .before .before .before .before in
+    let found = read .before .before in
     let entry = found .before .before in
     let w = component-bounds _ _ _ _ _ _ _ (found .component-at .ensures) in
     let p = entry .pre .0 in
     let f : entry .args .p .number < 2 ^ 63 = omega (arith, p .number) in
     let l : found .component-at .result .end - found .component-at .result .start < 2 ^ 63 = omega (arith, w .from, w .ordered, w .to, p .to) in
-    numbers-made _ _ _ _ _ _ _ _ _ _ _ _ _ _ _ f l (found .component-at .ensures) (amounts .before .before .before .before .price-in .ensures)
+    numbers-made _ _ _ _ _ _ _ _ _ _ _ _ _ _ _ f l (found .component-at .ensures) (price-read _ _ _ _ _ _ (read .before .component-at2 .ensures) (read .number-of .ensures))
     (kept _ _ (record { sfits = amounts .before .before .article-place .ok }) (amounts .before .before .article-place .ensures))
     (kept _ _ (record { sfits = amounts .amount-in .ok }) (amounts .amount-in .ensures))
     (kept _ _ (record { sfits = c .before .before .before .decimals-in .ok }) (c .before .before .before .decimals-in .ensures))
@@ -67,11 +71,12 @@ numbers-at-spec =
     tie.close
     (tie.spec
     component-at-requires
-    price-in-requires
-    cast-t10
+    component-at-requires-2
+    number-of-requires
+    cast-t11
     article-place-requires
-    sub-t12
-    cast-t13
+    sub-t13
+    cast-t14
     amount-in-requires
     decimals-in-requires
     unit-in-requires
