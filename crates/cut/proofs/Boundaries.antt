@@ -185,7 +185,7 @@ turned-not false b = refl
 
 -- the run of release characters before a place, gone through from its end
 module _ (y : Syntax) (d : List ℕ) (from i : ℕ) (r : Bool) where
-  after-last : from < i → i ≤ length d → after y false (part from i d) ≡ frees y (after y false (part from (i - 1) d)) (getD d (i - 1) 0)
+  pub after-last : from < i → i ≤ length d → after y false (part from i d) ≡ frees y (after y false (part from (i - 1) d)) (getD d (i - 1) 0)
   unfolding after
   after-last h k = rw (part-last d from i h k, after-append y false (part from (i - 1) d) (getD d (i - 1) 0 ∷ []))
 
@@ -209,7 +209,7 @@ module _ (y : Syntax) (d : List ℕ) (from at : ℕ) where
       let h : at ≤ from = omega arith in
       rw (part-none d from at h)
 
-  closed-last
+  pub closed-last
       : from < at → at ≤ length d → whole (segmentsFrom y from false (part from at d)) ≡ ends y (after y false (part from (at - 1) d)) (getD d (at - 1) 0)
   closed-last h k = rw (part-last d from at h k) (whole-last y from false (part from (at - 1) d) (getD d (at - 1) 0))
 

@@ -15,7 +15,7 @@ use Rattle.cut.specs.Admission.{limit, UNA, nine, pickℕ, admissionOf, 
 use Rattle.cut.proofs.Searching.{neither}
 use Rattle.cut.specs.Fronts.{has, service, UNH, Tail}
 
-both : (a b : Bool) → (a && b) ≡ true → (a ≡ true) × (b ≡ true)
+pub both : (a b : Bool) → (a && b) ≡ true → (a ≡ true) × (b ≡ true)
 both true b h = (refl, h)
 both false b h = absurd (false≢true h)
 

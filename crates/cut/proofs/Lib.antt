@@ -10,6 +10,7 @@ pub mod Places
 pub mod Tagging
 pub mod Stepping
 pub mod Spots
+pub mod Skipping
 pub mod Searching
 pub mod Finding
 pub mod Outside

@@ -33,7 +33,7 @@ pub tag-first : (a b c : ℕ) (bs : List ℕ) → tagOf (a ∷ b ∷ c ∷ bs) �
 unfolding tagOf begins
 tag-first a b c bs = refl
 
-tag-not-U : (a : ℕ) (bs : List ℕ) → (a ≡ 85 → ⊥) → tagOf (a ∷ bs) ≡ Other
+pub tag-not-U : (a : ℕ) (bs : List ℕ) → (a ≡ 85 → ⊥) → tagOf (a ∷ bs) ≡ Other
 unfolding tagOf begins
 tag-not-U a bs n = rw (ne-eqb _ _ n)
 
@@ -92,16 +92,16 @@ third true p q o x z w ss ws = sym (tag-first x z w ws)
 third false p q o x z w [] ws = sym (tag-first x z w ws)
 third false p q o x z w (s ∷ ss) ws = tag-first x z w (s .bytes) ∙ sym (tag-first x z w ws)
 
-module _ (y : Syntax) (no-U : y .terminator ≡ 85 → ⊥) (no-N : y .terminator ≡ 78 → ⊥) where
-  ends-terminator : (r : Bool) (x : ℕ) → ends y r x ≡ true → x ≡ y .terminator
-  unfolding ends
-  ends-terminator true x h = absurd (false≢true h)
-  ends-terminator false x h = eqb-true _ _ h
+pub ends-terminator : (y : Syntax) (r : Bool) (x : ℕ) → ends y r x ≡ true → x ≡ y .terminator
+unfolding ends
+ends-terminator y true x h = absurd (false≢true h)
+ends-terminator y false x h = eqb-true _ _ h
 
+module _ (y : Syntax) (no-U : y .terminator ≡ 85 → ⊥) (no-N : y .terminator ≡ 78 → ⊥) where
   second : (e : Bool) (p x z : ℕ) (r : Bool) (zs : List ℕ) → ends y r z ≡ e → firstTag (join false p x (join e (suc p) z (segmentsFrom y (suc (suc p)) (frees y r z) zs))) ≡ tagOf (x ∷ z ∷ zs)
   unfolding firstTag join segmentsFrom
   second true p x z r zs h =
-      let n : z ≡ 78 → ⊥ = λ e. no-N (sym (ends-terminator r z h) ∙ e) in
+      let n : z ≡ 78 → ⊥ = λ e. no-N (sym (ends-terminator y r z h) ∙ e) in
       tag-not-N x z [] n ∙ sym (tag-not-N x z zs n)
   second false p x z r [] h = refl
   second false p x z r (w ∷ ws) h = third (ends y (frees y r z) w) p (suc p) (suc (suc p)) x z w _ ws
@@ -109,7 +109,7 @@ module _ (y : Syntax) (no-U : y .terminator ≡ 85 → ⊥) (no-N : y .terminato
   leading : (e : Bool) (p x : ℕ) (xs : List ℕ) → ends y false x ≡ e → firstTag (join e p x (segmentsFrom y (suc p) (frees y false x) xs)) ≡ tagOf (x ∷ xs)
   unfolding firstTag join segmentsFrom
   leading true p x xs h =
-      let n : x ≡ 85 → ⊥ = λ e. no-U (sym (ends-terminator false x h) ∙ e) in
+      let n : x ≡ 85 → ⊥ = λ e. no-U (sym (ends-terminator y false x h) ∙ e) in
       tag-not-U x [] n ∙ sym (tag-not-U x xs n)
   leading false p x [] h = refl
   leading false p x (z ∷ zs) h = second (ends y (frees y false x) z) p x z (frees y false x) zs refl

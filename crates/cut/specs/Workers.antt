@@ -1,7 +1,7 @@
 -- What the private workers of the walks answer. The public answers are those of Calls; laws in proofs/ tie the two.
 use Prim.Native.Nat.{ℕ, _+_, _≤_, _<_}
 use mathlib.Core.Path.{_≡_}
-use mathlib.Core.Bool.{Bool, true, false, _||_}
+use mathlib.Core.Bool.{Bool, true, false, _&&_, _||_}
 use mathlib.Core.List.{List, [], _∷_}
 use lib.ListN.{length, getD, drop}
 use lib.Dec.{leb, eqb}
@@ -15,7 +15,7 @@ use Rattle.cut.specs.declared.tags.Spot.the-variants as spot
 use Rattle.cut.specs.declared.message.Found.{Found}
 use Rattle.cut.specs.declared.message.Found.the-variants as found
 use Rattle.cut.specs.Segments.{Segment, endOf, segmentsFrom}
-use Rattle.cut.specs.Messages.{Message, tagOf, keepIf}
+use Rattle.cut.specs.Messages.{Message, tagOf, lastEnd, body, keepIf}
 use Rattle.cut.specs.Calls.{asFound}
 
 -- the answer for a segment that began at `at`, from the segments of the bytes from i on
@@ -41,6 +41,21 @@ isMark y x = eqb x (y .terminator) || eqb x (y .release)
 pub record Marked (y : Syntax) (d : List ℕ) (i j : ℕ) : Type 0 where
   pub passed : Onward y d i false j
   pub mark : j < length d → (getD d j 0 ≡ y .terminator → ⊥) → getD d j 0 ≡ y .release
+
+-- whether the terminator stands at k and U (85) behind it
+unfoldable pub beforeU : Syntax → List ℕ → ℕ → Bool
+beforeU y d k = eqb (getD d k 0) (y .terminator) && eqb (getD d (k + 1) 0) 85
+
+-- from i up to j it stands nowhere so
+pub record NoU (y : Syntax) (d : List ℕ) (i j : ℕ) : Type 0 where
+  pub onward : i ≤ j
+  pub inside : j ≤ length d
+  pub none : (k : ℕ) → i ≤ k → k < j → beforeU y d k ≡ false
+
+-- a message that is open before the segment at i ends where one does that is open before the segment at j, not before i
+pub record Skipped (y : Syntax) (d : List ℕ) (i j : ℕ) : Type 0 where
+  pub onward : i ≤ j
+  pub same : lastEnd i (body (segmentsFrom y i false (drop i d))) ≡ lastEnd j (body (segmentsFrom y j false (drop j d)))
 
 -- the first of some segments, by its tag
 unfoldable pub headSpot : List Segment → Spot

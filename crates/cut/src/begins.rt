@@ -56,7 +56,7 @@ pub(crate) fn first_from(y: Syntax, d: &[u8], first: usize, from: usize) -> usiz
 }
 
 // Whether the bytes from `first` up to `at` end where a segment ends.
-fn follows_end(y: Syntax, d: &[u8], first: usize, at: usize) -> bool
+pub(crate) fn follows_end(y: Syntax, d: &[u8], first: usize, at: usize) -> bool
     requires { ⌜ (first ≤ at) × (at < length (now d)) ⌝ }
     ensures { λ r. ⌜ r ≡ whole (segmentsFrom y first false (part first at (now (d .entry)))) ⌝ }
 {

@@ -1,6 +1,7 @@
 // Cuts a delivery of EDIFACT bytes into segments and finds its messages, for any service characters. No call asks anything of its
 // caller, and each says its whole answer by a definition of specs/. The calls of `base` run at the service characters `:+.?'`.
 mod admit;
+mod ahead;
 pub mod base;
 mod begins;
 mod eights;

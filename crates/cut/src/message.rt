@@ -1,6 +1,7 @@
 // Messages, found by walking segments.
 use crate::admit::admission;
 use crate::admit::opening;
+use crate::ahead::next_u;
 use crate::begins::begins_segment;
 use crate::begins::first_from;
 use crate::service::Syntax;
@@ -90,12 +91,13 @@ fn next_from(y: Syntax, d: &[u8], from: usize) -> Found
     }
 }
 
-// Where the message ends whose first segment ends at `from`.
+// Where the message ends whose first segment ends at `from`. Only segments that begin with U are cut.
 pub fn message_end(y: Syntax, d: &[u8], from: usize) -> usize
     ensures { λ r. ⌜ r ≡ lastEnd from (body (segmentsFrom y from false (drop from (now (d .entry))))) ⌝ }
 {
-    let mut at = from;
+    let mut next = from;
     loop {
+        let at = next_u(y, d, next);
         let s = spot_at(y, d, at);
         let Spot::At { start: _, tag, end } = s else {
             return at;
@@ -103,7 +105,7 @@ pub fn message_end(y: Syntax, d: &[u8], from: usize) -> usize
         if !goes_on(tag) {
             return last_end(tag, at, end);
         }
-        at = end;
+        next = end;
     }
 }
 

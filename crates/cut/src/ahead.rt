@@ -1,0 +1,66 @@
+// Where the next segment begins that can end a message: one that begins with U (85), as UNH, UNT and UNZ do.
+use crate::begins::follows_end;
+use crate::eights::alike;
+use crate::eights::eight_from;
+use crate::eights::first_of;
+use crate::service::Syntax;
+ghost use Prim.Native.Nat.{_≤_, _<_};
+ghost use mathlib.Core.Bool.{false, _&&_};
+ghost use mathlib.Core.Path.{_≡_};
+ghost use lib.ListN.{length, getD};
+ghost use lib.Dec.{eqb};
+ghost use Rattle.cut.specs.Bytes.{part};
+ghost use Rattle.cut.specs.Segments.{segmentsFrom};
+ghost use Rattle.cut.specs.Fronts.{whole};
+ghost use Rattle.cut.specs.Workers.{NoU, Skipped};
+
+// The first segment from the one at `from` on that begins with U; the delivery's end, if none does. No byte is looked at again and again:
+// behind a place that is none the search goes on.
+pub(crate) fn next_u(y: Syntax, d: &[u8], from: usize) -> usize
+    ensures { λ r. ⌜ Skipped y (now (d .entry)) from r ⌝ }
+{
+    if d.len() <= from {
+        return from;
+    }
+    if d[from] == 85 {
+        return from;
+    }
+    let mut i = from;
+    loop {
+        let k = before_u(y, d, i);
+        if d.len() - k < 2 {
+            return d.len();
+        }
+        if begins_u(y, d, from, k + 1) {
+            return k + 1;
+        }
+        i = k + 1;
+    }
+}
+
+// The place of the next terminator from `from` on that U follows; where there is none, one of the last that eight bytes do not stand behind.
+fn before_u(y: Syntax, d: &[u8], from: usize) -> usize
+    requires { ⌜ from ≤ length (now d) ⌝ }
+    ensures { λ r. ⌜ NoU y (now (d .entry)) from r ⌝ }
+{
+    let mut i = from;
+    while 9 <= d.len() - i {
+        let m = alike(eight_from(d, i), y.terminator) & alike(eight_from(d, i + 1), 85);
+        if m != 0 {
+            return i + first_of(m);
+        }
+        i += 8;
+    }
+    i
+}
+
+// Whether a segment begins with U at `at`, behind the one at `from`.
+fn begins_u(y: Syntax, d: &[u8], from: usize, at: usize) -> bool
+    requires { ⌜ (from ≤ at) × (at < length (now d)) ⌝ }
+    ensures { λ r. ⌜ r ≡ (eqb (getD (now (d .entry)) at 0) 85 && whole (segmentsFrom y from false (part from at (now (d .entry))))) ⌝ }
+{
+    if d[at] != 85 {
+        return false;
+    }
+    follows_end(y, d, from, at)
+}
