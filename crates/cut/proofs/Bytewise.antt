@@ -1,7 +1,7 @@
 -- Operations on eight bytes at once work on each byte apart, so that a fact about one byte, computed for each of the 256, is one about all eight.
 use Prim.Native.Nat.{ℕ, zero, suc, _+_, _-_, _*_, _/_, _%_, _^_, _≤_, _<_}
 use mathlib.Core.Path.{_≡_, refl, sym, ap, _∙_}
-use mathlib.Core.Bool.{Bool, true, false, cond, _&&_, _||_}
+use mathlib.Core.Bool.{Bool, true, false, cond, _||_}
 use mathlib.Core.List.{List}
 use native.Mathlib.Nat.{suc-add, suc-mul, add-comm, pow-suc, one-le-pow}
 use native.Mathlib.Omega.{arith}
@@ -52,7 +52,7 @@ unfolding number
 number-add zero x y = refl
 number-add (suc n) x y = omega (arith, number-add n (λ k. x (suc k)) (λ k. y (suc k)))
 
-number-byte : (n : ℕ) (x : ℕ → ℕ) → ((k : ℕ) → x k < 256) → (k : ℕ) → k < n → byteOf (number n x) k ≡ x k
+pub number-byte : (n : ℕ) (x : ℕ → ℕ) → ((k : ℕ) → x k < 256) → (k : ℕ) → k < n → byteOf (number n x) k ≡ x k
 unfolding number byteOf
 number-byte zero x h k l = absurd (omega arith)
 number-byte (suc n) x h zero l = omega (arith, h 0)
@@ -145,11 +145,6 @@ flag-or true true = refl
 flag-or true false = refl
 flag-or false b = refl
 
-flag-and : (a b : Bool) → bitAnd (flag a) (flag b) ≡ flag (a && b)
-flag-and true true = refl
-flag-and true false = refl
-flag-and false b = refl
-
 flag-eq : (a b : Bool) → flag a ≡ flag b → a ≡ b
 flag-eq true true e = refl
 flag-eq true false e = absurd (omega arith)
@@ -167,9 +162,6 @@ flags-of p t h = p .worth ∙ λ i. number 8 (λ k. h k i)
 
 pub flags-or : (s t : ℕ → Bool) → bitOr (flags s) (flags t) ≡ flags (λ k. s k || t k)
 flags-or s t = flags-of (eight-or (eight-flags s) (eight-flags t)) (λ k. s k || t k) (λ k. flag-or (s k) (t k))
-
-flags-and : (s t : ℕ → Bool) → bitAnd (flags s) (flags t) ≡ flags (λ k. s k && t k)
-flags-and s t = flags-of (eight-and (eight-flags s) (eight-flags t)) (λ k. s k && t k) (λ k. flag-and (s k) (t k))
 
 flags-same : (s t : ℕ → Bool) → flags s ≡ flags t → (k : ℕ) → k < 8 → s k ≡ t k
 unfolding flags
@@ -199,16 +191,6 @@ flagged-there d i w test m h b e f =
     f
     ∙ number-like 8 (λ k. flag (test (byteOf w k))) (λ k. flag (test (onFrom d i k)))
     (λ k l. ap (λ (x : ℕ). flag (test x)) (ap (λ (v : ℕ). byteOf v k) e ∙ byte-there d i k h b l))
-
--- tests of the eight from i on and of the eight from j on, both passed
-pub flagged-both
-    : (d : List ℕ) (i j v w : ℕ) (test other : ℕ → Bool) (m n : ℕ) → i + 8 ≤ length d → j + 8 ≤ length d → ((k : ℕ) → getD d k 0 < 256)
-    → v ≡ eightAt d i → Flagged v test m → w ≡ eightAt d j → Flagged w other n
-    → bitAnd m n ≡ flags (λ k. test (onFrom d i k) && other (onFrom d j k))
-flagged-both d i j v w test other m n h l b e f g o =
-    let p = flagged-there d i v test m h b e f in
-    let q = flagged-there d j w other n l b g o in
-    rw (p, q) (flags-and (λ k. test (onFrom d i k)) (λ k. other (onFrom d j k)))
 
 -- ---- the first bytes alone
 
@@ -254,7 +236,7 @@ unfolding number
 high = record { worth = refl; bytes = λ k. omega arith }
 
 -- the differences of eight bytes from the byte b
-abbrev apartBy : ℕ → ℕ → ℕ
+abbrev pub apartBy : ℕ → ℕ → ℕ
 apartBy w b = bitXor w (0x0101_0101_0101_0101 * b)
 
 pub alike-fits : (w b : ℕ) → bitAnd (apartBy w b) 0x7f7f_7f7f_7f7f_7f7f + 0x7f7f_7f7f_7f7f_7f7f < 2 ^ 64

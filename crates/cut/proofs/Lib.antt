@@ -30,5 +30,6 @@ pub mod Face
 pub mod Kept
 pub mod Every
 pub mod Bytewise
+pub mod Paired
 pub mod Clearing
 pub mod Carrying

@@ -1,6 +1,6 @@
 // Where the next segment begins that can end a message: one that begins with U (85), as UNH, UNT and UNZ do.
 use crate::begins::follows_end;
-use crate::eights::alike;
+use crate::eights::both_alike;
 use crate::eights::eight_from;
 use crate::eights::first_of;
 use crate::service::Syntax;
@@ -43,9 +43,13 @@ fn before_u(y: Syntax, d: &[u8], from: usize) -> usize
     requires { ⌜ from ≤ length (now d) ⌝ }
     ensures { λ r. ⌜ NoU y (now (d .entry)) from r ⌝ }
 {
+    if d.len() < 9 {
+        return from;
+    }
+    let end = d.len() - 8;
     let mut i = from;
-    while 9 <= d.len() - i {
-        let m = alike(eight_from(d, i), y.terminator) & alike(eight_from(d, i + 1), 85);
+    while i < end {
+        let m = both_alike(eight_from(d, i), y.terminator, eight_from(d, i + 1), 85);
         if m != 0 {
             return i + first_of(m);
         }

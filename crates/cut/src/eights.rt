@@ -3,7 +3,10 @@ ghost use mathlib.Core.Path.{_≡_};
 ghost use Prim.Native.Nat.{_+_, _*_, _≤_};
 ghost use lib.ListN.{length};
 ghost use lib.Dec.{eqb};
-ghost use Rattle.cut.specs.Eights.{eightAt, Flagged, firstByte};
+ghost use mathlib.Core.Bool.{_&&_};
+ghost use Rattle.cut.specs.Eights.{eightAt, byteOf, flags, Flagged, firstByte};
+
+const ONES: u64 = 0x0101_0101_0101_0101;
 
 const LOW: u64 = 0x7f7f_7f7f_7f7f_7f7f;
 
@@ -57,8 +60,15 @@ pub(crate) fn eight_from(d: &[u8], at: usize) -> u64
 pub fn alike(w: u64, x: u8) -> u64
     ensures { λ r. ⌜ Flagged w (λ b. eqb b x) r ⌝ }
 {
-    let v = w ^ 0x0101_0101_0101_0101 * (x as u64);
+    let v = w ^ ONES * (x as u64);
     (((v & LOW) + LOW | v) & HIGH) ^ HIGH
+}
+
+// The high bit of each place at which v has the byte a and w the byte b. Both differences are joined, so that one test serves both.
+pub(crate) fn both_alike(v: u64, a: u8, w: u64, b: u8) -> u64
+    ensures { λ r. ⌜ r ≡ flags (λ k. eqb (byteOf v k) a && eqb (byteOf w k) b) ⌝ }
+{
+    alike(v ^ ONES * (a as u64) | w ^ ONES * (b as u64), 0)
 }
 
 // The first of eight bytes that is not 0, as the first of those that are flagged; 8, if there is none.
