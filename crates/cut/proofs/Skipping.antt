@@ -7,7 +7,7 @@ use native.Mathlib.Nat.{add-zero, le-refl}
 use native.Mathlib.Omega.{arith}
 use lib.ListN.{length, getD, drop, List·getD-eq-default}
 use lib.Dec.{eqb, ltb}
-use borrow.Author.Tests.{eq-eqb, eqb-true, eqb-false, ltb-true, ltb-false}
+use borrow.Author.Tests.{eq-eqb, ltb-true, ltb-false}
 use Rattle.cut.specs.declared.service.Syntax.{Syntax}
 use Rattle.cut.specs.Bytes.{part}
 use Rattle.cut.specs.Segments.{Segment, ends, frees, join, segmentsFrom}
@@ -73,7 +73,7 @@ module _ (y : Syntax) (d : List ℕ) where
   open-step true i r h e n = open-end i r h e ∙ rw (ends-frees y r (getD d i 0) e) (opened (i + 1) (n refl))
   open-step false i r h e n = rw (segments-at y d i r h, e) (open-more i (getD d i 0) _)
 
-  -- a segment begins at `from`, and from there up to i none begins with U, nor does one at i
+  -- a message that is open before the segment at `from` has the end that is seen from i, in a segment that does not end it
   pub record Passed (from i : ℕ) : Type 0 where
     pub onward : from ≤ i
     pub inside : i ≤ length d
@@ -85,6 +85,7 @@ module _ (y : Syntax) (d : List ℕ) where
       record { onward = le-refl from; inside = omega arith; same = rw (part-none d from from (le-refl from)) (opened from n) }
 
   module _ (from i : ℕ) (q : Passed from i) where
+    -- a byte, unless it ends a segment and U follows
     passed-by : i < length d → (ends y (after y false (part from i d)) (getD d i 0) ≡ true → getD d (i + 1) 0 ≡ 85 → ⊥) → Passed from (i + 1)
     passed-by h n =
         let o = q .onward in
@@ -128,7 +129,7 @@ module _ (y : Syntax) (d : List ℕ) where
           same = q .same ∙ rw (segments-none y d i (after y false (part from i d)) h, segments-none y d (length d) false (le-refl _)) z;
         }
 
-  -- the last byte
+  -- at the last byte, or past it
   pub passed-out : (from i : ℕ) → Passed from i → length d - i < 2 → Skipped y d from (length d)
   passed-out from i q h = go (ltb i (length d)) refl
     where
@@ -140,6 +141,7 @@ module _ (y : Syntax) (d : List ℕ) where
           passed-end from (i + 1) (passed-by from i q l (λ t u. omega arith)) past
       go false e = passed-end from i q (ltb-false _ _ e)
 
+  -- n bytes, none of them the terminator before U
   passed-more
       : (n from i : ℕ) → Passed from i → i + n ≤ length d → ((k : ℕ) → i ≤ k → k < i + n → beforeU y d k ≡ false) → Passed from (i + n)
   unfolding beforeU

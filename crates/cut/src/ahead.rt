@@ -14,8 +14,8 @@ ghost use Rattle.cut.specs.Segments.{segmentsFrom};
 ghost use Rattle.cut.specs.Fronts.{whole};
 ghost use Rattle.cut.specs.Workers.{NoU, Skipped};
 
-// The first segment from the one at `from` on that begins with U; the delivery's end, if none does. No byte is looked at again and again:
-// behind a place that is none the search goes on.
+// Where the first segment begins with U, from the one at `from` on; the delivery's end, if none does. Behind a released terminator the search
+// goes on, so that each byte is passed once.
 pub(crate) fn next_u(y: Syntax, d: &[u8], from: usize) -> usize
     ensures { λ r. ⌜ Skipped y (now (d .entry)) from r ⌝ }
 {
@@ -38,7 +38,8 @@ pub(crate) fn next_u(y: Syntax, d: &[u8], from: usize) -> usize
     }
 }
 
-// The place of the next terminator from `from` on that U follows; where there is none, one of the last that eight bytes do not stand behind.
+// The next place from `from` on at which the terminator stands and U behind it. Eight places are tested at once, while nine bytes are there;
+// if they show none, the first place that is not tested.
 fn before_u(y: Syntax, d: &[u8], from: usize) -> usize
     requires { ⌜ from ≤ length (now d) ⌝ }
     ensures { λ r. ⌜ NoU y (now (d .entry)) from r ⌝ }

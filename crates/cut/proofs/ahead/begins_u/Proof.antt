@@ -1,5 +1,4 @@
 -- `cut::ahead::begins_u` meets its contract, test by test.
-use mathlib.Core.Path.{sym, _∙_}
 use borrow.Author.Tests.{eq-eqb, ne-eqb}
 use borrow.Author.Needs.{needs}
 use Rattle.cut.proofs.ahead.begins_u.Statement.{statement}

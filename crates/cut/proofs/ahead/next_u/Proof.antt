@@ -1,6 +1,5 @@
 -- `cut::ahead::next_u` meets its contract. The loop's invariant: up to here no segment begins with U.
 use Prim.Native.Nat.{_-_}
-use mathlib.Core.Path.{_≡_, sym, _∙_}
 use native.Mathlib.Omega.{arith}
 use borrow.Author.Needs.{needs}
 use lib.ListN.{length}
