@@ -27,6 +27,12 @@ outer-message Unt e u = absurd (false≢true u)
 outer-message Unz e u = absurd (false≢true u)
 outer-message Other e u = absurd (false≢true u)
 
+-- the first of these segments begins a message
+pub outer-unh : (ss : List Segment) → isUnh (firstTag ss) ≡ true → outer.Message ≡ headOuter ss
+unfolding firstTag headOuter
+outer-unh [] u = absurd (false≢true u)
+outer-unh (s ∷ ss) u = outer-message (tagOf (s .bytes)) (endOf s) u
+
 pub outer-segment : (t : Tag) (e : ℕ) → isUnh t ≡ false → outer.Segment e ≡ outerBy t e
 outer-segment Unh e u = absurd (true≢false u)
 outer-segment Unt e u = refl

@@ -6,10 +6,11 @@ use crate::service::Syntax;
 use crate::tags::Tag;
 use crate::tags::tag_of;
 ghost use mathlib.Core.Path.{_≡_};
-ghost use mathlib.Core.Bool.{false};
+ghost use mathlib.Core.Bool.{true, false};
 ghost use lib.ListN.{drop};
 ghost use Rattle.cut.specs.Segments.{segmentsFrom};
 ghost use Rattle.cut.specs.Held.{outerBy, headOuter};
+ghost use Rattle.cut.specs.Workers.{firstTag, isUnh};
 
 // A message begins there; or a segment outside, which ends at `end`; or nothing.
 pub enum Outer {
@@ -27,10 +28,29 @@ fn by_tag(tag: Tag, end: usize) -> Outer
     Outer::Segment { end }
 }
 
+// Whether a message surely begins at `at`: where neither U nor N ends a segment, three bytes tell it, and nothing is cut.
+fn begins_unh(y: Syntax, d: &[u8], at: usize) -> bool
+    ensures { λ r. ⌜ (r ≡ true → isUnh (firstTag (segmentsFrom y at false (drop at (now (d .entry))))) ≡ true) ⌝ }
+{
+    if y.terminator == 85 {
+        return false;
+    }
+    if y.terminator == 78 {
+        return false;
+    }
+    if d.len() <= at {
+        return false;
+    }
+    begins_message(tag_of(d, at, d.len()))
+}
+
 // What the bytes from `at` on begin with, where no message is open.
 pub fn outer_at(y: Syntax, d: &[u8], at: usize) -> Outer
     ensures { λ r. ⌜ r ≡ headOuter (segmentsFrom y at false (drop at (now (d .entry)))) ⌝ }
 {
+    if begins_unh(y, d, at) {
+        return Outer::Message;
+    }
     let c = segment_at(y, d, at);
     let Cut::Segment {
         start,

@@ -1,10 +1,16 @@
 -- `cut::outer::outer_at` meets its contract.
 use mathlib.Core.Path.{sym, _∙_}
 use Rattle.cut.proofs.First.{cutting}
-use Rattle.cut.proofs.Passing.{outer-none, outer-some}
+use Rattle.cut.proofs.Passing.{outer-unh, outer-none, outer-some}
 use borrow.Author.Needs.{needs}
 use Rattle.cut.proofs.outer.outer_at.Statement.{statement}
 use Rattle.cut.proofs.outer.outer_at.Tie as tie
+
+begins-unh-requires : tie.Need-begins-unh-requires
+begins-unh-requires c κs = search needs
+
+returns : tie.Need-returns
+returns c = outer-unh _ (c .before .begins-unh .ensures (c .if1 .taken))
 
 segment-at-requires : tie.Need-segment-at-requires
 segment-at-requires c κs = search needs
@@ -15,8 +21,8 @@ enum-known-c c = search needs
 enum-told : tie.Need-enum-told
 enum-told c = search needs
 
-returns : tie.Need-returns
-returns c = outer-none _ _ _ (sym (c .before .before .segment-at .ensures) ∙ c .enum-told .given .1)
+returns-2 : tie.Need-returns-2
+returns-2 c = outer-none _ _ _ (sym (c .before .before .segment-at .ensures) ∙ c .enum-told .given .1)
 
 tag-of-requires : tie.Need-tag-of-requires
 tag-of-requires c κs =
@@ -26,8 +32,8 @@ tag-of-requires c κs =
 by-tag-requires : tie.Need-by-tag-requires
 by-tag-requires c κs = search needs
 
-returns-2 : tie.Need-returns-2
-returns-2 c =
+returns-3 : tie.Need-returns-3
+returns-3 c =
     let tagged = c .before in
     let some = tagged .before in
     outer-some _ _ _ _ _ _ (sym (some .before .before .before .segment-at .ensures) ∙ some .before .c .given .1) _ (tagged .tag-of .ensures) _ (c .by-tag .ensures)
@@ -35,4 +41,4 @@ returns-2 c =
 pub outer-at-spec : {M : Type 1} → statement M
 outer-at-spec =
     tie.close
-    (tie.spec segment-at-requires enum-known-c enum-told returns tag-of-requires by-tag-requires returns-2)
+    (tie.spec begins-unh-requires returns segment-at-requires enum-known-c enum-told returns-2 tag-of-requires by-tag-requires returns-3)
