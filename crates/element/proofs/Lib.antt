@@ -7,6 +7,7 @@ pub mod Summing
 pub mod Limits
 pub mod Cuts
 pub mod FrontKeys
+pub mod UsualServices
 pub mod ComponentFace
 pub mod MarkFace
 pub mod ComponentSamples

@@ -1,3 +1,3 @@
 pub mod Flags
 pub mod Marks
-pub mod Going
+pub mod Behind

@@ -9,3 +9,4 @@ pub mod Joined
 pub mod Released
 pub mod Whole
 pub mod Walking
+pub mod Counting

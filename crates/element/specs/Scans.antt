@@ -7,9 +7,7 @@ use lib.ListN.{length, getD}
 use lib.Dec.{leb}
 use Rattle.cut.specs.Eights.{flags}
 use Rattle.cut.specs.declared.service.Syntax.{Syntax}
-use Rattle.element.specs.Components.{extentOf}
 use Rattle.element.specs.Services.{isService, Service}
-use Rattle.element.specs.declared.ahead.Ahead.{Ahead}
 use Rattle.element.specs.declared.ahead.Scan.{Scan}
 
 -- whether byte k of the word that ends before the place next passes the test t and is not before the place a
@@ -38,9 +36,3 @@ pub record Sought (y : Syntax) (d : List ℕ) (a limit : ℕ) (r : Scan) : Type 
   pub onward : a < r .at
   pub service : r .at ≤ limit → Service y d a limit (r .at - 1)
   pub scanned : Scanned y d (r .at) (r .next) (r .left)
-
--- r says of the component that begins at the place a where it ends, and what is tested behind it
-pub record AheadOf (y : Syntax) (d : List ℕ) (a limit : ℕ) (r : Ahead) : Type 0 where
-  pub ends : r .end ≡ extentOf y d a limit .end
-  pub onward : r .scan .at ≡ r .end + 1
-  pub scanned : Scanned y d (r .scan .at) (r .scan .next) (r .scan .left)

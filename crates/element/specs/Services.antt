@@ -5,6 +5,7 @@ use mathlib.Core.Bool.{Bool, true, false, not, _&&_, _||_}
 use mathlib.Core.List.{List}
 use lib.ListN.{getD}
 use lib.Dec.{eqb}
+use Rattle.cut.specs.Base.{edifact}
 use Rattle.cut.specs.declared.service.Syntax.{Syntax}
 use Rattle.element.specs.Clean.{between, allowedByte}
 use Rattle.element.specs.Elements.{endingOf, stays}
@@ -30,3 +31,9 @@ isMark y x = isService y x || not (allowedByte x)
 -- whether the four service characters that these are made of are allowed bytes, none of them a letter or with its high bit set
 unfoldable pub plainServices : Syntax → Bool
 plainServices y = between 32 64 (y .terminator) && (between 32 64 (y .element) && (between 32 64 (y .component) && between 32 64 (y .release)))
+
+-- whether these four are the usual ones
+unfoldable pub usualServices : Syntax → Bool
+usualServices y =
+    eqb (y .terminator) (edifact .terminator)
+    && (eqb (y .element) (edifact .element) && (eqb (y .component) (edifact .component) && eqb (y .release) (edifact .release)))

@@ -8,6 +8,7 @@ mod limit;
 mod literals;
 mod plain;
 mod scan;
+mod usual;
 mod words;
 
 pub use clean::allowed;
@@ -26,4 +27,5 @@ pub use plain::same_plain;
 pub use scan::Extent;
 pub use scan::component_from;
 pub use scan::services_in;
+pub use usual::has_usual_services;
 pub use words::word_of;

@@ -19,7 +19,7 @@ pub struct Extent {
     pub length: usize,
 }
 
-pub(crate) fn stays_in(y: Syntax, released: bool, x: u8) -> bool
+fn stays_in(y: Syntax, released: bool, x: u8) -> bool
     ensures { λ r. ⌜ r ≡ stays (endingOf y released x) ⌝ }
 {
     if released {

@@ -4,7 +4,7 @@ use mathlib.Core.Path.{_≡_, refl, sym, ap, _∙_}
 use mathlib.Core.Bool.{true, false, false≢true}
 use mathlib.Core.List.{List, _∷_}
 use native.Mathlib.Omega.{arith}
-use borrow.Author.Tests.{eq-eqb, ne-eqb}
+use borrow.Author.Tests.{eq-eqb}
 use lib.ListN.{length, getD}
 use Rattle.cut.specs.Bytes.{part}
 use Rattle.cut.specs.Segments.{frees}
@@ -25,11 +25,6 @@ module _ (y : Syntax) (x : ℕ) where
   pub stays-inside : stays (endingOf y false x) ≡ true → x ≡ y .terminator → ⊥
   unfolding stays endingOf
   stays-inside h e = false≢true (rw (eq-eqb x (y .terminator) e) at h)
-
-  -- so the release character that stays in its component releases the next byte
-  pub mark-stays : x ≡ y .release → stays (endingOf y false x) ≡ true → releases y false x ≡ true
-  unfolding releases frees
-  mark-stays e h = rw (h, ne-eqb x (y .terminator) (stays-inside h), eq-eqb x (y .release) e)
 
   module _ (f : releases y false x ≡ true) where
     pub mark-both : (stays (endingOf y false x) ≡ true) × (frees y false x ≡ true)

@@ -14,66 +14,76 @@ use Rattle.element.specs.Components.{spanIn, componentAt}
 use Rattle.element.specs.Cursors.{rest, done, cursorAt, opening, Stopped}
 use Rattle.element.specs.declared.components.Span.{Span}
 use Rattle.element.specs.declared.cursor.Cursor.{Cursor}
+use Rattle.element.proofs.Limits.{limited}
 use Rattle.element.proofs.cursor.Standing.{Stands, standing-of, rest-done}
 use Rattle.element.proofs.cursor.Onward.{nextBy, after-none, after-segment, after-element, after-component, step-at}
 use Rattle.element.proofs.cursor.Visits.{Visited, visited}
-use Rattle.element.proofs.components.Searching.{search-begins, search-out, search-found, search-next}
+use Rattle.element.proofs.components.Searching.{search-begins, search-out, search-later, search-found, search-next}
 
 -- the cursor before component c of element e, at the place i
 abbrev at : ℕ → ℕ → ℕ → ℕ → Cursor
 at e c i end = record { element = e; component = c; place = i; end = end }
 
-module _ (y : Syntax) (d : List ℕ) (start end element component′ limit : ℕ) where
+module _ (y : Syntax) (d : List ℕ) (start element component′ limit : ℕ) where
   -- where the component that is looked for stands; a missing one
   abbrev answer : Span
-  answer = componentAt y d start end element component′
+  answer = componentAt y d start limit element component′
 
   abbrev missing : Span
   missing = record { start = start; end = start }
 
   -- the walk stands before component c of element e, at the place i, and the search among what is left gives the answer
   pub record Walking (e c i : ℕ) : Type 0 where
-    pub within : limit ≡ min end (length d)
-    pub stands : Stands d (at e c i end)
-    pub search : spanIn start element component′ (rest y d (at e c i end)) ≡ answer
+    pub within : limit ≤ length d
+    pub stands : Stands d (at e c i limit)
+    pub search : spanIn start element component′ (rest y d (at e c i limit)) ≡ answer
 
-  module _ (w : limit ≡ min end (length d)) where
-    pub walk-none : limit ≤ start → missing ≡ answer
+  -- an end past the delivery counts as the delivery's end
+  module _ (end : ℕ) (w : limit ≡ min end (length d)) where
+    pub walk-limited : answer ≡ componentAt y d start end element component′
+    unfolding componentAt
+    walk-limited = rw (limited d start end limit w)
+
+    pub walk-none : limit ≤ start → missing ≡ componentAt y d start end element component′
     unfolding opening
     walk-none h =
         let l : min end (length d) ≤ start = omega arith in
         sym (search-out y d start element component′ done (rest-done y d))
         ∙ search-begins y d start element component′ end done (rw (le-ltb _ _ l))
 
-    pub walk-start : start < limit → (i : ℕ) → i ≡ start → Walking 0 0 i
-    unfolding opening
-    walk-start h i p =
-        let l : start < min end (length d) = omega arith in
-        rw p
-        (record {
-          within = w;
-          stands = record { place = omega arith; element = omega arith; component = omega arith };
-          search = search-begins y d start element component′ end (at 0 0 start end) (rw (lt-ltb _ _ l));
-        })
+  pub walk-start : start < limit → limit ≤ length d → (i : ℕ) → i ≡ start → Walking 0 0 i
+  unfolding opening
+  walk-start h fits i p =
+      let l : start < min limit (length d) = omega arith in
+      rw p
+      (record {
+        within = fits;
+        stands = record { place = omega arith; element = omega arith; component = omega arith };
+        search = search-begins y d start element component′ limit (at 0 0 start limit) (rw (lt-ltb _ _ l));
+      })
+
+  -- in an element behind that of the component
+  pub walk-later : (e c i : ℕ) → Walking e c i → element < e → missing ≡ answer
+  walk-later e c i w h = sym (search-later y d start element component′ (at e c i limit) (standing-of d _ (w .stands)) h) ∙ w .search
 
   module _ (e c i : ℕ) (w : Walking e c i) (stop : ℕ) (s : stop ≡ i + length (component y (part i limit d) 0 0)) where
-    stopped : Stopped y d (at e c i end) stop limit
-    stopped = record { stands = standing-of d _ (w .stands); within = w .within; stops = s }
+    stopped : Stopped y d (at e c i limit) stop limit
+    stopped = record { stands = standing-of d _ (w .stands); within = omega (arith, w .within); stops = s }
 
     abbrev next : Cursor
-    next = cursorAt end (drop 1 (rest y d (at e c i end)))
+    next = cursorAt limit (drop 1 (rest y d (at e c i limit)))
 
-    here : Visited y d (at e c i end) e c i stop next
-    here = visited y d (at e c i end) e c i stop next (step-at y d (at e c i end) stop limit stopped next refl)
+    here : Visited y d (at e c i limit) e c i stop next
+    here = visited y d (at e c i limit) e c i stop next (step-at y d (at e c i limit) stop limit stopped next refl)
 
     pub walk-found : eqb e element && eqb c component′ ≡ true → record { start = i; end = stop } ≡ answer
-    walk-found t = sym (search-found y d start element component′ (at e c i end) e c i stop next here t) ∙ w .search
+    walk-found t = sym (search-found y d start element component′ (at e c i limit) e c i stop next here t) ∙ w .search
 
     module _ (f : eqb e element && eqb c component′ ≡ false) where
       on : (m : Cursor) → next ≡ m → spanIn start element component′ (rest y d m) ≡ answer
       on m h =
           ap (λ (n : Cursor). spanIn start element component′ (rest y d n)) (sym h)
-          ∙ sym (search-next y d start element component′ (at e c i end) e c i stop next here f)
+          ∙ sym (search-next y d start element component′ (at e c i limit) e c i stop next here f)
           ∙ w .search
 
       out : next ≡ done → missing ≡ answer
@@ -84,8 +94,8 @@ module _ (y : Syntax) (d : List ℕ) (start end element component′ limit : ℕ
       walk-out g = go (ltb stop limit) refl (eqb (getD d stop 0) (y .terminator)) refl g
         where
           go : (a : Bool) → ltb stop limit ≡ a → (b : Bool) → eqb (getD d stop 0) (y .terminator) ≡ b → a && not b ≡ false → missing ≡ answer
-          go false p b q g = out (after-none y d (at e c i end) stop limit stopped (ltb-false _ _ p))
-          go true p true q g = out (after-segment y d (at e c i end) stop limit stopped (ltb-true _ _ p) (eqb-true _ _ q))
+          go false p b q g = out (after-none y d (at e c i limit) stop limit stopped (ltb-false _ _ p))
+          go true p true q g = out (after-segment y d (at e c i limit) stop limit stopped (ltb-true _ _ p) (eqb-true _ _ q))
           go true p false q g = absurd (true≢false g)
 
       module _ (g : ltb stop limit && not (eqb (getD d stop 0) (y .terminator)) ≡ true) where
@@ -110,7 +120,7 @@ module _ (y : Syntax) (d : List ℕ) (start end element component′ limit : ℕ
             (record {
               within = w .within;
               stands = record { place = omega arith; element = omega arith; component = omega arith };
-              search = on _ (after-element y d (at e c i end) stop limit stopped (k .1) (k .2) x);
+              search = on _ (after-element y d (at e c i limit) stop limit stopped (k .1) (k .2) x);
             })
 
         pub walk-component : (e′ c′ i′ : ℕ) → (getD d stop 0 ≡ y .element → ⊥) → e′ ≡ e → c′ ≡ c + 1 → i′ ≡ stop + 1 → Walking e′ c′ i′
@@ -123,5 +133,5 @@ module _ (y : Syntax) (d : List ℕ) (start end element component′ limit : ℕ
             (record {
               within = w .within;
               stands = record { place = omega arith; element = omega arith; component = omega arith };
-              search = on _ (after-component y d (at e c i end) stop limit stopped (k .1) (k .2) x);
+              search = on _ (after-component y d (at e c i limit) stop limit stopped (k .1) (k .2) x);
             })

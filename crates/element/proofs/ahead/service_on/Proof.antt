@@ -1,6 +1,7 @@
 -- `element::ahead::service_on` meets its contract. The loop's invariant: from where the bytes were tested up to the first
 -- word, they are tested up to the word that comes next.
 use Prim.Native.Nat.{ℕ, _-_}
+use lib.ListN.{length}
 use native.Mathlib.Omega.{arith}
 use mathlib.Core.Path.{refl}
 use borrow.Author.Needs.{needs}
@@ -8,7 +9,7 @@ use Rattle.cut.proofs.Bytewise.{FirstOf, flagged-there, first-of}
 use Rattle.element.specs.Scans.{waiting, Scanned}
 use Rattle.element.specs.Services.{isService}
 use Rattle.element.proofs.ahead.Flags.{scan-word, scan-flag}
-use Rattle.element.proofs.ahead.Going.{sought-flag, sought-none}
+use Rattle.element.proofs.ahead.Behind.{sought-flag, sought-none}
 use Rattle.element.proofs.ahead.service_on.Statement.{statement}
 use Rattle.element.proofs.ahead.service_on.Tie as tie
 
@@ -16,7 +17,13 @@ abbrev Inv-loop : tie.InvT-loop
 Inv-loop y d limit last n₀ m₀ n m = (a : ℕ) → Scanned y d a n₀ m₀ → Scanned y d a n m
 
 abbrev μ-loop : tie.MeasureT-loop
-μ-loop y d limit last n₀ m₀ n m = limit - n
+μ-loop y d limit last n₀ m₀ n m = length d - n
+
+sub-last : tie.Need-sub-last Inv-loop μ-loop
+sub-last c = omega (arith, c .before .pre .0)
+
+loop-holds : tie.Need-loop-holds Inv-loop μ-loop
+loop-holds c = λ a s. s
 
 add-untested : tie.Need-add-untested Inv-loop μ-loop
 add-untested c = search needs
@@ -26,36 +33,8 @@ untested-requires c κs = search needs
 
 returns : tie.Need-returns Inv-loop μ-loop
 returns c =
-    let p = c .before .before .before .pre in
-    sought-none _ _ _ _ (p .0) (p .1) _ (c .untested .ensures)
-
-sub-last : tie.Need-sub-last Inv-loop μ-loop
-sub-last c = search needs
-
-loop-holds : tie.Need-loop-holds Inv-loop μ-loop
-loop-holds c = λ a s. s
-
-add-untested-2 : tie.Need-add-untested-2 Inv-loop μ-loop
-add-untested-2 c = search needs
-
-untested-requires-2 : tie.Need-untested-requires-2 Inv-loop μ-loop
-untested-requires-2 c κs = search needs
-
-returns-2 : tie.Need-returns-2 Inv-loop μ-loop
-returns-2 c =
-    let p = c .before .before .before .before .before .before .pre in
-    sought-none _ _ _ _ (p .0) (p .1) _ (c .untested2 .ensures)
-
-add-untested-3 : tie.Need-add-untested-3 Inv-loop μ-loop
-add-untested-3 c = search needs
-
-untested-requires-3 : tie.Need-untested-requires-3 Inv-loop μ-loop
-untested-requires-3 c κs = search needs
-
-returns-3 : tie.Need-returns-3 Inv-loop μ-loop
-returns-3 c =
-    let p = c .before .before .before .before .before .before .before .pre in
-    sought-none _ _ _ _ (p .0) (p .1) _ (c .untested3 .ensures)
+    let p = c .before .before .before .before .before .pre in
+    sought-none _ _ _ _ (p .2) (p .1) _ (c .untested .ensures)
 
 eight-at-requires : tie.Need-eight-at-requires Inv-loop μ-loop
 eight-at-requires c κs = search needs
@@ -71,9 +50,9 @@ loop-less c = search needs
 
 loop-again : tie.Need-loop-again Inv-loop μ-loop
 loop-again c = λ a s.
-    let t = c .before .before .before .before in
+    let t = c .before .before .before in
     let l = t .before in
-    let known = l .before .before in
+    let known = l .before in
     let f = flagged-there (known .before .args .d .now) (l .loop .n) _ (isService (known .before .args .y)) _ (omega arith)
     (λ k. omega (arith, known .shared-slice-known .given k)) (c .before .eight-at .ensures) (c .services-in .ensures) in
     scan-word _ _ _ _ _ _ (l .loop .inv a s) (t .loop-test .taken) (omega arith) _ f
@@ -85,31 +64,31 @@ first-of-requires c κs = search needs
 tested
     : (c : tie.After-first-of Inv-loop μ-loop)
     → let l = c .before .before in
-    let a = l .before .before .before .args in
+    let a = l .before .before .args in
     Scanned (a .y) (a .d .now) (a .scan .at) (l .loop .n) (l .loop .m)
 tested c =
     let l = c .before .before in
-    l .loop .inv _ (l .before .before .before .pre .2)
+    l .loop .inv _ (l .before .before .pre .3)
 
 -- the first flag
 first
     : (c : tie.After-first-of Inv-loop μ-loop)
     → let l = c .before .before in
-    let a = l .before .before .before .args in
+    let a = l .before .before .args in
     FirstOf 8 (waiting (isService (a .y)) (a .d .now) (a .scan .at) (l .loop .n)) (c .first-of .result)
 first c = first-of _ _ _ (tested c .flagged) (c .before .loop-test .left) (c .first-of .ensures)
 
-add-t15 : tie.Need-add-t15 Inv-loop μ-loop
-add-t15 c = omega (arith, first c .within, tested c .within)
+add-t12 : tie.Need-add-t12 Inv-loop μ-loop
+add-t12 c = omega (arith, first c .within, tested c .within)
 
-sub-t16 : tie.Need-sub-t16 Inv-loop μ-loop
-sub-t16 c = omega (arith, scan-flag _ _ _ _ _ _ (tested c) _ (first c))
+sub-t13 : tie.Need-sub-t13 Inv-loop μ-loop
+sub-t13 c = omega (arith, scan-flag _ _ _ _ _ _ (tested c) _ (first c))
 
-sub-t17 : tie.Need-sub-t17 Inv-loop μ-loop
-sub-t17 c = omega (arith, c .before .loop-test .left)
+sub-t14 : tie.Need-sub-t14 Inv-loop μ-loop
+sub-t14 c = omega (arith, c .before .loop-test .left)
 
-returns-4 : tie.Need-returns-4 Inv-loop μ-loop
-returns-4 c = sought-flag _ _ _ _ _ (tested c) _ (first c) (c .before .loop-test .left) _ _ refl
+returns-2 : tie.Need-returns-2 Inv-loop μ-loop
+returns-2 c = sought-flag _ _ _ _ _ (tested c) _ (first c) (c .before .loop-test .left) _ _ refl
 
 pub service-on-spec : {M : Type 1} → statement M
 service-on-spec =
@@ -117,24 +96,18 @@ service-on-spec =
     (tie.spec
     Inv-loop
     μ-loop
+    sub-last
+    loop-holds
     add-untested
     untested-requires
     returns
-    sub-last
-    loop-holds
-    add-untested-2
-    untested-requires-2
-    returns-2
-    add-untested-3
-    untested-requires-3
-    returns-3
     eight-at-requires
     services-in-requires
     add-n
     loop-less
     loop-again
     first-of-requires
-    add-t15
-    sub-t16
-    sub-t17
-    returns-4)
+    add-t12
+    sub-t13
+    sub-t14
+    returns-2)
