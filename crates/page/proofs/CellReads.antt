@@ -10,7 +10,6 @@ use Rattle.element.specs.Elements.{endingOf, stays}
 use Rattle.element.specs.Services.{isService}
 use Rattle.element.specs.declared.components.Span.{Span}
 use Rattle.page.specs.Cells.{stepsOf, mayEnd, nextOf, keepOf}
-use Rattle.page.specs.Quick.{usualServices}
 use Rattle.page.specs.declared.places.Places.{Places}
 
 module _ (w n : ℕ) where
@@ -80,24 +79,3 @@ module _ (s : Span) (p : Places) where
   keep-third zero h i = absurd (h refl)
   keep-third (suc zero) h i = absurd (i refl)
   keep-third (suc (suc k)) h i = refl
-
--- ---- the service characters, one test after the other
-
-module _ (y : Syntax) where
-  pub services-first : (y .terminator ≡ 39 → ⊥) → false ≡ usualServices y
-  unfolding usualServices
-  services-first h = rw (ne-eqb (y .terminator) 39 h)
-
-  module _ (h : y .terminator ≡ 39) where
-    pub services-second : (y .element ≡ 43 → ⊥) → false ≡ usualServices y
-    unfolding usualServices
-    services-second k = rw (eq-eqb (y .terminator) 39 h, ne-eqb (y .element) 43 k)
-
-    module _ (k : y .element ≡ 43) where
-      pub services-third : (y .component ≡ 58 → ⊥) → false ≡ usualServices y
-      unfolding usualServices
-      services-third l = rw (eq-eqb (y .terminator) 39 h, eq-eqb (y .element) 43 k, ne-eqb (y .component) 58 l)
-
-      pub services-last : y .component ≡ 58 → eqb (y .release) 63 ≡ usualServices y
-      unfolding usualServices
-      services-last l = rw (eq-eqb (y .terminator) 39 h, eq-eqb (y .element) 43 k, eq-eqb (y .component) 58 l)

@@ -11,19 +11,12 @@ use Rattle.cut.specs.Eights.{eightAt, byteOf}
 use Rattle.cut.specs.declared.service.Syntax.{Syntax}
 use Rattle.cut.proofs.Bytewise.{eight-long}
 use Rattle.element.specs.Clean.{between, capital, endsTag}
-use Rattle.element.specs.Services.{plainServices}
+use Rattle.element.specs.Services.{plainServices, usualServices}
 use Rattle.element.proofs.ComponentFace.{tag-four}
+use Rattle.element.proofs.UsualServices.{usual-are}
 use Rattle.page.specs.Cells.{isTagWord}
-use Rattle.page.specs.Quick.{usualServices, Begun}
+use Rattle.page.specs.Quick.{Begun}
 use Rattle.page.proofs.QuickStart.{two}
-
-usual-are : (y : Syntax) → usualServices y ≡ true → (y .terminator ≡ 39) × (y .element ≡ 43) × (y .component ≡ 58) × (y .release ≡ 63)
-unfolding usualServices
-usual-are y u =
-    let a = two (eqb (y .terminator) 39) _ u in
-    let b = two (eqb (y .element) 43) _ (a .1) in
-    let c = two (eqb (y .component) 58) (eqb (y .release) 63) (b .1) in
-    (eqb-true (y .terminator) 39 (a .0), eqb-true (y .element) 43 (b .0), eqb-true (y .component) 58 (c .0), eqb-true (y .release) 63 (c .1))
 
 usual-plain : (y : Syntax) → usualServices y ≡ true → plainServices y ≡ true
 unfolding plainServices between

@@ -1,11 +1,9 @@
 -- What the quick pass tells of a segment that has no fault. No public promise cites these.
 use Prim.Native.Nat.{ℕ, _+_}
 use mathlib.Core.Path.{_≡_}
-use mathlib.Core.Bool.{Bool, true, false, _&&_}
+use mathlib.Core.Bool.{true, false}
 use mathlib.Core.List.{List}
 use lib.ListN.{length, getD}
-use lib.Dec.{eqb}
-use Rattle.cut.specs.Base.{edifact}
 use Rattle.cut.specs.Bytes.{part}
 use Rattle.cut.specs.Calls.{segmentAt}
 use Rattle.cut.specs.declared.scan.Cut.the-variants as cut
@@ -16,12 +14,6 @@ use Rattle.element.specs.Services.{plainServices}
 use Rattle.guide.specs.Page.{Page}
 use Rattle.guide.specs.PageFault.{pageFault}
 use Rattle.page.specs.declared.quick.Faultless.{Faultless}
-
--- the four service characters that marks are made of are the usual ones
-unfoldable pub usualServices : Syntax → Bool
-usualServices y =
-    eqb (y .terminator) (edifact .terminator)
-    && (eqb (y .element) (edifact .element) && (eqb (y .component) (edifact .component) && eqb (y .release) (edifact .release)))
 
 -- the segment that begins at the place start begins with a tag and the element separator, and no letter is a service character
 pub record Begun (y : Syntax) (d : List ℕ) (start : ℕ) : Type 0 where

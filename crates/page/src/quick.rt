@@ -12,7 +12,7 @@ ghost use mathlib.Core.Bool.{true};
 ghost use mathlib.Core.Path.{_≡_};
 ghost use Rattle.guide.specs.Page.{Page};
 ghost use Rattle.page.specs.Cells.{isTagWord, FirstCell, stepsOf, mayEnd, nextOf, keepOf};
-ghost use Rattle.page.specs.Quick.{usualServices, Begun, FaultlessAt};
+ghost use Rattle.page.specs.Quick.{Begun, FaultlessAt};
 
 pub(crate) struct Faultless {
     pub(crate) end: usize,
@@ -82,29 +82,13 @@ fn next_state(y: Syntax, x: u8, t: u64) -> usize
     0
 }
 
-// Whether the four service characters that marks are made of are the usual ones. Behind these tests the compiler knows them, so that what is made of them for
-// eight bytes at once is a constant.
-fn has_usual_services(y: Syntax) -> bool
-    ensures { λ r. ⌜ r ≡ usualServices y ⌝ }
-{
-    if y.terminator != 39 {
-        return false;
-    }
-    if y.element != 43 {
-        return false;
-    }
-    if y.component != 58 {
-        return false;
-    }
-    y.release == 63
-}
-
-// Whether the segment begins with the four bytes of a word, a tag and the element separator; false too, where fewer than eight bytes are left.
+// Whether the segment begins with the four bytes of a word, a tag and the element separator; false too, where the service characters are not the usual
+// ones or fewer than eight bytes are left.
 fn is_begun(y: Syntax, d: &[u8], start: usize, tag: u64) -> bool
     requires { ⌜ isTagWord tag ≡ true ⌝ }
     ensures { λ r. ⌜ (r ≡ true → Begun y (now (d .entry)) start) ⌝ }
 {
-    if !has_usual_services(y) {
+    if !element::has_usual_services(y) {
         return false;
     }
     if d.len() < 8 {
