@@ -57,8 +57,7 @@ pub(crate) fn tag_number(d: &[u8], start: usize, end: usize) -> u32
 }
 
 // The word of component 0 of element 1 where eight bytes tell it: the service characters are the usual ones, which no letter of the tag is, and the component has
-// at most six bytes, of which none is the release character. 0 where they do not tell it. Behind the tests the compiler knows the four characters, and
-// what the eight bytes are compared with is constant.
+// at most six bytes, of which none is the release character. 0 where they do not tell it.
 fn front_key(y: Syntax, d: &[u8], start: usize, end: usize) -> u64
     requires { ⌜ letters (packed (take 3 (part start end (now d)))) ≡ true ⌝ }
     ensures { λ r. ⌜ ((r ≡ 0 → ⊥) → r ≡ wordOf (viewOf y (part start end (now (d .entry))) .key 1 0)) ⌝ }
@@ -70,16 +69,7 @@ fn front_key(y: Syntax, d: &[u8], start: usize, end: usize) -> u64
     if limit - 12 < start {
         return 0;
     }
-    if y.terminator != 39 {
-        return 0;
-    }
-    if y.element != 43 {
-        return 0;
-    }
-    if y.component != 58 {
-        return 0;
-    }
-    if y.release != 63 {
+    if !element::has_usual_services(y) {
         return 0;
     }
     if d[start + 3] != y.element {
