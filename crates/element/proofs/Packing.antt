@@ -102,3 +102,19 @@ word-same s c h t = go (leb (length s) 6) refl
         let z : length c < length s = omega (arith, leb-false (length s) 6 e) in
         let n : 1 ≤ packed c = packed-some c in
         ne-eqb 0 (packed c) (λ (q : 0 ≡ packed c). omega arith) ∙ sym (same-longer s c z)
+
+word-packed : (s : List ℕ) → (wordOf s ≡ 0 → ⊥) → wordOf s ≡ packed s
+unfolding wordOf
+word-packed s h = go (leb (length s) 6) refl
+  where
+    go : (b : Bool) → leb (length s) 6 ≡ b → wordOf s ≡ packed s
+    go true e = rw e
+    go false e = absurd (h (rw e))
+
+-- two rows that are not too long are the same exactly if their numbers are
+pub words-same
+    : (s t : List ℕ) → Bytes s → Bytes t → (v w : ℕ) → v ≡ wordOf s → (v ≡ 0 → ⊥) → w ≡ wordOf t → (w ≡ 0 → ⊥) → eqb v w ≡ same s t
+words-same s t h k v w e n f m =
+    let a = word-packed s (λ z. n (e ∙ z)) in
+    let b = word-packed t (λ z. m (f ∙ z)) in
+    rw (e, f, a, b) (packed-same s t h k)

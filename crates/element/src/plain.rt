@@ -1,6 +1,7 @@
 // The bytes of a part without release marks: how many, which, and whether two parts agree.
 use crate::limit::limit_of;
 use crate::literals::literal;
+use crate::words::word_at_once;
 use cut::Syntax;
 ghost use mathlib.Core.Path.{_≡_};
 ghost use Prim.Native.Nat.{_+_, _≤_};
@@ -86,8 +87,27 @@ fn code_on(y: Syntax, d: &[u8], from: usize, end: usize, word: &[u8], place: usi
     }
 }
 
-// Whether the parts from a up to e and from b up to f, both decoded, are the same: all bytes are compared, none is copied.
+// Whether the parts from a up to e and from b up to f, both decoded, are the same: all bytes are compared, none is copied. Two short ones are compared as
+// two numbers.
 pub fn same_plain(y: Syntax, d: &[u8], a: usize, e: usize, b: usize, f: usize) -> bool
+    ensures { λ r. ⌜ r ≡ same (decoded y a e (now (d .entry))) (decoded y b f (now (d .entry))) ⌝ }
+{
+    if d.len() < 8 {
+        return same_bytes(y, d, a, e, b, f);
+    }
+    let v = word_at_once(y, d, a, e);
+    if v == 0 {
+        return same_bytes(y, d, a, e, b, f);
+    }
+    let w = word_at_once(y, d, b, f);
+    if w == 0 {
+        return same_bytes(y, d, a, e, b, f);
+    }
+    v == w
+}
+
+// The same, a byte at a time.
+fn same_bytes(y: Syntax, d: &[u8], a: usize, e: usize, b: usize, f: usize) -> bool
     ensures { λ r. ⌜ r ≡ same (decoded y a e (now (d .entry))) (decoded y b f (now (d .entry))) ⌝ }
 {
     let first = limit_of(d, e);

@@ -31,7 +31,7 @@ pub fn word_of(y: Syntax, d: &[u8], a: usize, e: usize) -> u64
 
 // The same where the part has at most six bytes and eight stand from its first on, so that none is past the delivery; 0 where that does not hold
 // or one of its bytes may be the release character.
-fn word_at_once(y: Syntax, d: &[u8], a: usize, e: usize) -> u64
+pub(crate) fn word_at_once(y: Syntax, d: &[u8], a: usize, e: usize) -> u64
     ensures { λ r. ⌜ ((r ≡ 0 → ⊥) → r ≡ wordOf (decoded y a e (now (d .entry)))) ⌝ }
 {
     if d.len() < 8 {

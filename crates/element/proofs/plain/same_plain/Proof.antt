@@ -1,103 +1,57 @@
--- `element::plain::same_plain` meets its contract. The loop's invariant: what is left of both is the same exactly if the whole is.
-use Prim.Native.Nat.{_-_}
+-- `element::plain::same_plain` meets its contract: two parts that have words are the same exactly if these are.
+use mathlib.Core.Path.{sym, _∙_}
 use native.Mathlib.Omega.{arith}
-use mathlib.Core.Path.{_≡_, ap₂, sym, _∙_}
-use Rattle.element.specs.Plain.{decoded, same}
-use Rattle.element.proofs.Decoding.{decoded-limited}
-use Rattle.element.proofs.Sameness.{same-long, same-differ, same-agree, ended-part}
-use Rattle.element.proofs.LiteralPlaces.{literal-is}
+use Rattle.element.proofs.Packing.{decoded-bytes, words-same}
+use borrow.Author.Needs.{needs}
 use Rattle.element.proofs.plain.same_plain.Statement.{statement}
 use Rattle.element.proofs.plain.same_plain.Tie as tie
 
-abbrev Inv-loop : tie.InvT-loop
-Inv-loop y d a e b f first second i₀ j₀ i j = same (decoded y a e d) (decoded y b f d) ≡ same (decoded y i first d) (decoded y j second d)
+same-bytes-requires : tie.Need-same-bytes-requires
+same-bytes-requires c κs = search needs
 
-abbrev μ-loop : tie.MeasureT-loop
-μ-loop y d a e b f first second i₀ j₀ i j = first - i
+returns : tie.Need-returns
+returns c = search needs
 
-limit-of-requires : tie.Need-limit-of-requires Inv-loop μ-loop
-limit-of-requires c κs = tt
+word-at-once-requires : tie.Need-word-at-once-requires
+word-at-once-requires c κs = search needs
 
-limit-of-requires-2 : tie.Need-limit-of-requires-2 Inv-loop μ-loop
-limit-of-requires-2 c κs = tt
+same-bytes-requires-2 : tie.Need-same-bytes-requires-2
+same-bytes-requires-2 c κs = search needs
 
-loop-holds : tie.Need-loop-holds Inv-loop μ-loop
-loop-holds c =
-    ap₂ same
-    (sym (decoded-limited _ _ _ _ _ (c .before .limit-of .ensures)))
-    (sym (decoded-limited _ _ _ _ _ (c .limit-of2 .ensures)))
+returns-2 : tie.Need-returns-2
+returns-2 c = search needs
 
-literal-requires : tie.Need-literal-requires Inv-loop μ-loop
-literal-requires c κs = tt
+word-at-once-requires-2 : tie.Need-word-at-once-requires-2
+word-at-once-requires-2 c κs = search needs
 
-literal-requires-2 : tie.Need-literal-requires-2 Inv-loop μ-loop
-literal-requires-2 c κs = tt
+same-bytes-requires-3 : tie.Need-same-bytes-requires-3
+same-bytes-requires-3 c κs = search needs
 
-returns : tie.Need-returns Inv-loop μ-loop
-returns c =
-    sym
-    (c .before .before .before .loop .inv
-    ∙ ended-part _ _ _ _ _ _ (literal-is (c .before .literal2 .ensures) (omega arith)) ((literal-is (c .before .before .literal .ensures) (omega arith)) .none (c .if1 .taken)))
+returns-3 : tie.Need-returns-3
+returns-3 c = search needs
 
-returns-2 : tie.Need-returns-2 Inv-loop μ-loop
-returns-2 c =
-    sym
-    (c .before .before .before .before .loop .inv
-    ∙ same-long
-    ((literal-is (c .before .before .before .literal .ensures) (omega arith)) .found (c .before .if1 .left))
-    ((literal-is (c .before .before .literal2 .ensures) (omega arith)) .none (c .if2 .taken)))
-
-shared-slice-read-if3 : tie.Need-shared-slice-read-if3 Inv-loop μ-loop
-shared-slice-read-if3 c = omega arith
-
-shared-slice-read-if3-2 : tie.Need-shared-slice-read-if3-2 Inv-loop μ-loop
-shared-slice-read-if3-2 c = omega arith
-
-returns-3 : tie.Need-returns-3 Inv-loop μ-loop
-returns-3 c =
-    sym
-    (c .before .before .before .before .before .before .before .loop .inv
-    ∙ same-differ
-    ((literal-is (c .before .before .before .before .before .before .literal .ensures) (omega arith)) .found (c .before .before .before .before .if1 .left))
-    ((literal-is (c .before .before .before .before .before .literal2 .ensures) (omega arith)) .found (c .before .before .before .if2 .left))
-    (c .if3 .taken))
-
-add-i : tie.Need-add-i Inv-loop μ-loop
-add-i c = omega arith
-
-add-j : tie.Need-add-j Inv-loop μ-loop
-add-j c = omega arith
-
-loop-less : tie.Need-loop-less Inv-loop μ-loop
-loop-less c =
-    let o = (literal-is (c .before .before .before .before .before .before .literal .ensures) (omega arith)) .onward in
-    omega arith
-
-loop-again : tie.Need-loop-again Inv-loop μ-loop
-loop-again c =
-    c .before .before .before .before .before .before .before .loop .inv
-    ∙ same-agree
-    ((literal-is (c .before .before .before .before .before .before .literal .ensures) (omega arith)) .found (c .before .before .before .before .if1 .left))
-    ((literal-is (c .before .before .before .before .before .literal2 .ensures) (omega arith)) .found (c .before .before .before .if2 .left))
-    (c .if3 .left)
+returns-4 : tie.Need-returns-4
+returns-4 c =
+    let second = c .before in
+    let some = second .before in
+    let first = some .before in
+    let known = first .before .before in
+    let a = known .before .args in
+    words-same _ _
+    (decoded-bytes (a .y) (a .d .now) (a .a) (a .e) (λ i. omega (arith, known .shared-slice-known .given i)))
+    (decoded-bytes (a .y) (a .d .now) (a .b) (a .f) (λ i. omega (arith, known .shared-slice-known .given i)))
+    _ _ (first .word-at-once .ensures (some .if2 .left)) (some .if2 .left) (second .word-at-once2 .ensures (c .if3 .left)) (c .if3 .left)
 
 pub same-plain-spec : {M : Type 1} → statement M
 same-plain-spec =
     tie.close
     (tie.spec
-    Inv-loop
-    μ-loop
-    limit-of-requires
-    limit-of-requires-2
-    loop-holds
-    literal-requires
-    literal-requires-2
+    same-bytes-requires
     returns
+    word-at-once-requires
+    same-bytes-requires-2
     returns-2
-    shared-slice-read-if3
-    shared-slice-read-if3-2
+    word-at-once-requires-2
+    same-bytes-requires-3
     returns-3
-    add-i
-    add-j
-    loop-less
-    loop-again)
+    returns-4)
