@@ -15,3 +15,4 @@ pub mod Refusing
 pub mod Moved
 pub mod Face
 pub mod Naming
+pub mod PlainUnh

@@ -19,6 +19,7 @@ use Rattle.guide.specs.Placing.{place, countsAfter}
 use Rattle.guide.specs.Views.{viewOf}
 use Rattle.guide.specs.Editions.{guideOf, pagesOf}
 use Rattle.guide.specs.declared.edition.Edition.{Edition}
+use Rattle.guide.specs.declared.edition.Edition.the-variants.{D, C}
 use Rattle.guide.specs.Sheet.{isTag}
 use Rattle.page.specs.Reading.{segmentIn}
 use Rattle.agree.specs.AgreeArticles.{articlePrint}
@@ -93,6 +94,11 @@ isBgm Unt = false
 isBgm Unh = false
 isBgm Bgm = true
 isBgm Other = false
+
+-- an edition's name and the terminator behind it, as they end a UNH
+abbrev pub nameEnd : Edition → List ℕ
+nameEnd D = bytesOf "2.0d'"
+nameEnd C = bytesOf "2.0c'"
 
 -- 21 or 22 of segment i, by its role
 unfoldable pub ruleBy : Edition → Syntax → ℕ → Memory → Role → Segment → ℕ
