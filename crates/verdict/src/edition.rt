@@ -70,7 +70,16 @@ fn plain_edition(y: Syntax, d: &[u8], start: usize) -> Plain
     if d.len() - 4 < start {
         return Plain::Nothing;
     }
-    if !are(d[start], d[start + 1], d[start + 2], d[start + 3], 85, 78, 72, 43) {
+    if !are(
+        d[start],
+        d[start + 1],
+        d[start + 2],
+        d[start + 3],
+        85,
+        78,
+        72,
+        43,
+    ) {
         return Plain::Nothing;
     }
     let stop = component_from(y, d, start + 4, d.len()).end;
