@@ -14,7 +14,7 @@ use Rattle.guide.specs.Page.{Page}
 use Rattle.guide.specs.Pricat.{pricat20d, pricat20c}
 use Rattle.guide.specs.Pages20d.{pageOf}
 use Rattle.guide.specs.Pages20c.{pageOf20c}
-use Rattle.page.specs.Cells.{spotOf, cellTable, cellOf, FirstCell, tagWord, isTagWord, FirstWord}
+use Rattle.page.specs.Cells.{spotOf, states, cellTable, cellOf, FirstCell, tagWord, isTagWord, FirstWord}
 use Rattle.page.specs.PageColumns.{column}
 use Rattle.page.specs.PageWords.{NodeWord}
 use Rattle.page.proofs.PageTables.{NoneBelow, past-all}
@@ -38,7 +38,7 @@ tagIn w = w / 0x1_0000_0000
 module _ (firsts words : List ℕ) (guide : Guide) (pages : column (λ (w : ℕ). spotOf (stateIn w) .page) firsts ≡ column (λ (w : ℕ). w) words)
     (elements : column (λ (w : ℕ). spotOf (stateIn w) .element) firsts ≡ column (λ (w : ℕ). 0) words)
     (components : column (λ (w : ℕ). spotOf (stateIn w) .component) firsts ≡ column (λ (w : ℕ). 0) words)
-    (low : column (λ (w : ℕ). ltb (stateIn w) 95) firsts ≡ column (λ (w : ℕ). true) words)
+    (low : column (λ (w : ℕ). ltb (stateIn w) states) firsts ≡ column (λ (w : ℕ). true) words)
     (tags : column tagIn firsts ≡ column (λ (x : Node). tagWord (x .tag)) guide)
     (letters : column (λ (w : ℕ). isTagWord (tagIn w)) firsts ≡ column (λ (w : ℕ). true) words) where
   first-arm : (k n : ℕ) → n ≡ k → (page : Page) → NodeWord (getD words k 0) page → FirstWord (node guide n .tag) page (getD firsts k noWord)
@@ -47,7 +47,7 @@ module _ (firsts words : List ℕ) (guide : Guide) (pages : column (λ (w : ℕ)
       let p = told (λ (w : ℕ). spotOf (stateIn w) .page) (λ (w : ℕ). w) firsts noWord words 0 pages refl k k refl in
       let e = told (λ (w : ℕ). spotOf (stateIn w) .element) (λ (w : ℕ). 0) firsts noWord words 0 elements refl k k refl in
       let c = told (λ (w : ℕ). spotOf (stateIn w) .component) (λ (w : ℕ). 0) firsts noWord words 0 components refl k k refl in
-      let l = told (λ (w : ℕ). ltb (stateIn w) 95) (λ (w : ℕ). true) firsts noWord words 0 low refl k k refl in
+      let l = told (λ (w : ℕ). ltb (stateIn w) states) (λ (w : ℕ). true) firsts noWord words 0 low refl k k refl in
       record {
         state = (ltb-true _ _ l, λ h. (rw p m, e, c));
         tagged = told tagIn (λ (x : Node). tagWord (x .tag)) firsts noWord guide message tags refl k n at;

@@ -8,7 +8,7 @@ use borrow.Author.Tests.{eq-eqb, ne-eqb}
 use mir.Facts.{and-yes}
 use Rattle.cut.specs.Every.{every}
 use Rattle.cut.proofs.Every.{every-at}
-use Rattle.page.specs.Cells.{Spot, spot, spotOf, cellOf, stepsOf, mayEnd, rowOfCell}
+use Rattle.page.specs.Cells.{Spot, spot, spotOf, states, cellOf, stepsOf, mayEnd, rowOfCell}
 use Rattle.page.proofs.PageCells.{elementTable, rowTable}
 
 -- the word of an element of a page, and that of a component's row
@@ -69,7 +69,7 @@ same a b = both (eqb (a .page) (b .page)) (both (eqb (a .element) (b .element)) 
 
 -- the state n is one before the spot q
 unfoldable pub leads : ℕ → Spot → Bool
-leads n q = both (ltb n 95) (same (spotOf n) q)
+leads n q = both (ltb n states) (same (spotOf n) q)
 
 -- the row of a cell is the row r without its status, or none
 unfoldable pub freed : ℕ → ℕ → Bool
@@ -116,7 +116,7 @@ module _ (n s : ℕ) where
 unfoldable right : ℕ → Bool
 right s = both (ifSome s (fitsSpot (rowOfCell (cellOf s)) (spotOf s))) (both (stepsRight 0 s) (stepsRight 1 s))
 
-all-right : T (every right 95)
+all-right : T (every right states)
 unfolding every both ifSome ifSo right stepsRight furtherRight behindRight endRight fitsSpot freed leads same behindOf furtherOf keptOf lastRow calm moodOn openingOf rowWord wordOf wordAt spotOf cellOf
 all-right = tt
 
@@ -175,15 +175,15 @@ same-spot a b h =
     let m1 : a .mood ≡ b .mood = eqb→eq (a .mood) (b .mood) (c .1) in
     λ i. record { page = p1 i; element = e1 i; component = c1 i; mood = m1 i }
 
-led : (n : ℕ) (q : Spot) → T (leads n q) → (n < 95) × (spotOf n ≡ q)
+led : (n : ℕ) (q : Spot) → T (leads n q) → (n < states) × (spotOf n ≡ q)
 unfolding leads
 led n q h =
     let p = each _ _ h in
-    (ltb→lt n 95 (p .0), same-spot _ _ (p .1))
+    (ltb→lt n states (p .0), same-spot _ _ (p .1))
 
-module _ (s : ℕ) (low : s < 95) where
+module _ (s : ℕ) (low : s < states) where
   right-here : T (right s)
-  right-here = every-at right 95 s all-right low
+  right-here = every-at right states s all-right low
 
   pub cell-fits : (s ≡ 0 → ⊥) → Fits (rowOfCell (cellOf s)) (spotOf s)
   unfolding right
@@ -200,7 +200,7 @@ module _ (s : ℕ) (low : s < 95) where
 
     pub cell-further
         : (r : ℕ) → r ≡ stepsOf (cellOf s) n % 256 → (r ≡ 0 → ⊥)
-        → (s ≡ 0 → ⊥) × T (calm n (spotHere .mood) (rowWord spotHere)) × (r < 95) × (spotOf r ≡ furtherOf n spotHere)
+        → (s ≡ 0 → ⊥) × T (calm n (spotHere .mood) (rowWord spotHere)) × (r < states) × (spotOf r ≡ furtherOf n spotHere)
     unfolding stepsRight furtherRight
     cell-further r e z =
         let h = unless _ _ (each _ _ (steps-right n) .0) (λ k. z (e ∙ k)) in
@@ -212,7 +212,7 @@ module _ (s : ℕ) (low : s < 95) where
     pub cell-behind
         : (r : ℕ) → r ≡ stepsOf (cellOf s) n / 0x100 % 256 → (r ≡ 0 → ⊥)
         → (s ≡ 0 → ⊥) × T (calm n (spotHere .mood) (rowWord spotHere))
-        × T (lastRow (moodOn n (spotHere .mood) (rowWord spotHere)) (wordOf spotHere) (spotHere .component)) × (r < 95) × (spotOf r ≡ behindOf spotHere)
+        × T (lastRow (moodOn n (spotHere .mood) (rowWord spotHere)) (wordOf spotHere) (spotHere .component)) × (r < states) × (spotOf r ≡ behindOf spotHere)
     unfolding stepsRight behindRight
     cell-behind r e z =
         let h = unless _ _ (each _ _ (each _ _ (steps-right n) .1) .0) (λ k. z (e ∙ k)) in

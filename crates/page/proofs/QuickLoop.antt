@@ -21,7 +21,7 @@ use Rattle.element.proofs.ComponentFace.{Ended, extent-ended, extent-length}
 use Rattle.element.proofs.Cuts.{elements-cut, component-at-cut}
 use Rattle.guide.specs.Page.{Page}
 use Rattle.guide.specs.PageFault.{textFault, pageFault}
-use Rattle.page.specs.Cells.{Spot, spotOf, cellOf, FirstCell, stepsOf, mayEnd, nextOf, rowOfCell, keepOf}
+use Rattle.page.specs.Cells.{Spot, spotOf, states, cellOf, FirstCell, stepsOf, mayEnd, nextOf, rowOfCell, keepOf}
 use Rattle.page.specs.Marks.{MarkScanned, CleanAhead}
 use Rattle.page.specs.PageWords.{freeRow}
 use Rattle.page.specs.Quick.{Begun, FaultlessAt}
@@ -47,7 +47,7 @@ module _ (y : Syntax) (d : List ℕ) (start : ℕ) where
 
   -- against each page that the first state is of, the pass stands before the spot of the state s
   abbrev pub OnPages : ℕ → Places → ℕ → ℕ → Type 0
-  OnPages state p a s = (page : Page) → FirstCell state page → (s < 95) × ((s ≡ 0 → ⊥) → Stood y page d start p a (spotOf s))
+  OnPages state p a s = (page : Page) → FirstCell state page → (s < states) × ((s ≡ 0 → ⊥) → Stood y page d start p a (spotOf s))
 
   module _ (b : Begun y d start) where
     pub walk-begins : (s : Scan) → s ≡ record { at = start + 4; next = start + 4; left = 0 } → Walked (s .at) (s .next) (s .left)

@@ -39,7 +39,8 @@ spotTable =
     spot 67629 1 3 1 ∷ spot 67629 1 4 1 ∷ spot 68637 0 0 1 ∷ spot 68637 1 0 1 ∷ spot 68637 2 0 0 ∷ spot 68637 2 1 1 ∷ spot 68637 2 2 1 ∷
     spot 68637 2 3 1 ∷ spot 68655 0 0 1 ∷ spot 68655 1 0 1 ∷ spot 68655 2 0 0 ∷ spot 68655 2 1 1 ∷ spot 68655 2 2 1 ∷ spot 68655 2 3 1 ∷
     spot 70658 0 0 1 ∷ spot 70658 1 0 1 ∷ spot 70658 2 0 0 ∷ spot 101400 0 0 1 ∷ spot 101400 1 0 0 ∷ spot 101400 2 0 1 ∷ spot 101400 2 1 1 ∷
-    spot 101413 0 0 1 ∷ spot 101413 1 0 0 ∷ spot 101413 2 0 1 ∷ spot 101413 2 1 1 ∷ []
+    spot 101413 0 0 1 ∷ spot 101413 1 0 0 ∷ spot 101413 2 0 1 ∷ spot 101413 2 1 1 ∷ spot 70658 3 0 0 ∷ spot 70658 4 0 0 ∷ spot 68637 2 1 0 ∷
+    spot 68637 2 2 0 ∷ spot 68637 2 3 0 ∷ spot 68655 2 1 0 ∷ spot 68655 2 2 0 ∷ spot 68655 2 3 0 ∷ []
 
 unfoldable pub spotOf : ℕ → Spot
 spotOf s = getD spotTable s (spot 0 0 0 0)
@@ -57,17 +58,22 @@ cellTable =
     0x8c0000100000000 ∷ 0xc4108800003300 ∷ 0x340000 ∷ 0x4000000100000000 ∷ 0xc410b800003600 ∷ 0x8c0000000000037 ∷ 0xc010bd00000000 ∷
     0xc4112400003900 ∷ 0x20021280000003a ∷ 0x4a000010000003b ∷ 0x4a0000300000000 ∷ 0xc4114800003d00 ∷ 0x200114c0000003e ∷
     0x4a000010000003f ∷ 0x4a0000300000000 ∷ 0x1a4000000004100 ∷ 0x380000100000000 ∷ 0x384000000004300 ∷ 0x180100000000044 ∷
-    0xc0100400000045 ∷ 0xc0100800000046 ∷ 0x80100c00000047 ∷ 0x180115100000000 ∷ 0xc420c000004900 ∷ 0xc110c900004a00 ∷ 0x448410f0000004b ∷
-    0x2004c0000 ∷ 0x2004d0000 ∷ 0x4000000300000000 ∷ 0xc420c000004f00 ∷ 0xc110c900005000 ∷ 0x448410e00000051 ∷ 0x520000 ∷ 0x530000 ∷
-    0x4000000100000000 ∷ 0xc4701400005500 ∷ 0x1180000100005600 ∷ 0x8000200000000 ∷ 0x1a4000000005800 ∷ 0x59000000 ∷ 0x8c800000000005a ∷
-    0xc020b100000000 ∷ 0x1a4000000005c00 ∷ 0x5d000000 ∷ 0x8c800000000005e ∷ 0xc0114100000000 ∷ []
+    0xc0100400000045 ∷ 0xc0100800000046 ∷ 0x80100c00000047 ∷ 0x180115100000000 ∷ 0xc420c000004900 ∷ 0xc110c900004a00 ∷ 0x448410f0061004b ∷
+    0x2004c0000 ∷ 0x2004d0000 ∷ 0x4000000300000000 ∷ 0xc420c000004f00 ∷ 0xc110c900005000 ∷ 0x448410e00640051 ∷ 0x520000 ∷ 0x530000 ∷
+    0x4000000100000000 ∷ 0xc4701400005500 ∷ 0x1180000100005600 ∷ 0x800025f000000 ∷ 0x1a4000000005800 ∷ 0x59000000 ∷ 0x8c800000000005a ∷
+    0xc020b100000000 ∷ 0x1a4000000005c00 ∷ 0x5d000000 ∷ 0x8c800000000005e ∷ 0xc0114100000000 ∷ 0x260000000 ∷ 0xc0103300000000 ∷ 0x200620000 ∷ 0x200630000 ∷ 0x4000000300000000 ∷
+    0x200650000 ∷ 0x200660000 ∷ 0x4000000300000000 ∷ []
 
 unfoldable pub cellOf : ℕ → ℕ
 cellOf s = getD cellTable s 0
 
--- the state, one of 95, is before the first component behind the tag of the page; 0 is none
+-- how many states there are
+abbrev pub states : ℕ
+states = 103
+
+-- the state is before the first component behind the tag of the page; 0 is none
 unfoldable pub FirstCell : ℕ → Page → Type 0
-FirstCell s page = (s < 95) × ((s ≡ 0 → ⊥) → NodeWord (spotOf s .page) page × (spotOf s .element ≡ 0) × (spotOf s .component ≡ 0))
+FirstCell s page = (s < states) × ((s ≡ 0 → ⊥) → NodeWord (spotOf s .page) page × (spotOf s .element ≡ 0) × (spotOf s .component ≡ 0))
 
 -- the first four bytes of a segment with a tag as one number, the first the lowest: the tag and the usual element separator; ZZZ, where there is no tag
 unfoldable pub tagWord : List ℕ → ℕ
