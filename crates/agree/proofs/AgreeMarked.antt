@@ -161,8 +161,3 @@ pub all-marked
     → allMarked y (markIn t (printOf y q)) (hs ++ (q ∷ [])) ≡ true
 all-marked y t hs q l h =
     all-more y (markIn t (printOf y q)) hs q (all-keeps y t (printOf y q) hs l h) (mark-marks t (printOf y q) l)
-
--- the table after the print f, and whether that may have come, where f is the print p
-pub noted
-    : (t u : List ℕ) (f p : ℕ) (r : Bool) → f ≡ p → r ≡ markedIn t f → u ≡ markIn t f → (r ≡ markedIn t p) × (u ≡ markIn t p)
-noted t u f p r e h k = (h ∙ ap (markedIn t) e, k ∙ ap (markIn t) e)

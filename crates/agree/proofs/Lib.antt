@@ -5,6 +5,7 @@ pub mod AgreeHeads
 pub mod AgreePrinted
 pub mod AgreePrinting
 pub mod AgreeMarked
+pub mod AgreeNoted
 pub mod AgreeSearch
 pub mod AgreeRunning
 pub mod AgreeGathered

@@ -7,7 +7,7 @@ use Rattle.cut.specs.declared.service.Syntax.{Syntax}
 use Rattle.cut.specs.Bytes.{bytesOf, begins}
 use Rattle.cut.specs.Segments.{Segment}
 use Rattle.guide.specs.Content.{text}
-use Rattle.agree.specs.AgreeMarks.{markedIn, markIn}
+use Rattle.agree.specs.AgreeCame.{cameIn, noteIn}
 use Rattle.agree.specs.declared.agree_articles.Gathered.{Gathered}
 
 -- the print a, and then the number v of eight bytes: its halves are mixed in one after the other, each by a product of which both halves count
@@ -49,7 +49,7 @@ articlesIn y (s ∷ ss) = cond (begins (bytesOf "LIN") (s .bytes)) (text y (s .b
 -- none of the articles may have come before it, where t is the table of those that came
 unfoldable pub apartIn : List ℕ → List (List ℕ) → Bool
 apartIn t [] = true
-apartIn t (x ∷ xs) = not (markedIn t (articlePrint x)) && apartIn (markIn t (articlePrint x)) xs
+apartIn t (x ∷ xs) = not (cameIn t (articlePrint x)) && apartIn (noteIn t (articlePrint x)) xs
 
 -- one byte more, unless it is a release mark; only workers' contracts cite this and the next
 unfoldable pub gatheredUnless : Bool → Gathered → ℕ → Gathered

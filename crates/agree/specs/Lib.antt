@@ -4,5 +4,6 @@ pub mod AgreePositions
 pub mod AgreeParts
 pub mod AgreePrints
 pub mod AgreeMarks
+pub mod AgreeCame
 pub mod AgreeRuns
 pub mod AgreeArticles

@@ -1,7 +1,7 @@
 // The article of a LIN in the table of those that came. Positions that agree have the same article, so where no article may have come twice,
 // nothing else of the positions is compared.
-use crate::agree_marks::is_marked;
-use crate::agree_marks::mark;
+use crate::agree_came::came;
+use crate::agree_came::note;
 use crate::agree_prints::is_mark;
 use cut::Syntax;
 use element::limit_of;
@@ -9,7 +9,7 @@ ghost use Prim.Native.Nat.{_+_, _≤_, _<_};
 ghost use mathlib.Core.Path.{_≡_};
 ghost use lib.ListN.{length};
 ghost use Rattle.element.specs.Plain.{decoded};
-ghost use Rattle.agree.specs.AgreeMarks.{markedIn, markIn};
+ghost use Rattle.agree.specs.AgreeCame.{cameIn, noteIn};
 ghost use Rattle.agree.specs.AgreeArticles.{wordMixed, gatheredUnless, closedBy, begun, printFrom, articlePrint, Gathering};
 
 // A print, and behind it fewer than eight bytes that are not in it yet: the number they make, and how much the next one counts.
@@ -120,12 +120,12 @@ fn print_article(y: Syntax, d: &[u8], a: usize, e: usize) -> u32
 }
 
 // Notes an article, the part from a up to e without release marks, in the table of those that came; whether it may have come before.
-pub fn note_article(y: Syntax, d: &[u8], a: usize, e: usize, t: &mut [u8; 8192]) -> bool
-    ensures { λ r. ⌜ r ≡ markedIn (now (t .entry)) (articlePrint (decoded y a e (now (d .entry)))) ⌝ }
-    ensures { λ _. ⌜ now (t .exit) ≡ markIn (now (t .entry)) (articlePrint (decoded y a e (now (d .entry)))) ⌝ }
+pub fn note_article(y: Syntax, d: &[u8], a: usize, e: usize, t: &mut [u64; 256]) -> bool
+    ensures { λ r. ⌜ r ≡ cameIn (now (t .entry)) (articlePrint (decoded y a e (now (d .entry)))) ⌝ }
+    ensures { λ _. ⌜ now (t .exit) ≡ noteIn (now (t .entry)) (articlePrint (decoded y a e (now (d .entry)))) ⌝ }
 {
     let f = print_article(y, d, a, e);
-    let came = is_marked(t, f);
-    mark(t, f);
-    came
+    let again = came(t, f);
+    note(t, f);
+    again
 }

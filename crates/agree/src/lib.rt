@@ -1,5 +1,6 @@
 // Rule 23: which position of a message agrees with an earlier one.
 mod agree_articles;
+mod agree_came;
 mod agree_earlier;
 mod agree_first;
 mod agree_headings;

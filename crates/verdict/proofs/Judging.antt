@@ -108,21 +108,21 @@ module _ (ed : Edition) (y : Syntax) (d : List ℕ) (start stop : ℕ) where
     pub short : n ≤ length d
     pub lines : k .positions ≤ n
 
-  first-passed : Passed all (replicate 96 0) (replicate 8192 0) (keptFirst start) start 0
+  first-passed : Passed all (replicate 96 0) (replicate 256 0) (keptFirst start) start 0
   unfolding nodesOf spanned
   first-passed =
       record {
         judged = rw (decoded-none y d start start (omega arith));
         until = rw (decoded-none y d start start (omega arith));
         document = refl;
-        apart = λ e h. articles-apart y (replicate 8192 0) all (length-replicate {A = ℕ} 8192 0) h;
+        apart = λ e h. articles-apart y (replicate 256 0) all (length-replicate {A = ℕ} 256 0) h;
         closes = refl;
         few = omega arith;
         short = omega arith;
         lines = omega arith;
       }
 
-  pub passed-first : (k : Kept) → k ≡ keptFirst start → Passed all (replicate 96 0) (replicate 8192 0) k start 0
+  pub passed-first : (k : Kept) → k ≡ keptFirst start → Passed all (replicate 96 0) (replicate 256 0) k start 0
   passed-first k e = rw e first-passed
 
   module _ (ss : List Segment) (cs t : List ℕ) (k : Kept) (at n : ℕ) (p : Passed ss cs t k at n) where

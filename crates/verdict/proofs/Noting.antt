@@ -9,7 +9,7 @@ use Rattle.cut.specs.Segments.{Segment}
 use Rattle.element.specs.Plain.{same}
 use Rattle.guide.specs.Content.{text}
 use Rattle.agree.specs.AgreeArticles.{articlePrint, articlesIn, apartIn}
-use Rattle.agree.specs.AgreeMarks.{markedIn, markIn}
+use Rattle.agree.specs.AgreeCame.{cameIn, noteIn}
 use Rattle.agree.proofs.AgreeApart.{apart-lin, apart-other}
 use Rattle.verdict.specs.declared.kept.Kept.{Kept}
 use Rattle.verdict.specs.declared.segment.Found.{Found}
@@ -22,7 +22,7 @@ module _ (y : Syntax) (d t : List ℕ) (s : Found) (k : Kept) where
   Keeps r t′ = (r ≡ keptAfter y d t s k) × (t′ ≡ cameAfter y d t s k)
 
   pub after-line
-      : s .role ≡ Lin → (b : Bool) → b ≡ unasked k || markedIn t (printAt y d s) → (t′ : List ℕ) → t′ ≡ cond (unasked k) t (markIn t (printAt y d s)) → (r : Kept)
+      : s .role ≡ Lin → (b : Bool) → b ≡ unasked k || cameIn t (printAt y d s) → (t′ : List ℕ) → t′ ≡ cond (unasked k) t (noteIn t (printAt y d s)) → (r : Kept)
       → r ≡ record { last = s .node; positions = k .positions + 1; reference = k .reference; intervals = k .intervals; doubt = b } → Keeps r t′
   unfolding doubtAfter cameAfter
   after-line l b e t′ f r g = (g ∙ rw (l, e), rw l f)
@@ -48,8 +48,8 @@ module _ (y : Syntax) (d t : List ℕ) (s : Found) (k : Kept) where
 -- where no doubt comes of a segment, there was none before it, and the articles from it on are apart if those behind it are
 module _ (y : Syntax) (t : List ℕ) (s : Segment) (ss : List Segment) (p : ℕ) (prints : p ≡ articlePrint (text y (s .bytes) 3 0)) where
   pub still-apart
-      : (l : Bool) → begins (bytesOf "LIN") (s .bytes) ≡ l → (a b : Bool) → cond l ((a || b) || markedIn t p) b ≡ false
-      → apartIn (cond l (cond (a || b) t (markIn t p)) t) (articlesIn y ss) ≡ true → (b ≡ false) × (apartIn t (articlesIn y (s ∷ ss)) ≡ true)
+      : (l : Bool) → begins (bytesOf "LIN") (s .bytes) ≡ l → (a b : Bool) → cond l ((a || b) || cameIn t p) b ≡ false
+      → apartIn (cond l (cond (a || b) t (noteIn t p)) t) (articlesIn y ss) ≡ true → (b ≡ false) × (apartIn t (articlesIn y (s ∷ ss)) ≡ true)
   still-apart true e true b h k = absurd (true≢false h)
   still-apart true e false true h k = absurd (true≢false h)
   still-apart true e false false h k = (refl, apart-lin y t s ss p e prints ∙ rw (h, k))

@@ -23,7 +23,7 @@ use Rattle.guide.specs.declared.edition.Edition.the-variants.{D, C}
 use Rattle.guide.specs.Sheet.{isTag}
 use Rattle.page.specs.Reading.{segmentIn}
 use Rattle.agree.specs.AgreeArticles.{articlePrint}
-use Rattle.agree.specs.AgreeMarks.{markedIn, markIn}
+use Rattle.agree.specs.AgreeCame.{cameIn, noteIn}
 use Rattle.agree.specs.AgreePositions.{positionsOf, firstAgreeing}
 use Rattle.agree.specs.declared.agree_first.Agreeing.the-variants.{At, Nothing}
 use Rattle.verdict.specs.declared.answers.Judged.{Judged}
@@ -149,10 +149,10 @@ printAt y d s = articlePrint (spanned y (s .third) d)
 
 -- after k and a segment that is placed: whether there is a doubt, and the table of the articles that came, which was t before it
 unfoldable pub doubtAfter : Syntax → List ℕ → List ℕ → Found → Kept → Bool
-doubtAfter y d t s k = cond (isLin (s .role)) (unasked k || markedIn t (printAt y d s)) (k .doubt)
+doubtAfter y d t s k = cond (isLin (s .role)) (unasked k || cameIn t (printAt y d s)) (k .doubt)
 
 unfoldable pub cameAfter : Syntax → List ℕ → List ℕ → Found → Kept → List ℕ
-cameAfter y d t s k = cond (isLin (s .role)) (cond (unasked k) t (markIn t (printAt y d s))) t
+cameAfter y d t s k = cond (isLin (s .role)) (cond (unasked k) t (noteIn t (printAt y d s))) t
 
 -- what is kept after k and a segment that is placed
 abbrev pub keptAfter : Syntax → List ℕ → List ℕ → Found → Kept → Kept

@@ -11,7 +11,7 @@ ghost use mathlib.Core.Bool.{cond, _||_};
 ghost use Rattle.cut.specs.Bytes.{bytesOf};
 ghost use Rattle.element.specs.Plain.{same};
 ghost use Rattle.agree.specs.AgreeArticles.{articlePrint};
-ghost use Rattle.agree.specs.AgreeMarks.{markedIn, markIn};
+ghost use Rattle.agree.specs.AgreeCame.{cameIn, noteIn};
 ghost use Rattle.verdict.specs.Workers.{spanned, keptFirst, unasked, cameAfter, keptAfter};
 
 // The last node, how many positions there were, where the reference in UNH stands, whether BGM has the code Z04, and whether there is a doubt that no
@@ -63,9 +63,9 @@ fn intervals_after(y: Syntax, d: &[u8], first: Span, intervals: bool) -> bool
 
 // Whether there is a doubt after a LIN with the article `third`, which is noted in the table of those that came. Where positions are not compared, or
 // there is a doubt already, no article is looked at: the answer is that of `agree` then, or is not asked for.
-fn doubt_after(y: Syntax, d: &[u8], third: Span, kept: Kept, came: &mut [u8; 8192]) -> bool
-    ensures { λ r. ⌜ r ≡ unasked kept || markedIn (now (came .entry)) (articlePrint (spanned y third (now (d .entry)))) ⌝ }
-    ensures { λ _. ⌜ now (came .exit) ≡ cond (unasked kept) (now (came .entry)) (markIn (now (came .entry)) (articlePrint (spanned y third (now (d .entry))))) ⌝ }
+fn doubt_after(y: Syntax, d: &[u8], third: Span, kept: Kept, came: &mut [u64; 256]) -> bool
+    ensures { λ r. ⌜ r ≡ unasked kept || cameIn (now (came .entry)) (articlePrint (spanned y third (now (d .entry)))) ⌝ }
+    ensures { λ _. ⌜ now (came .exit) ≡ cond (unasked kept) (now (came .entry)) (noteIn (now (came .entry)) (articlePrint (spanned y third (now (d .entry))))) ⌝ }
 {
     if kept.intervals {
         return true;
@@ -79,7 +79,7 @@ fn doubt_after(y: Syntax, d: &[u8], third: Span, kept: Kept, came: &mut [u8; 819
 }
 
 // What is kept after a segment that is placed; `came` is the table of the articles that came.
-pub(crate) fn keep(y: Syntax, d: &[u8], found: Found, kept: Kept, came: &mut [u8; 8192]) -> Kept
+pub(crate) fn keep(y: Syntax, d: &[u8], found: Found, kept: Kept, came: &mut [u64; 256]) -> Kept
     requires { ⌜ suc (kept .positions) < 2 ^ 64 ⌝ }
     ensures { λ r. ⌜ r ≡ keptAfter y (now (d .entry)) (now (came .entry)) found kept ⌝ }
     ensures { λ _. ⌜ now (came .exit) ≡ cameAfter y (now (d .entry)) (now (came .entry)) found kept ⌝ }

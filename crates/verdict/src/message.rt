@@ -83,14 +83,14 @@ fn stopped(segment: usize, place: usize, node: usize, end: usize) -> Walked
 }
 
 // The segments of the message that begins at `start`, one after the other; at one that begins at `stop` and has no fault it ends with 23. It returns before
-// positions are compared: that takes a table of its own, which would not fit beside `came`.
+// positions are compared: that takes a table of its own, and the compiler lays it over `came`.
 fn walk(y: Syntax, edition: Edition, d: &[u8], start: usize, stop: usize) -> Walked
     ensures { λ r. ⌜ (length (now (d .entry)) ≤ stop → closedBy edition y (now (d .entry)) start r ≡ judgedAs (declared (verdictFrom y (guideOf edition) (pagesOf edition) start (held (segmentsAt y (now (d .entry)) start)))) (lastEnd start (held (segmentsAt y (now (d .entry)) start)))) ⌝ }
     ensures { λ r. ⌜ Closable edition y (now (d .entry)) start r ⌝ }
     ensures { λ r. ⌜ toldBy edition r ≡ declared (judgeUntil y (guideOf edition) (pagesOf edition) stop 0 start fresh (held (segmentsAt y (now (d .entry)) start))) ⌝ }
 {
     let mut counts = [0u32; 96];
-    let mut came = [0u8; 8192];
+    let mut came = [0u64; 256];
     let mut kept = begun(start);
     let mut at = start;
     let mut n = 0;

@@ -1,5 +1,5 @@
 -- `agree::agree_articles::note_article` meets its contract.
-use Rattle.agree.proofs.AgreeMarked.{noted}
+use Rattle.agree.proofs.AgreeNoted.{noted}
 use borrow.Author.Needs.{needs}
 use Rattle.agree.proofs.agree_articles.note_article.Statement.{statement}
 use Rattle.agree.proofs.agree_articles.note_article.Tie as tie
@@ -7,17 +7,17 @@ use Rattle.agree.proofs.agree_articles.note_article.Tie as tie
 print-article-requires : tie.Need-print-article-requires
 print-article-requires c κs = search needs
 
-is-marked-requires : tie.Need-is-marked-requires
-is-marked-requires c κs = search needs
+came-requires : tie.Need-came-requires
+came-requires c κs = search needs
 
-mark-requires : tie.Need-mark-requires
-mark-requires c κs = search needs
+note-requires : tie.Need-note-requires
+note-requires c κs = search needs
 
 returns : tie.Need-returns
 returns c =
     let b = c .before .before in
-    noted _ _ _ _ _ (b .before .before .print-article .ensures) (b .is-marked .ensures) (c .mark .ensures)
+    noted _ _ _ _ _ (b .before .before .print-article .ensures) (b .came .ensures) (c .note .ensures)
 
 pub note-article-spec : {M : Type 1} → statement M
 note-article-spec =
-    tie.close (tie.spec print-article-requires is-marked-requires mark-requires returns)
+    tie.close (tie.spec print-article-requires came-requires note-requires returns)
