@@ -2,9 +2,9 @@
 
 -- a part holds allowed bytes only, if each of its bytes is one
 pub use Rattle.element.proofs.clean.Laws.{allowed-each}
--- plain service characters and plain text are allowed
-pub use Rattle.element.proofs.clean.Marks.{Plain, services-plain, plain-allowed, text-allowed}
--- a byte that is no mark is allowed and no service character; and what that tells of it
+-- plain text is allowed
+pub use Rattle.element.proofs.clean.Marks.{text-allowed}
+-- a byte that is no mark is allowed and no service character where these are the usual ones; and what that tells of it
 pub use Rattle.element.proofs.clean.Marks.{mark-not}
 pub use Rattle.element.proofs.scan.Services.{plain-stays, plain-no-mark}
 -- what a word of eight bytes tells of the bytes between two components, whatever they are tested for

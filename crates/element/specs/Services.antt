@@ -7,7 +7,7 @@ use lib.ListN.{getD}
 use lib.Dec.{eqb}
 use Rattle.cut.specs.Base.{edifact}
 use Rattle.cut.specs.declared.service.Syntax.{Syntax}
-use Rattle.element.specs.Clean.{between, allowedByte}
+use Rattle.element.specs.Clean.{allowedByte}
 use Rattle.element.specs.Elements.{endingOf, stays}
 
 -- whether the byte x ends something where it is not released, or is the release character
@@ -24,16 +24,12 @@ pub record Service (y : Syntax) (d : List ℕ) (from limit r : ℕ) : Type 0 whe
   pub passed : Passed y d from r
   pub here : r < limit → isService y (getD d r 0) ≡ true
 
--- whether the byte x is such, or is not allowed
-unfoldable pub isMark : Syntax → ℕ → Bool
-isMark y x = isService y x || not (allowedByte x)
-
--- whether the four service characters that these are made of are allowed bytes, none of them a letter or with its high bit set
-unfoldable pub plainServices : Syntax → Bool
-plainServices y = between 32 64 (y .terminator) && (between 32 64 (y .element) && (between 32 64 (y .component) && between 32 64 (y .release)))
-
--- whether these four are the usual ones
+-- whether the four service characters that these are made of are the usual ones
 unfoldable pub usualServices : Syntax → Bool
 usualServices y =
     eqb (y .terminator) (edifact .terminator)
     && (eqb (y .element) (edifact .element) && (eqb (y .component) (edifact .component) && eqb (y .release) (edifact .release)))
+
+-- whether the byte x is such with the usual service characters, is `;` or `>`, which are tested together with `:` and `?`, or is not allowed
+unfoldable pub isMark : ℕ → Bool
+isMark x = (isService edifact x || (eqb x 59 || eqb x 62)) || not (allowedByte x)

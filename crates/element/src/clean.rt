@@ -2,14 +2,14 @@
 use crate::limit::limit_of;
 use cut::Syntax;
 ghost use mathlib.Core.Path.{_≡_};
-ghost use mathlib.Core.Bool.{true, _&&_};
+ghost use mathlib.Core.Bool.{_&&_};
 ghost use Prim.Native.Nat.{_+_, _*_, _%_, _≤_, min};
 ghost use lib.Bits.{bitXor};
 ghost use lib.ListN.{length};
 ghost use Rattle.cut.specs.Bytes.{part};
 ghost use Rattle.cut.specs.Eights.{Flagged};
 ghost use Rattle.element.specs.Clean.{allowedByte, allowedBytes, capital, endsTag, taggedBytes};
-ghost use Rattle.element.specs.Services.{isMark, plainServices};
+ghost use Rattle.element.specs.Services.{isMark};
 
 fn allowed_byte(x: u8) -> bool
     ensures { λ r. ⌜ r ≡ allowedByte x ⌝ }
@@ -68,16 +68,15 @@ fn allowed_in(w: u64) -> u64
     text & ((delete ^ ALL) | w) & ALL
 }
 
-// Which of eight bytes end something, are the release character or are not allowed, if no service character has its high bit set: such a byte
-// ends something only without its own.
-pub fn marks_in(y: Syntax, w: u64) -> u64
-    ensures { λ r. ⌜ (plainServices y ≡ true → Flagged w (isMark y) r) ⌝ }
+// Which of eight bytes are a usual service character or are not allowed, and with these which are `;` or `>`: they differ from `:` and `?` in two bits only, and
+// one test without these bits takes less time than two. A byte with its high bit set is no service character.
+pub fn marks_in(w: u64) -> u64
+    ensures { λ r. ⌜ Flagged w isMark r ⌝ }
 {
     let low = w & LOW;
-    let ends = differing(low, y.terminator)
-        & differing(low, y.element)
-        & differing(low, y.component)
-        & differing(low, y.release);
+    let ends = differing(low, 0x27)
+        & differing(low, 0x2b)
+        & differing(low & 0x7a7a_7a7a_7a7a_7a7a, 0x3a);
     let text = low + 0x6060_6060_6060_6060;
     let delete = low + 0x0101_0101_0101_0101;
     (((ends & (delete ^ ALL)) | w) & text & ALL) ^ ALL

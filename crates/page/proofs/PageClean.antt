@@ -13,8 +13,9 @@ use Rattle.cut.proofs.Carrying.{carries-on, carries-run, carries-released}
 use Rattle.element.specs.Clean.{between, allowedByte}
 use Rattle.element.specs.Elements.{endingOf, stays, releases}
 use Rattle.element.specs.Scans.{Foremost}
-use Rattle.element.specs.Services.{isService, isMark, plainServices, Service}
-use Rattle.element.proofs.MarkFace.{allowed-each, services-plain, plain-allowed, text-allowed, mark-not, mark-both, plain-stays, plain-no-mark, stays-inside}
+use Rattle.element.specs.Services.{isService, isMark, usualServices, Service}
+use Rattle.element.proofs.MarkFace.{allowed-each, text-allowed, mark-not, mark-both, plain-stays, plain-no-mark, stays-inside}
+use Rattle.element.proofs.UsualServices.{usual-are}
 use Rattle.page.specs.Marks.{MarkScanned, MarkSought, CleanAhead}
 use Rattle.page.specs.declared.scan.Scan.{Scan}
 use Rattle.page.proofs.PageMarks.{Past, past-first, past-found, past-mark}
@@ -33,17 +34,17 @@ pub record Clean (y : Syntax) (d : List ℕ) (a : ℕ) (from : Scan) (removed : 
   pub past : Past y d a (length d) (from .at) removed
   pub allowed : (k : ℕ) → a ≤ k → k < from .at → allowedByte (getD d k 0) ≡ true
   pub carried : Carries y d a (from .at)
-  pub scanned : MarkScanned y d (from .at) (from .next) (from .left)
+  pub scanned : MarkScanned d (from .at) (from .next) (from .left)
 
-pub clean-first : (y : Syntax) (d : List ℕ) (s : Scan) → s .at ≤ length d → MarkScanned y d (s .at) (s .next) (s .left) → Clean y d (s .at) s 0
+pub clean-first : (y : Syntax) (d : List ℕ) (s : Scan) → s .at ≤ length d → MarkScanned d (s .at) (s .next) (s .left) → Clean y d (s .at) s 0
 clean-first y d s h q =
     record { past = past-first y d (s .at) (length d) h; allowed = λ k i j. absurd (omega arith); carried = λ e k. k; scanned = q }
 
 -- the first mark from there on stands at the place end
 module _
-    (y : Syntax) (d : List ℕ) (a : ℕ) (from : Scan) (removed : ℕ) (g : Clean y d a from removed) (r : Scan) (q : MarkSought y d (from .at) r)
+    (y : Syntax) (usual : usualServices y ≡ true) (d : List ℕ) (a : ℕ) (from : Scan) (removed : ℕ) (g : Clean y d a from removed) (r : Scan) (q : MarkSought d (from .at) r)
     (end : ℕ) (e : end ≡ r .at - 1) where
-  here : Foremost (isMark y) d (from .at) end
+  here : Foremost isMark d (from .at) end
   here = rw (← e) at (q .mark)
 
   mark-within : end < length d
@@ -53,11 +54,11 @@ module _
   up-allowed k i j = go (leb (from .at) k) refl
     where
       go : (b : Bool) → leb (from .at) k ≡ b → allowedByte (getD d k 0) ≡ true
-      go true t = mark-not y (getD d k 0) (here .none k (leb-true (from .at) k t) j) .1
+      go true t = mark-not y usual (getD d k 0) (here .none k (leb-true (from .at) k t) j) .1
       go false t = g .allowed k i (leb-false (from .at) k t)
 
   no-service : (k : ℕ) → from .at ≤ k → k < end → isService y (getD d k 0) ≡ false
-  no-service k i j = mark-not y (getD d k 0) (here .none k i j) .0
+  no-service k i j = mark-not y usual (getD d k 0) (here .none k i j) .0
 
   up-carried : Carries y d a end
   up-carried =
@@ -90,26 +91,27 @@ module _
         carries-on y d a end (end + 2) up-carried
         (carries-released y d end h (λ t. stays-inside y (y .release) (mark-both y (y .release) f .0) (sym m ∙ t)) m)
 
-    released-allowed : plainServices y ≡ true → between 32 126 (getD d (end + 1) 0) ≡ true → (k : ℕ) → a ≤ k → k < end + 2 → allowedByte (getD d k 0) ≡ true
-    released-allowed p x k i j = go (leb end k) (leb (end + 1) k) refl refl
+    released-allowed : between 32 126 (getD d (end + 1) 0) ≡ true → (k : ℕ) → a ≤ k → k < end + 2 → allowedByte (getD d k 0) ≡ true
+    unfolding allowedByte between
+    released-allowed x k i j = go (leb end k) (leb (end + 1) k) refl refl
       where
         go : (b c : Bool) → leb end k ≡ b → leb (end + 1) k ≡ c → allowedByte (getD d k 0) ≡ true
         go false c t u = up-allowed k i (leb-false end k t)
         go true false t u =
             let z : k ≡ end = omega (arith, leb-true end k t, leb-false (end + 1) k u) in
-            rw (z, m) (plain-allowed (y .release) (services-plain y p .release))
+            rw (z, m, usual-are y usual .3)
         go true true t u =
             let z : k ≡ end + 1 = omega (arith, leb-true (end + 1) k u) in
             rw z (text-allowed (getD d (end + 1) 0) x)
 
     pub clean-mark
-        : plainServices y ≡ true → between 32 126 (getD d (end + 1) 0) ≡ true → (t : Scan) → t ≡ record { at = end + 2; next = end + 2; left = 0 }
+        : between 32 126 (getD d (end + 1) 0) ≡ true → (t : Scan) → t ≡ record { at = end + 2; next = end + 2; left = 0 }
         → Clean y d a t (removed + 1)
-    clean-mark p x t z =
-        let tested = scan-begins (isMark y) d (length d) (end + 2) h t z in
+    clean-mark x t z =
+        let tested = scan-begins isMark d (length d) (end + 2) h t z in
         rw z (record {
           past = past-mark y d a (length d) (omega arith) (from .at) removed (g .past) end (service (release-serves y (getD d end 0) m)) m h f;
-          allowed = released-allowed p x;
+          allowed = released-allowed x;
           carried = released-carried;
           scanned = rw z at tested;
         })

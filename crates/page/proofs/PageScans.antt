@@ -5,7 +5,6 @@ use mathlib.Core.Bool.{Bool}
 use mathlib.Core.List.{List}
 use native.Mathlib.Omega.{arith}
 use lib.Bits.{bitAnd}
-use Rattle.cut.specs.declared.service.Syntax.{Syntax}
 use Rattle.cut.proofs.Bytewise.{FirstOf}
 use Rattle.element.specs.Scans.{waiting, Tested}
 use Rattle.element.specs.Services.{isMark}
@@ -15,14 +14,14 @@ use Rattle.page.specs.declared.scan.Scan.{Scan}
 
 -- the scan behind the first mark that is flagged
 pub mark-flag
-    : (y : Syntax) (d : List ℕ) (a n m : ℕ) (s : MarkScanned y d a n m) (j : ℕ) → FirstOf 8 (waiting (isMark y) d a n) j → (m ≡ 0 → ⊥) → (at : ℕ) → at ≡ n + j - 7
-    → MarkSought y d a (record { at = at; next = n; left = bitAnd m (m - 1) })
-mark-flag y d a n m s j f h at e =
+    : (d : List ℕ) (a n m : ℕ) (s : MarkScanned d a n m) (j : ℕ) → FirstOf 8 (waiting isMark d a n) j → (m ≡ 0 → ⊥) → (at : ℕ) → at ≡ n + j - 7
+    → MarkSought d a (record { at = at; next = n; left = bitAnd m (m - 1) })
+mark-flag d a n m s j f h at e =
     record {
-      onward = flag-onward (isMark y) d _ a n m s j f h at e;
+      onward = flag-onward isMark d _ a n m s j f h at e;
       inside = omega (arith, f .within, s .within);
-      mark = flag-first (isMark y) d _ a n m s j f h at e;
-      scanned = flag-behind (isMark y) d _ a n m s j f h at e;
+      mark = flag-first isMark d _ a n m s j f h at e;
+      scanned = flag-behind isMark d _ a n m s j f h at e;
     }
 
 -- nothing is tested behind the place a

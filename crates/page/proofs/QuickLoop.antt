@@ -43,7 +43,7 @@ module _ (y : Syntax) (d : List ℕ) (start : ℕ) where
     pub beyond : start + 4 ≤ at
     pub carried : Carries y d start at
     pub allowed : allowedBytes (part start at d) ≡ true
-    pub scanned : MarkScanned y d at next left
+    pub scanned : MarkScanned d at next left
 
   -- against each page that the first state is of, the pass stands before the spot of the state s
   abbrev pub OnPages : ℕ → Places → ℕ → ℕ → Type 0
@@ -52,7 +52,7 @@ module _ (y : Syntax) (d : List ℕ) (start : ℕ) where
   module _ (b : Begun y d start) where
     pub walk-begins : (s : Scan) → s ≡ record { at = start + 4; next = start + 4; left = 0 } → Walked (s .at) (s .next) (s .left)
     walk-begins s e =
-        let m = scan-begins (isMark y) d (length d) (start + 4) (omega (arith, begun-room y d start b)) s e in
+        let m = scan-begins isMark d (length d) (start + 4) (omega (arith, begun-room y d start b)) s e in
         let a : s .at ≡ start + 4 = ap (λ (k : Scan). k .at) e in
         record {
           inside = omega (arith, begun-room y d start b);

@@ -16,8 +16,9 @@ use Rattle.cut.proofs.Parts.{part-none, part-next, part-parts}
 use Rattle.element.specs.Clean.{between, allowedByte, allowedBytes, capital, endsTag, taggedBytes}
 use Rattle.element.specs.Elements.{endingOf, stays}
 use Rattle.element.specs.Plain.{decoded}
-use Rattle.element.specs.Services.{isService, Service, plainServices}
+use Rattle.element.specs.Services.{isService, Service, usualServices}
 use Rattle.element.proofs.ComponentFace.{Ended, extent-ended, extent-stop, tag-short, tag-four}
+use Rattle.element.proofs.UsualServices.{usual-are}
 use Rattle.guide.specs.Page.{Page}
 use Rattle.page.specs.Cells.{Spot, spot}
 use Rattle.page.specs.PageWalk.{stopOf}
@@ -74,24 +75,18 @@ module _ (d : List ℕ) where
 
 -- ---- the service characters
 
-module _ (y : Syntax) (s : plainServices y ≡ true) where
+module _ (y : Syntax) (s : usualServices y ≡ true) where
   pub plain-terminator : (32 ≤ y .terminator) × (y .terminator ≤ 64)
-  unfolding plainServices
-  plain-terminator = within 32 64 (y .terminator) (two (between 32 64 (y .terminator)) _ s .0)
+  plain-terminator = rw (usual-are y s .0) (omega arith, omega arith)
 
   pub plain-element : (32 ≤ y .element) × (y .element ≤ 64)
-  unfolding plainServices
-  plain-element = within 32 64 (y .element) (two (between 32 64 (y .element)) _ (two (between 32 64 (y .terminator)) _ s .1) .0)
+  plain-element = rw (usual-are y s .1) (omega arith, omega arith)
 
   pub plain-component : (32 ≤ y .component) × (y .component ≤ 64)
-  unfolding plainServices
-  plain-component =
-      within 32 64 (y .component) (two (between 32 64 (y .component)) (between 32 64 (y .release)) (two (between 32 64 (y .element)) _ (two (between 32 64 (y .terminator)) _ s .1) .1) .0)
+  plain-component = rw (usual-are y s .2) (omega arith, omega arith)
 
   pub plain-release : (32 ≤ y .release) × (y .release ≤ 64)
-  unfolding plainServices
-  plain-release =
-      within 32 64 (y .release) (two (between 32 64 (y .component)) (between 32 64 (y .release)) (two (between 32 64 (y .element)) _ (two (between 32 64 (y .terminator)) _ s .1) .1) .1)
+  plain-release = rw (usual-are y s .3) (omega arith, omega arith)
 
   pub letter-plain : (x : ℕ) → 65 ≤ x → isService y x ≡ false
   unfolding isService endingOf stays

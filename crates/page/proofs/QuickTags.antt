@@ -10,19 +10,13 @@ use borrow.Author.Tests.{eq-eqb, eqb-true}
 use Rattle.cut.specs.Eights.{eightAt, byteOf}
 use Rattle.cut.specs.declared.service.Syntax.{Syntax}
 use Rattle.cut.proofs.Bytewise.{eight-long}
-use Rattle.element.specs.Clean.{between, capital, endsTag}
-use Rattle.element.specs.Services.{plainServices, usualServices}
+use Rattle.element.specs.Clean.{capital, endsTag}
+use Rattle.element.specs.Services.{usualServices}
 use Rattle.element.proofs.ComponentFace.{tag-four}
 use Rattle.element.proofs.UsualServices.{usual-are}
 use Rattle.page.specs.Cells.{isTagWord}
 use Rattle.page.specs.Quick.{Begun}
 use Rattle.page.proofs.QuickStart.{two}
-
-usual-plain : (y : Syntax) → usualServices y ≡ true → plainServices y ≡ true
-unfolding plainServices between
-usual-plain y u =
-    let s = usual-are y u in
-    rw (s .0, s .1, s .2, s .3)
 
 -- the lowest four of the eight bytes at the place start are the word
 module _ (d : List ℕ) (start word : ℕ) (room : start + 8 ≤ length d) (bytes : (k : ℕ) → getD d k 0 < 256) (eight : ℕ) (at : eight ≡ eightAt d start)
@@ -55,7 +49,7 @@ module _ (d : List ℕ) (start word : ℕ) (room : start + 8 ≤ length d) (byte
       let c = two (capital (byteOf word 2)) (eqb (byteOf word 3) 43) (b .1) in
       let plus : getD d (start + 3) 0 ≡ 43 = sym byte-3 ∙ eqb-true (byteOf word 3) 43 (c .1) in
       record {
-        services = usual-plain y u;
+        services = u;
         tagged =
             sym (tag-four y d start (length d) (length d) (omega arith) true (omega arith)
             (rw (← byte-0, ← byte-1, ← byte-2, a .0, b .0, c .0, eq-eqb (getD d (start + 3) 0) (y .element) (plus ∙ sym (s .1)))));

@@ -16,18 +16,18 @@ use Rattle.page.specs.declared.scan.Ahead.{Ahead}
 use Rattle.page.specs.declared.scan.Scan.{Scan}
 
 -- the bytes from the place a up to the place next are tested for marks
-abbrev pub MarkScanned : Syntax → List ℕ → ℕ → ℕ → ℕ → Type 0
-MarkScanned y d a next left = Tested (isMark y) d (length d) a next left
+abbrev pub MarkScanned : List ℕ → ℕ → ℕ → ℕ → Type 0
+MarkScanned d a next left = Tested isMark d (length d) a next left
 
 -- r is the scan behind the first mark from the place a on
-pub record MarkSought (y : Syntax) (d : List ℕ) (a : ℕ) (r : Scan) : Type 0 where
+pub record MarkSought (d : List ℕ) (a : ℕ) (r : Scan) : Type 0 where
   pub onward : a < r .at
   pub inside : r .at ≤ length d
-  pub mark : Foremost (isMark y) d a (r .at - 1)
-  pub scanned : MarkScanned y d (r .at) (r .next) (r .left)
+  pub mark : Foremost isMark d a (r .at - 1)
+  pub scanned : MarkScanned d (r .at) (r .next) (r .left)
 
 -- r says of the component that begins at the place a where it ends and how long it is, that its bytes are allowed and end no segment, and what is tested
--- behind the byte that ends it. A byte that is not allowed also is a mark, and ends nothing: so r says where the component ends only if a service character stands there
+-- behind the byte that ends it. Not every mark ends something: so r says where the component ends only if a service character stands there
 pub record CleanAhead (y : Syntax) (d : List ℕ) (a : ℕ) (r : Ahead) : Type 0 where
   pub inside : r .end < length d
   pub ahead : a ≤ r .end
@@ -36,4 +36,4 @@ pub record CleanAhead (y : Syntax) (d : List ℕ) (a : ℕ) (r : Ahead) : Type 0
   pub carried : Carries y d a (r .end)
   pub literal : eqb (getD d (r .end) 0) (y .release) ≡ false
   pub onward : r .scan .at ≡ r .end + 1
-  pub scanned : MarkScanned y d (r .scan .at) (r .scan .next) (r .scan .left)
+  pub scanned : MarkScanned d (r .scan .at) (r .scan .next) (r .scan .left)

@@ -10,14 +10,14 @@ use Rattle.cut.specs.declared.scan.Cut.the-variants as cut
 use Rattle.cut.specs.declared.service.Syntax.{Syntax}
 use Rattle.element.specs.Clean.{allowedBytes, taggedBytes}
 use Rattle.element.specs.Components.{componentAt}
-use Rattle.element.specs.Services.{plainServices}
+use Rattle.element.specs.Services.{usualServices}
 use Rattle.guide.specs.Page.{Page}
 use Rattle.guide.specs.PageFault.{pageFault}
 use Rattle.page.specs.declared.quick.Faultless.{Faultless}
 
--- the segment that begins at the place start begins with a tag and the element separator, and no letter is a service character
+-- the segment that begins at the place start begins with a tag and the element separator, and the service characters are the usual ones
 pub record Begun (y : Syntax) (d : List ℕ) (start : ℕ) : Type 0 where
-  pub services : plainServices y ≡ true
+  pub services : usualServices y ≡ true
   pub tagged : taggedBytes y (part start (length d) d) ≡ true
   pub inner : getD d (start + 3) 0 ≡ y .terminator → ⊥
   pub literal : getD d (start + 3) 0 ≡ y .release → ⊥

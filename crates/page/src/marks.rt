@@ -1,5 +1,5 @@
-// The components of a segment without a byte that is not allowed, found by words of eight bytes in which service characters and bytes that are not allowed are
-// tested at once. What is not told at once is told elsewhere.
+// The components of a segment without a byte that is not allowed, found by words of eight bytes in which the usual service characters and bytes that are not
+// allowed are tested at once. What is not told at once is told elsewhere.
 use crate::scan::Ahead;
 use crate::scan::Scan;
 use crate::scan::marks;
@@ -11,13 +11,13 @@ ghost use mathlib.Core.Bool.{true};
 ghost use mathlib.Core.Path.{_≡_};
 ghost use lib.ListN.{length};
 ghost use Rattle.element.specs.Clean.{between};
-ghost use Rattle.element.specs.Services.{plainServices};
+ghost use Rattle.element.specs.Services.{usualServices};
 ghost use Rattle.page.specs.Marks.{MarkScanned, MarkSought, CleanAhead};
 
 // The scan behind the mark that comes next; at the delivery's start, where words of eight bytes find none.
-fn mark_on(y: Syntax, d: &[u8], scan: Scan) -> Scan
-    requires { ⌜ (plainServices y ≡ true) × MarkScanned y (now d) (scan .at) (scan .next) (scan .left) ⌝ }
-    ensures { λ r. ⌜ ((r .at ≡ 0 → ⊥) → MarkSought y (now (d .entry)) (scan .at) r) ⌝ }
+fn mark_on(d: &[u8], scan: Scan) -> Scan
+    requires { ⌜ MarkScanned (now d) (scan .at) (scan .next) (scan .left) ⌝ }
+    ensures { λ r. ⌜ ((r .at ≡ 0 → ⊥) → MarkSought (now (d .entry)) (scan .at) r) ⌝ }
 {
     if d.len() < 8 {
         return untested(0);
@@ -29,7 +29,7 @@ fn mark_on(y: Syntax, d: &[u8], scan: Scan) -> Scan
         if last < n {
             return untested(0);
         }
-        m = marks_in(y, cut::eight_at(d, n));
+        m = marks_in(cut::eight_at(d, n));
         n += 8;
     }
     Scan {
@@ -61,14 +61,14 @@ fn is_text(x: u8) -> bool
 
 // The component that comes next, and what is tested behind it; the end 0, where that is not told.
 pub(crate) fn clean_on(y: Syntax, d: &[u8], scan: Scan) -> Ahead
-    requires { ⌜ (plainServices y ≡ true) × (scan .at ≤ length (now d)) × MarkScanned y (now d) (scan .at) (scan .next) (scan .left) ⌝ }
+    requires { ⌜ (usualServices y ≡ true) × (scan .at ≤ length (now d)) × MarkScanned (now d) (scan .at) (scan .next) (scan .left) ⌝ }
     ensures { λ r. ⌜ ((r .end ≡ 0 → ⊥) → CleanAhead y (now (d .entry)) (scan .at) r) ⌝ }
 {
     let a = scan.at;
     let mut from = scan;
     let mut removed = 0;
     loop {
-        let behind = mark_on(y, d, from);
+        let behind = mark_on(d, from);
         if behind.at == 0 {
             return untold();
         }

@@ -1,6 +1,7 @@
 -- `element::clean::marks_in` meets its contract, by the law of each byte apart.
+use native.Mathlib.Nat.{le-trans}
 use native.Mathlib.Omega.{arith}
-use lib.Bits.{and-le-r}
+use lib.Bits.{and-le-l, and-le-r}
 use Rattle.cut.proofs.Bytewise.{eight-word}
 use Rattle.element.proofs.clean.Marks.{mark-flags}
 use Rattle.element.proofs.clean.marks_in.Statement.{statement}
@@ -13,31 +14,19 @@ differing-requires-2 : tie.Need-differing-requires-2
 differing-requires-2 c κs = and-le-r (c .before .args .w) 0x7f7f_7f7f_7f7f_7f7f
 
 differing-requires-3 : tie.Need-differing-requires-3
-differing-requires-3 c κs = and-le-r (c .before .before .args .w) 0x7f7f_7f7f_7f7f_7f7f
-
-differing-requires-4 : tie.Need-differing-requires-4
-differing-requires-4 c κs = and-le-r (c .before .before .before .args .w) 0x7f7f_7f7f_7f7f_7f7f
+differing-requires-3 c κs = le-trans (and-le-l _ _) (and-le-r (c .before .before .args .w) 0x7f7f_7f7f_7f7f_7f7f)
 
 add-text : tie.Need-add-text
-add-text c = record { fits = omega (arith, and-le-r (c .before .before .before .before .args .w) 0x7f7f_7f7f_7f7f_7f7f) }
+add-text c = record { fits = omega (arith, and-le-r (c .before .before .before .args .w) 0x7f7f_7f7f_7f7f_7f7f) }
 
 add-delete : tie.Need-add-delete
-add-delete c = record { fits = omega (arith, and-le-r (c .before .before .before .before .args .w) 0x7f7f_7f7f_7f7f_7f7f) }
+add-delete c = record { fits = omega (arith, and-le-r (c .before .before .before .args .w) 0x7f7f_7f7f_7f7f_7f7f) }
 
 returns : tie.Need-returns
-returns c = λ h.
+returns c =
     let b = c .before .before in
-    let a = b .before .before .args in
-    mark-flags (a .y) (a .w) _ (eight-word (a .w) (omega arith)) h _ _ _ _ (b .before .differing .ensures) (b .differing2 .ensures) (c .before .differing3 .ensures) (c .differing4 .ensures)
+    let a = b .before .args in
+    mark-flags (a .w) _ (eight-word (a .w) (omega arith)) _ _ _ (b .differing .ensures) (c .before .differing2 .ensures) (c .differing3 .ensures)
 
 pub marks-in-spec : {M : Type 1} → statement M
-marks-in-spec =
-    tie.close
-    (tie.spec
-    differing-requires
-    differing-requires-2
-    differing-requires-3
-    differing-requires-4
-    add-text
-    add-delete
-    returns)
+marks-in-spec = tie.close (tie.spec differing-requires differing-requires-2 differing-requires-3 add-text add-delete returns)

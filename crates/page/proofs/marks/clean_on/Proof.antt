@@ -21,7 +21,7 @@ loop-holds : tie.Need-loop-holds Inv-loop μ-loop
 loop-holds c = clean-first _ _ _ (c .before .pre .1) (c .before .pre .2)
 
 mark-on-requires : tie.Need-mark-on-requires Inv-loop μ-loop
-mark-on-requires c κs = (c .before .before .pre .0, c .loop .inv .scanned)
+mark-on-requires c κs = c .loop .inv .scanned
 
 untold-requires : tie.Need-untold-requires Inv-loop μ-loop
 untold-requires c κs = search needs
@@ -37,7 +37,7 @@ sought
     : (c : tie.After-shared-slice-known2 Inv-loop μ-loop)
     → let s = c .before .before .before .before in
     let a = s .before .before .before .args in
-    MarkSought (a .y) (a .d .now) (s .before .loop .from .at) (s .mark-on .result)
+    MarkSought (a .d .now) (s .before .loop .from .at) (s .mark-on .result)
 sought c = c .before .before .before .before .mark-on .ensures (c .before .before .if1 .left)
 
 shared-slice-read-if2 : tie.Need-shared-slice-read-if2 Inv-loop μ-loop
@@ -56,7 +56,7 @@ sub-t13 c =
 returns-2 : tie.Need-returns-2 Inv-loop μ-loop
 returns-2 c =
     let k = c .before .before in
-    λ n. clean-found _ _ _ _ _ (k .before .before .before .before .before .loop .inv) _ (sought k) _ refl (c .if2 .taken)
+    λ n. clean-found _ (k .before .before .before .before .before .before .before .pre .0) _ _ _ _ (k .before .before .before .before .before .loop .inv) _ (sought k) _ refl (c .if2 .taken)
 
 add-if3 : tie.Need-add-if3 Inv-loop μ-loop
 add-if3 c = omega (arith, sought (c .before .before) .inside)
@@ -111,8 +111,8 @@ goes c =
     let f = x .before .before in
     let k = f .before .before .before in
     let l = k .before .before .before .before .before in
-    clean-mark _ _ _ _ _ (l .loop .inv) _ (sought k) _ refl (f .before .if2 .left) (omega (arith, f .if3 .left)) (sym (m .marks .ensures) ∙ not-false _ (c .before .if5 .left))
-    (l .before .before .pre .0) (sym (x .is-text .ensures) ∙ not-false _ (m .before .if4 .left)) _ (c .untested .ensures)
+    clean-mark _ (l .before .before .pre .0) _ _ _ _ (l .loop .inv) _ (sought k) _ refl (f .before .if2 .left) (omega (arith, f .if3 .left)) (sym (m .marks .ensures) ∙ not-false _ (c .before .if5 .left))
+    (sym (x .is-text .ensures) ∙ not-false _ (m .before .if4 .left)) _ (c .untested .ensures)
 
 add-removed : tie.Need-add-removed Inv-loop μ-loop
 add-removed c = omega (arith, goes c .past .onward, goes c .past .within)

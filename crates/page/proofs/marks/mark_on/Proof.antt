@@ -16,10 +16,10 @@ use Rattle.page.proofs.marks.mark_on.Statement.{statement}
 use Rattle.page.proofs.marks.mark_on.Tie as tie
 
 abbrev Inv-loop : tie.InvT-loop
-Inv-loop y d last n₀ m₀ n m = (a : ℕ) → MarkScanned y d a n₀ m₀ → MarkScanned y d a n m
+Inv-loop d last n₀ m₀ n m = (a : ℕ) → MarkScanned d a n₀ m₀ → MarkScanned d a n m
 
 abbrev μ-loop : tie.MeasureT-loop
-μ-loop y d last n₀ m₀ n m = length d - n
+μ-loop d last n₀ m₀ n m = length d - n
 
 untested-requires : tie.Need-untested-requires Inv-loop μ-loop
 untested-requires c κs = search needs
@@ -56,8 +56,8 @@ loop-again c = λ a s.
     let t = c .before .before .before in
     let l = t .before in
     let known = l .before .before in
-    let f = flagged-there (known .before .args .d .now) (l .loop .n) _ (isMark (known .before .args .y)) _ (omega arith)
-    (λ k. omega (arith, known .shared-slice-known .given k)) (c .before .eight-at .ensures) (c .marks-in .ensures (known .before .pre .0)) in
+    let f = flagged-there (known .before .args .d .now) (l .loop .n) _ isMark _ (omega arith)
+    (λ k. omega (arith, known .shared-slice-known .given k)) (c .before .eight-at .ensures) (c .marks-in .ensures) in
     scan-word _ _ _ _ _ _ (l .loop .inv a s) (t .loop-test .taken) (omega arith) _ f
 
 first-of-requires : tie.Need-first-of-requires Inv-loop μ-loop
@@ -68,30 +68,30 @@ tested
     : (c : tie.After-first-of Inv-loop μ-loop)
     → let l = c .before .before in
     let a = l .before .before .before .args in
-    MarkScanned (a .y) (a .d .now) (a .scan .at) (l .loop .n) (l .loop .m)
+    MarkScanned (a .d .now) (a .scan .at) (l .loop .n) (l .loop .m)
 tested c =
     let l = c .before .before in
-    l .loop .inv _ (l .before .before .before .pre .1)
+    l .loop .inv _ (l .before .before .before .pre)
 
 -- the first flag
 first
     : (c : tie.After-first-of Inv-loop μ-loop)
     → let l = c .before .before in
     let a = l .before .before .before .args in
-    FirstOf 8 (waiting (isMark (a .y)) (a .d .now) (a .scan .at) (l .loop .n)) (c .first-of .result)
+    FirstOf 8 (waiting isMark (a .d .now) (a .scan .at) (l .loop .n)) (c .first-of .result)
 first c = first-of _ _ _ (tested c .flagged) (c .before .loop-test .left) (c .first-of .ensures)
 
-add-t11 : tie.Need-add-t11 Inv-loop μ-loop
-add-t11 c = omega (arith, first c .within, tested c .within)
+add-t10 : tie.Need-add-t10 Inv-loop μ-loop
+add-t10 c = omega (arith, first c .within, tested c .within)
+
+sub-t11 : tie.Need-sub-t11 Inv-loop μ-loop
+sub-t11 c = omega (arith, scan-flag _ _ _ _ _ _ (tested c) _ (first c))
 
 sub-t12 : tie.Need-sub-t12 Inv-loop μ-loop
-sub-t12 c = omega (arith, scan-flag _ _ _ _ _ _ (tested c) _ (first c))
-
-sub-t13 : tie.Need-sub-t13 Inv-loop μ-loop
-sub-t13 c = omega (arith, c .before .loop-test .left)
+sub-t12 c = omega (arith, c .before .loop-test .left)
 
 returns-3 : tie.Need-returns-3 Inv-loop μ-loop
-returns-3 c = λ n. mark-flag _ _ _ _ _ (tested c) _ (first c) (c .before .loop-test .left) _ refl
+returns-3 c = λ n. mark-flag _ _ _ _ (tested c) _ (first c) (c .before .loop-test .left) _ refl
 
 pub mark-on-spec : {M : Type 1} → statement M
 mark-on-spec =
@@ -111,7 +111,7 @@ mark-on-spec =
     loop-less
     loop-again
     first-of-requires
-    add-t11
+    add-t10
+    sub-t11
     sub-t12
-    sub-t13
     returns-3)
