@@ -2,7 +2,7 @@
 -- at which it ends.
 use Prim.Native.Nat.{ℕ, _+_, _-_, _*_, _^_, _%_, _≤_, _<_, min}
 use mathlib.Core.Path.{_≡_, refl, sym, ap, _∙_}
-use mathlib.Core.Bool.{true, false}
+use mathlib.Core.Bool.{false}
 use mathlib.Core.List.{List}
 use native.Mathlib.Omega.{arith}
 use lib.ListN.{length, getD}
@@ -11,21 +11,17 @@ use Rattle.cut.specs.Bytes.{part}
 use Rattle.cut.specs.Eights.{onFrom, eightAt, byteOf, Flagged, firstByte}
 use Rattle.cut.specs.declared.service.Syntax.{Syntax}
 use Rattle.cut.proofs.Bytewise.{byte-there, flagged-there}
-use Rattle.cut.proofs.Clearing.{first-before}
+use Rattle.cut.proofs.Clearing.{first-before, first-passes}
 use Rattle.cut.proofs.Parts.{length-part}
 use Rattle.element.specs.Elements.{ends-element, endingOf, stays, before, component}
 use Rattle.element.specs.Plain.{plain, decoded}
-use Rattle.element.specs.Services.{isMark, usualServices, Passed, Service}
+use Rattle.element.specs.Services.{isService, Passed, Service}
 use Rattle.element.specs.Words.{wordOf}
 use Rattle.element.proofs.Cuts.{elements-some}
 use Rattle.element.proofs.Limits.{limited}
-use Rattle.element.proofs.UsualServices.{usual-are}
-use Rattle.element.proofs.clean.Marks.{mark-not}
 use Rattle.element.proofs.scan.Endings.{ending-element}
-use Rattle.element.proofs.scan.Extents.{extent-ends, extent-ended}
-use Rattle.element.proofs.scan.Services.{passed-none, passed-run, service-here, service-end, plain-no-mark}
--- whether a byte ends a component
-pub use Rattle.element.proofs.scan.Services.{component-ends, element-ends, terminator-ends}
+use Rattle.element.proofs.scan.Extents.{extent-ends, extent-stop, extent-ended}
+use Rattle.element.proofs.scan.Services.{passed-none, service-here, service-end, service-eight, plain-no-mark}
 use Rattle.element.proofs.scan.Stopping.{from, Ended}
 use Rattle.element.proofs.words.AtOnce.{front-worth, word-plain}
 -- what the 1 above n bytes counts is not 0, and the sum fits
@@ -44,7 +40,7 @@ module _ (y : Syntax) (d : List ℕ) (start end limit : ℕ) (lim : limit ≡ mi
   -- no service character stands before the place p, where one ends the tag's element; the next one, at the place q, ends the component behind it
   key-part
       : (p q : ℕ) → Passed y d start p → p < limit → endingOf y false (getD d p 0) ≡ ends-element
-      → Service y d (p + 1) limit q → q < limit → stays (endingOf y false (getD d q 0)) ≡ false → component y (part start end d) 1 0 ≡ part (p + 1) q d
+      → Service y d (p + 1) limit q → q < limit → (getD d q 0 ≡ y .release → ⊥) → component y (part start end d) 1 0 ≡ part (p + 1) q d
   unfolding stays
   key-part p q s h g t k n =
       let o = s .onward in
@@ -53,34 +49,29 @@ module _ (y : Syntax) (d : List ℕ) (start end limit : ℕ) (lim : limit ≡ mi
       let same : limit ≡ min limit (length d) = omega arith in
       let f : stays (endingOf y false (getD d p 0)) ≡ false = rw g in
       let one = extent-ended y d start limit _ (extent-ends y d start limit limit same p (service-here y d start p s limit (service-end y _ f)) h f) (omega arith) fits in
-      let two = extent-ended y d (p + 1) limit _ (extent-ends y d (p + 1) limit limit same q t k n) (omega arith) fits in
+      let two = extent-ended y d (p + 1) limit _ (extent-stop y d (p + 1) limit limit same q t k n) (omega arith) fits in
       ap (λ (l : List ℕ). component y l 1 0) (sym (limited d start end limit lim))
       ∙ second-element y d start limit p (omega arith) fits one h g
       ∙ two .bytes
 
-  module _ (there : start + 12 ≤ limit) (bytes : (k : ℕ) → getD d k 0 < 256) (usual : usualServices y ≡ true) where
-    -- the first mark of eight bytes, if it ends something
+  module _ (there : start + 12 ≤ limit) (bytes : (k : ℕ) → getD d k 0 < 256) where
+    -- the first service character of eight bytes
     service-near
-        : (i w m j : ℕ) → i + 8 ≤ limit → w ≡ eightAt d i → Flagged w isMark m → j ≡ firstByte m → stays (endingOf y false (getD d (i + j) 0)) ≡ false
-        → Service y d i limit (i + j)
-    service-near i w m j h e f q s =
-        let g = flagged-there d i w isMark m (omega arith) bytes e f in
-        service-here y d i (i + j) (passed-run y d i i (passed-none y d i) j (λ k l. mark-not y usual (onFrom d i k) (first-before _ m j g q k l) .0)) limit (service-end y _ s)
-
-    apart : y .terminator ≡ y .element → ⊥
-    apart z =
-        let u = usual-are y usual in
-        omega (arith, z, u .0, u .1)
+        : (i w m j : ℕ) → i + 8 ≤ limit → w ≡ eightAt d i → Flagged w (isService y) m → j ≡ firstByte m → j < 8 → Service y d i limit (i + j)
+    service-near i w m j h e f q l =
+        let g = flagged-there d i w (isService y) m (omega arith) bytes e f in
+        service-eight y d i i (passed-none y d i) m g limit j
+        (record { within = l; passes = first-passes _ m j g q l; before = first-before _ m j g q })
 
     pub front-key
-        : Passed y d start (start + 3) → getD d (start + 3) 0 ≡ y .element
-        → (w m n : ℕ) → w ≡ eightAt d (start + 4) → Flagged w isMark m → n ≡ firstByte m → n ≤ 6 → stays (endingOf y false (getD d (start + 4 + n) 0)) ≡ false
+        : Passed y d start (start + 3) → getD d (start + 3) 0 ≡ y .element → (y .terminator ≡ y .element → ⊥)
+        → (w m n : ℕ) → w ≡ eightAt d (start + 4) → Flagged w (isService y) m → n ≡ firstByte m → n ≤ 6 → (getD d (start + 4 + n) 0 ≡ y .release → ⊥)
         → (scale : ℕ) → scale ≡ 1 * 2 ^ (8 * n) % 2 ^ 64
         → bitAnd w (scale - 1) + scale ≡ wordOf (plain y false (component y (part start end d) 1 0))
     unfolding decoded
-    front-key tag x w m n e f q few u scale s =
+    front-key tag x apart w m n e f q few u scale s =
         let i : start + 3 + 1 ≡ start + 4 = omega arith in
-        let near : Service y d (start + 4) limit (start + 4 + n) = service-near (start + 4) w m n (omega arith) e f q u in
+        let near : Service y d (start + 4) limit (start + 4 + n) = service-near (start + 4) w m n (omega arith) e f q (omega arith) in
         let g = ending-element y _ (λ t. apart (sym t ∙ x)) x in
         let place : component y (part start end d) 1 0 ≡ part (start + 4) (start + 4 + n) d =
         rw i at (key-part (start + 3) (start + 4 + n) tag (omega arith) g (rw i near) (omega arith) u) in

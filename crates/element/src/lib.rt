@@ -26,5 +26,6 @@ pub use plain::plain_length;
 pub use plain::same_plain;
 pub use scan::Extent;
 pub use scan::component_from;
+pub use scan::services_in;
 pub use usual::has_usual_services;
 pub use words::word_of;

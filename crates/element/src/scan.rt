@@ -105,7 +105,7 @@ fn next_service(y: Syntax, d: &[u8], from: usize, limit: usize) -> usize
 }
 
 // Which of eight bytes end something or are the release character.
-pub(crate) fn services_in(y: Syntax, w: u64) -> u64
+pub fn services_in(y: Syntax, w: u64) -> u64
     ensures { λ r. ⌜ Flagged w (isService y) r ⌝ }
 {
     cut::alike(w, y.terminator)

@@ -2,11 +2,10 @@
 use cut::Syntax;
 ghost use Prim.Native.Nat.{_+_, _<_, _≤_};
 ghost use mathlib.Core.Path.{_≡_};
-ghost use mathlib.Core.Bool.{true, false, not};
+ghost use mathlib.Core.Bool.{true};
 ghost use mathlib.Core.List.{[], _∷_};
 ghost use lib.ListN.{length, take};
 ghost use Rattle.cut.specs.Bytes.{part};
-ghost use Rattle.element.specs.Elements.{endingOf, stays};
 ghost use Rattle.guide.specs.Views.{viewOf};
 ghost use Rattle.judge.specs.Words.{packed, letters, wordOf};
 
@@ -57,21 +56,8 @@ pub(crate) fn tag_number(d: &[u8], start: usize, end: usize) -> u32
     pack(d, start, start + 3)
 }
 
-// Whether the byte x ends a component where it is not released.
-fn ends_key(y: Syntax, x: u8) -> bool
-    ensures { λ r. ⌜ r ≡ not (stays (endingOf y false x)) ⌝ }
-{
-    if x == y.component {
-        return true;
-    }
-    if x == y.element {
-        return true;
-    }
-    x == y.terminator
-}
-
 // The word of component 0 of element 1 where eight bytes tell it: the service characters are the usual ones, which no letter of the tag is, and the component has
-// at most six bytes, none of them flagged by `marks_in`. 0 where they do not tell it.
+// at most six bytes, of which none is the release character. 0 where they do not tell it.
 fn front_key(y: Syntax, d: &[u8], start: usize, end: usize) -> u64
     requires { ⌜ letters (packed (take 3 (part start end (now d)))) ≡ true ⌝ }
     ensures { λ r. ⌜ ((r ≡ 0 → ⊥) → r ≡ wordOf (viewOf y (part start end (now (d .entry))) .key 1 0)) ⌝ }
@@ -90,11 +76,11 @@ fn front_key(y: Syntax, d: &[u8], start: usize, end: usize) -> u64
         return 0;
     }
     let w = cut::eight_at(d, start + 4);
-    let n = cut::first_of(element::marks_in(w));
+    let n = cut::first_of(element::services_in(y, w));
     if 6 < n {
         return 0;
     }
-    if !ends_key(y, d[start + 4 + n]) {
+    if d[start + 4 + n] == y.release {
         return 0;
     }
     let scale = 1u64 << (8 * n);

@@ -1,7 +1,7 @@
 -- The bytes that end something or release the next one, a byte at a time and eight at once.
 use Prim.Native.Nat.{ℕ, _+_, _-_, _≤_, _<_}
 use mathlib.Core.Path.{_≡_, refl, sym, ap, _∙_}
-use mathlib.Core.Bool.{Bool, true, false, cond, not, _||_, or-true, or-false, true≢false, false≢true}
+use mathlib.Core.Bool.{Bool, true, false, cond, not, _||_, true≢false, false≢true}
 use mathlib.Core.List.{List}
 use native.Mathlib.Omega.{arith}
 use borrow.Author.Tests.{eq-eqb, ne-eqb, eqb-false, leb-true, leb-false}
@@ -28,25 +28,10 @@ neither true r h = (refl, h)
 neither false r h = absurd (true≢false h)
 
 module _ (y : Syntax) (x : ℕ) where
-  -- the three tests of it where it ends something
-  ending-tests : (eqb x (y .terminator) || eqb x (y .element)) || eqb x (y .component) ≡ not (stays (endingOf y false x))
-  unfolding endingOf
-  ending-tests = one-of (eqb x (y .terminator)) (eqb x (y .element)) (eqb x (y .component))
-
-  pub component-ends : x ≡ y .component → true ≡ not (stays (endingOf y false x))
-  component-ends h = sym (rw (eq-eqb x (y .component) h) (or-true (eqb x (y .terminator) || eqb x (y .element)))) ∙ ending-tests
-
-  pub element-ends : x ≡ y .element → true ≡ not (stays (endingOf y false x))
-  element-ends h = sym (rw (eq-eqb x (y .element) h, or-true (eqb x (y .terminator)))) ∙ ending-tests
-
-  pub terminator-ends : (x ≡ y .component → ⊥) → (x ≡ y .element → ⊥) → eqb x (y .terminator) ≡ not (stays (endingOf y false x))
-  terminator-ends n m =
-      sym (rw (ne-eqb x (y .component) n, ne-eqb x (y .element) m, or-false (eqb x (y .terminator)), or-false (eqb x (y .terminator)))) ∙ ending-tests
-
-  -- and the four of it where it is such
+  -- the four tests of it
   pub service-tests : ((eqb x (y .terminator) || eqb x (y .element)) || eqb x (y .component)) || eqb x (y .release) ≡ isService y x
-  unfolding isService
-  service-tests = ap (λ (b : Bool). b || eqb x (y .release)) ending-tests
+  unfolding isService endingOf
+  service-tests = ap (λ (b : Bool). b || eqb x (y .release)) (one-of (eqb x (y .terminator)) (eqb x (y .element)) (eqb x (y .component)))
 
   pub service-end : stays (endingOf y false x) ≡ false → isService y x ≡ true
   unfolding isService
@@ -122,7 +107,7 @@ module _ (y : Syntax) (d : List ℕ) where
     service-here limit s = record { passed = p; here = λ l. s }
 
     -- n bytes more
-    pub passed-run : (n : ℕ) → ((k : ℕ) → k < n → isService y (onFrom d i k) ≡ false) → Passed y d from (i + n)
+    passed-run : (n : ℕ) → ((k : ℕ) → k < n → isService y (onFrom d i k) ≡ false) → Passed y d from (i + n)
     passed-run n t = passed-on (i + n) (record { onward = omega arith; none = go })
       where
         go : (k : ℕ) → i ≤ k → k < i + n → isService y (getD d k 0) ≡ false

@@ -1,11 +1,9 @@
 -- `judge::words::front_key` meets its contract: a segment that a test refuses is not read so. Assumes nothing.
 use Prim.Native.Nat.{_+_, _≤_}
-use mathlib.Core.Bool.{true}
-use mathlib.Core.Path.{_≡_, refl, sym, _∙_}
+use mathlib.Core.Path.{refl, sym, _∙_}
 use native.Mathlib.Omega.{arith}
 use borrow.Author.Needs.{needs}
-use borrow.Author.Tests.{not-true, not-false}
-use Rattle.element.specs.Services.{usualServices}
+use borrow.Author.Tests.{not-false}
 use Rattle.element.proofs.FrontKeys.{scale-some, scale-fits, front-key}
 use Rattle.element.proofs.UsualServices.{usual-are}
 use Rattle.guide.specs.Views.{viewOf}
@@ -44,8 +42,8 @@ add-eight-at c = search needs
 eight-at-requires : tie.Need-eight-at-requires
 eight-at-requires c κs = search needs
 
-marks-in-requires : tie.Need-marks-in-requires
-marks-in-requires c κs = search needs
+services-in-requires : tie.Need-services-in-requires
+services-in-requires c κs = search needs
 
 first-of-requires : tie.Need-first-of-requires
 first-of-requires c κs = search needs
@@ -53,17 +51,14 @@ first-of-requires c κs = search needs
 returns-5 : tie.Need-returns-5
 returns-5 c = search needs
 
-add-ends-key : tie.Need-add-ends-key
-add-ends-key c = search needs
+add-if6 : tie.Need-add-if6
+add-if6 c = search needs
 
-add-ends-key-2 : tie.Need-add-ends-key-2
-add-ends-key-2 c = search needs
+add-if6-2 : tie.Need-add-if6-2
+add-if6-2 c = search needs
 
-shared-slice-read-ends-key : tie.Need-shared-slice-read-ends-key
-shared-slice-read-ends-key c = search needs
-
-ends-key-requires : tie.Need-ends-key-requires
-ends-key-requires c κs = search needs
+shared-slice-read-if6 : tie.Need-shared-slice-read-if6
+shared-slice-read-if6 c = search needs
 
 returns-6 : tie.Need-returns-6
 returns-6 c = search needs
@@ -97,13 +92,11 @@ returns-7 c _ =
     let a = known .before .args in
     let room : a .start + 12 ≤ limited .limit-of .result = omega (arith, inside .before .if1 .left, inside .if2 .left) in
     let bytes : Bytes (a .d .now) = λ k. omega (arith, known .shared-slice-known .given k) in
-    let services : usualServices (a .y) ≡ true = sym (usual .before .has-usual-services .ensures) ∙ not-false _ (usual .if3 .left) in
-    let u = usual-are (a .y) services in
-    front-key (a .y) (a .d .now) (a .start) (a .end) (limited .limit-of .result) (limited .limit-of .ensures) room bytes services
+    let u = usual-are (a .y) (sym (usual .before .has-usual-services .ensures) ∙ not-false _ (usual .if3 .left)) in
+    front-key (a .y) (a .d .now) (a .start) (a .end) (limited .limit-of .result) (limited .limit-of .ensures) room bytes
     (letters-passed (a .d .now) (a .start) (a .end) _ (limited .limit-of .ensures) (omega (arith, room)) bytes (known .before .pre) (a .y) (u .0) (u .1) (u .2) (u .3))
-    (separated .if4 .left) _ _ _ (behind .before .before .eight-at .ensures)
-    (behind .before .marks-in .ensures) (behind .first-of .ensures) (last .if5 .left)
-    (not-true _ (sym (c .before .ends-key .ensures) ∙ not-false _ (c .if6 .left))) _ refl
+    (separated .if4 .left) (λ z. omega (arith, z, u .0, u .1)) _ _ _ (behind .before .before .eight-at .ensures)
+    (behind .before .services-in .ensures) (behind .first-of .ensures) (last .if5 .left) (c .if6 .left) _ refl
 
 pub front-key-spec : {M : Type 1} → statement M
 front-key-spec =
@@ -119,13 +112,12 @@ front-key-spec =
     returns-4
     add-eight-at
     eight-at-requires
-    marks-in-requires
+    services-in-requires
     first-of-requires
     returns-5
-    add-ends-key
-    add-ends-key-2
-    shared-slice-read-ends-key
-    ends-key-requires
+    add-if6
+    add-if6-2
+    shared-slice-read-if6
     returns-6
     mul-scale
     shl-scale
