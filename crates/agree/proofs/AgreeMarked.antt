@@ -4,15 +4,15 @@ use mathlib.Core.Path.{_≡_, refl, sym, ap, _∙_}
 use mathlib.Core.Bool.{Bool, true, false, cond, _&&_, _||_, or-true, true≢false}
 use mathlib.Core.List.{List, [], _∷_, _++_}
 use native.Mathlib.Omega.{arith}
-use lib.ListN.{length, getD, set, length-set}
-use lib.Seq.{getD-set-same, getD-set-other}
+use lib.ListN.{length}
 use lib.Dec.{eqb}
-use borrow.Author.Tests.{eq-eqb, ne-eqb, eqb-true, eqb-false}
+use borrow.Author.Tests.{eq-eqb, ne-eqb, eqb-true}
 use Rattle.cut.specs.declared.service.Syntax.{Syntax}
 use Rattle.agree.specs.Agreement.{Heading, agree}
 use Rattle.agree.specs.AgreePositions.{agreesAny}
 use Rattle.agree.specs.AgreePrints.{printOf}
 use Rattle.agree.specs.AgreeMarks.{cellOf, markOf, mergedBy, heldBy, heldIn, setIn, secondOf, thirdOf, markedIn, markIn, allMarked}
+use Rattle.agree.proofs.AgreeTables.{put-length, put-has, put-keeps}
 use Rattle.agree.proofs.AgreeTexts.{and-both, both-and}
 use Rattle.agree.proofs.AgreePrinted.{agree-print}
 
@@ -63,24 +63,15 @@ merged-keeps v m l n h = go (eqb v 0) refl (eqb v m) refl
 module _ (t : List ℕ) (f : ℕ) where
   set-length : length (setIn t f) ≡ length t
   unfolding setIn
-  set-length = length-set t _ _
+  set-length = put-length cellOf markOf mergedBy heldBy t f
 
   set-holds : length t ≡ 8192 → heldIn (setIn t f) f ≡ true
   unfolding heldIn setIn
-  set-holds l =
-      rw (getD-set-same t (cellOf f) (mergedBy (getD t (cellOf f) 0) (markOf f)) 0 (omega (arith, cell-inside f))) (merged-holds (getD t (cellOf f) 0) (markOf f))
+  set-holds = put-has cellOf markOf mergedBy heldBy 8192 cell-inside (λ v g. merged-holds v (markOf g)) t f
 
   set-keeps : (g : ℕ) → length t ≡ 8192 → heldIn t g ≡ true → heldIn (setIn t f) g ≡ true
   unfolding heldIn setIn
-  set-keeps g l k = go (eqb (cellOf g) (cellOf f)) refl
-    where
-      go : (b : Bool) → eqb (cellOf g) (cellOf f) ≡ b → heldBy (getD (set t (cellOf f) (mergedBy (getD t (cellOf f) 0) (markOf f))) (cellOf g) 0) (markOf g) ≡ true
-      go true e =
-          let z = eqb-true (cellOf g) (cellOf f) e in
-          let h : heldBy (getD t (cellOf f) 0) (markOf g) ≡ true = rw (← z) k in
-          rw (z, getD-set-same t (cellOf f) (mergedBy (getD t (cellOf f) 0) (markOf f)) 0 (omega (arith, cell-inside f)))
-          (merged-keeps (getD t (cellOf f) 0) (markOf f) (markOf g) (mark-some g) h)
-      go false e = rw (getD-set-other t (cellOf f) (cellOf g) (mergedBy (getD t (cellOf f) 0) (markOf f)) 0 (eqb-false (cellOf g) (cellOf f) e)) k
+  set-keeps = put-keeps cellOf markOf mergedBy heldBy 8192 cell-inside (λ v h g. merged-keeps v (markOf h) (markOf g) (mark-some g)) t f
 
 module _ (t : List ℕ) (f : ℕ) where
   -- the table once the first cell is set, and once the second is
@@ -113,13 +104,13 @@ module _ (t : List ℕ) (f : ℕ) where
     unfolding markIn
     last-held = set-holds twice (thirdOf f) (twice-length ∙ size)
 
-    pub mark-marks : markedIn (markIn t f) f ≡ true
+    mark-marks : markedIn (markIn t f) f ≡ true
     unfolding markedIn
     mark-marks =
         both-and _ _ (from-once f (set-holds t f size))
         (both-and _ _ (from-twice (secondOf f) (set-holds once (secondOf f) (set-length t f ∙ size))) last-held)
 
-    pub mark-keeps : (g : ℕ) → markedIn t g ≡ true → markedIn (markIn t f) g ≡ true
+    mark-keeps : (g : ℕ) → markedIn t g ≡ true → markedIn (markIn t f) g ≡ true
     unfolding markedIn
     mark-keeps g h =
         let p = and-both (heldIn t g) (heldIn t (secondOf g) && heldIn t (thirdOf g)) h in

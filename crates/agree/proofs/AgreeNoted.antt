@@ -1,18 +1,17 @@
 -- The table of articles: what is noted stays.
 use Prim.Native.Nat.{ℕ, zero, suc, _*_, _/_, _%_, _<_, _^_}
 use mathlib.Core.Path.{_≡_, refl, sym, ap, _∙_}
-use mathlib.Core.Bool.{Bool, true, false, _&&_}
+use mathlib.Core.Bool.{Bool, true}
 use mathlib.Core.List.{List}
 use native.Mathlib.Omega.{arith}
 use native.Mathlib.Nat.{one-mul, mod-eq-of-lt}
-use lib.ListN.{length, getD, set, length-set}
-use lib.Seq.{getD-set-same, getD-set-other}
-use lib.Dec.{eqb}
+use lib.ListN.{length}
 use lib.Arith.{bin-ind}
 use lib.Pow.{pow-lt}
 use lib.Bits.{bitOr, or-comm, or-self, or-shr, or-mod}
-use borrow.Author.Tests.{eq-eqb, eqb-true, eqb-false}
+use borrow.Author.Tests.{eq-eqb, eqb-true}
 use Rattle.agree.specs.AgreeCame.{wordOf, bitsOf, hasBits, setIn, withBits, otherOf, cameIn, noteIn}
+use Rattle.agree.proofs.AgreeTables.{put-length, put-has, put-keeps}
 use Rattle.agree.proofs.AgreeTexts.{and-both, both-and}
 
 pub word-inside : (f : ℕ) → wordOf f < 256
@@ -69,24 +68,15 @@ or-keeps v m l h =
 module _ (t : List ℕ) (f : ℕ) where
   set-length : length (withBits t f) ≡ length t
   unfolding withBits
-  set-length = length-set t _ _
+  set-length = put-length wordOf bitsOf bitOr hasBits t f
 
   set-has : length t ≡ 256 → setIn (withBits t f) f ≡ true
   unfolding setIn withBits
-  set-has l =
-      rw (getD-set-same t (wordOf f) (bitOr (getD t (wordOf f) 0) (bitsOf f)) 0 (omega (arith, word-inside f))) (or-has (getD t (wordOf f) 0) (bitsOf f))
+  set-has = put-has wordOf bitsOf bitOr hasBits 256 word-inside (λ v g. or-has v (bitsOf g)) t f
 
   set-keeps : (g : ℕ) → length t ≡ 256 → setIn t g ≡ true → setIn (withBits t f) g ≡ true
   unfolding setIn withBits
-  set-keeps g l k = go (eqb (wordOf g) (wordOf f)) refl
-    where
-      go : (b : Bool) → eqb (wordOf g) (wordOf f) ≡ b → hasBits (getD (set t (wordOf f) (bitOr (getD t (wordOf f) 0) (bitsOf f))) (wordOf g) 0) (bitsOf g) ≡ true
-      go true e =
-          let z = eqb-true (wordOf g) (wordOf f) e in
-          let h : hasBits (getD t (wordOf f) 0) (bitsOf g) ≡ true = rw (← z) k in
-          rw (z, getD-set-same t (wordOf f) (bitOr (getD t (wordOf f) 0) (bitsOf f)) 0 (omega (arith, word-inside f)))
-          (or-keeps (getD t (wordOf f) 0) (bitsOf f) (bitsOf g) h)
-      go false e = rw (getD-set-other t (wordOf f) (wordOf g) (bitOr (getD t (wordOf f) 0) (bitsOf f)) 0 (eqb-false (wordOf g) (wordOf f) e)) k
+  set-keeps = put-keeps wordOf bitsOf bitOr hasBits 256 word-inside (λ v h g. or-keeps v (bitsOf h) (bitsOf g)) t f
 
 module _ (t : List ℕ) (f : ℕ) where
   pub note-length : length (noteIn t f) ≡ length t

@@ -4,6 +4,7 @@ pub mod AgreeWalk
 pub mod AgreeHeads
 pub mod AgreePrinted
 pub mod AgreePrinting
+pub mod AgreeTables
 pub mod AgreeMarked
 pub mod AgreeNoted
 pub mod AgreeSearch

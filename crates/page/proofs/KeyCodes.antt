@@ -1,6 +1,6 @@
 -- A component is one of a row's codes exactly if its number is that of one.
 use Prim.Native.Nat.{ℕ, zero, suc, _+_, _-_, _/_, _%_, _≤_, _<_}
-use mathlib.Core.Bool.{Bool, true, false, _||_}
+use mathlib.Core.Bool.{Bool, true, false, _||_, or-false}
 use mathlib.Core.Path.{_≡_, refl, sym, _∙_}
 use mathlib.Core.List.{List, [], _∷_}
 use native.Mathlib.Omega.{arith}
@@ -21,15 +21,11 @@ or-more : (a b c : Bool) → (a || b) || c ≡ a || (b || c)
 or-more true b c = refl
 or-more false b c = refl
 
-or-none : (a : Bool) → a || false ≡ a
-or-none true = refl
-or-none false = refl
-
 -- the search through the codes from n up to next, where f says whether one before them is found
 module _ (key n next : ℕ) (f : Bool) where
   pub search-end : next ≤ n → f || keyAmong key (span allCodes [] n (next - n)) ≡ f
   unfolding keyAmong
-  search-end h = rw (span-none allCodes [] n next h) (or-none f)
+  search-end h = rw (span-none allCodes [] n next h) (or-false f)
 
   pub search-next
       : n < next → (w : ℕ) → w ≡ packed (getD allCodes n [])

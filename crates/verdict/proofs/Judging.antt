@@ -1,7 +1,7 @@
 -- The pass over a message's segments: what is left to judge gives the verdict of the whole.
 use Prim.Native.Nat.{ℕ, suc, _+_, _-_, _^_, _≤_, _<_}
 use mathlib.Core.Path.{_≡_, refl, sym, _∙_, ap, ap₂, subst}
-use mathlib.Core.Bool.{Bool, true, false, _||_}
+use mathlib.Core.Bool.{Bool, true, false, _||_, or-false}
 use mathlib.Core.List.{List, [], _∷_, map}
 use native.Mathlib.Omega.{arith}
 use lib.Dec.{eqb}
@@ -33,6 +33,7 @@ use Rattle.agree.specs.AgreeArticles.{articlePrint, articlesIn, apartIn}
 use Rattle.agree.specs.AgreePositions.{positionsOf, firstAgreeing}
 use Rattle.agree.specs.declared.agree_first.Agreeing.the-variants.{Nothing}
 use Rattle.agree.proofs.AgreeApart.{articles-apart}
+use Rattle.agree.proofs.AgreeRunning.{or-assoc}
 use Rattle.page.specs.Reading.{segmentIn}
 use Rattle.verdict.specs.declared.answers.Judged.{Judged}
 use Rattle.verdict.specs.declared.answers.Verdict.{Verdict as Told}
@@ -53,14 +54,6 @@ use Rattle.verdict.proofs.Remembering.{KeptAfter, kept-after}
 use Rattle.verdict.proofs.RoleTags.{role-lin}
 use Rattle.verdict.proofs.TagGiven.{given-begins}
 use Rattle.verdict.proofs.Texts.{spanned-text}
-
-or-more : (a b c : Bool) → a || (b || c) ≡ (a || b) || c
-or-more true b c = refl
-or-more false b c = refl
-
-or-none : (a : Bool) → a || false ≡ a
-or-none true = refl
-or-none false = refl
 
 one-few : (b : Bool) → one b ≤ 1
 one-few true = omega arith
@@ -138,7 +131,7 @@ module _ (ed : Edition) (y : Syntax) (d : List ℕ) (start stop : ℕ) where
 
       is-document : forIntervals y (guideOf ed) (nodesOf y (guideOf ed) all) all ≡ k .intervals
       unfolding given forIntervals
-      is-document = sym (rw none at (p .document)) ∙ or-none (k .intervals)
+      is-document = sym (rw none at (p .document)) ∙ or-false (k .intervals)
 
       is-end : at ≡ lastEnd start all
       unfolding lastEnd
@@ -275,7 +268,7 @@ module _ (ed : Edition) (y : Syntax) (d : List ℕ) (start stop : ℕ) where
           unfolding lastAfter given forIntervals
           more-document =
               rw (after-it .intervals, after-it .last, is-left)
-              (sym (or-more (k .intervals) _ _) ∙ (rw (next, sound .1) at (p .document)))
+              (sym (or-assoc (k .intervals) _ _) ∙ (rw (next, sound .1) at (p .document)))
 
           is-lin : begins (bytesOf "LIN") (here .bytes) ≡ isLin (f .role)
           is-lin =
