@@ -8,7 +8,7 @@ use lib.Dec.{eqb}
 use Rattle.cut.specs.declared.service.Syntax.{Syntax}
 use Rattle.cut.specs.Segments.{Segment}
 use Rattle.element.specs.Elements.{elements}
-use Rattle.element.specs.Plain.{plain, same}
+use Rattle.plain.specs.Plain.{plain, same}
 use Rattle.guide.specs.Sheet.{Position}
 
 -- "All characters are compared, releases removed"

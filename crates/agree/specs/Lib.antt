@@ -1,9 +1,4 @@
 pub mod Agreement
-pub mod AgreeInner
-pub mod AgreePositions
-pub mod AgreeParts
-pub mod AgreePrints
-pub mod AgreeMarks
-pub mod AgreeCame
-pub mod AgreeRuns
-pub mod AgreeArticles
+pub mod Positions
+pub mod Articles
+pub mod workers

@@ -3,14 +3,14 @@ use cut::Syntax;
 use element::Cursor;
 use element::Span;
 use element::Visit;
-use element::same_plain;
+use plain::same_plain;
 ghost use mathlib.Core.Path.{_≡_};
-ghost use Rattle.cut.specs.Bytes.{part};
+ghost use Rattle.bytewise.specs.Bytes.{part};
 ghost use Rattle.agree.specs.Agreement.{agreeBut};
-ghost use Rattle.agree.specs.AgreeInner.{bothEnded, inTime, notPast, emptySpan, shownBy, onwardBy};
+ghost use Rattle.agree.specs.workers.Visits.{bothEnded, inTime, notPast, emptySpan, shownBy, onwardBy};
 
 // Whether the segments from a to e and from b to f agree in all components but those of the element `skip`.
-pub fn segments_agree(
+pub(crate) fn segments_agree(
     y: Syntax,
     d: &[u8],
     a: usize,

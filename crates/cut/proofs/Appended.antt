@@ -1,18 +1,18 @@
 -- The segments of a front followed by a tail, without any condition; and what moving, joining and ordering them gives.
 use Prim.Native.Nat.{ℕ, suc, _+_}
 use mathlib.Core.Path.{_≡_, refl}
-use mathlib.Core.Bool.{Bool, true, false, not, _&&_, false≢true}
+use mathlib.Core.Bool.{Bool, true, false, not, _&&_, false≢true, cond}
 use mathlib.Core.List.{List, [], _∷_, _++_, map}
 use native.Mathlib.Nat.{add-zero, add-suc, suc-add}
 use lib.ListN.{length}
 use Rattle.cut.specs.declared.service.Syntax.{Syntax}
 use Rattle.cut.specs.Segments.{Segment, ends, frees, join, segmentsFrom, joined}
-use Rattle.cut.specs.Fronts.{moved, whole, after, glued, pickSegments, meet}
+use Rattle.cut.specs.Fronts.{moved, whole, after, glued, meet}
 
 join-meet-some
     : (p x n : ℕ) (bs : List ℕ) (b : Bool) (ss ts : List Segment)
-    → join false p x (pickSegments b (glued (record { start = n; bytes = bs; piece = b }) ts) (record { start = n; bytes = bs; piece = b } ∷ meet ss ts))
-    ≡ pickSegments b (glued (record { start = p; bytes = x ∷ bs; piece = b }) ts) (record { start = p; bytes = x ∷ bs; piece = b } ∷ meet ss ts)
+    → join false p x (cond b (glued (record { start = n; bytes = bs; piece = b }) ts) (record { start = n; bytes = bs; piece = b } ∷ meet ss ts))
+    ≡ cond b (glued (record { start = p; bytes = x ∷ bs; piece = b }) ts) (record { start = p; bytes = x ∷ bs; piece = b } ∷ meet ss ts)
 unfolding join glued
 join-meet-some p x n bs true ss [] = refl
 join-meet-some p x n bs true ss (t ∷ ts) = refl
@@ -41,7 +41,7 @@ meet-whole (s ∷ ss) ts h = go (s .piece) refl h (meet-whole ss ts)
   where
     go
         : (b : Bool) → s .piece ≡ b → (not b && whole ss) ≡ true → (whole ss ≡ true → meet ss ts ≡ ss ++ ts)
-        → pickSegments (s .piece) (glued s ts) (s ∷ meet ss ts) ≡ (s ∷ ss) ++ ts
+        → cond (s .piece) (glued s ts) (s ∷ meet ss ts) ≡ (s ∷ ss) ++ ts
     go true e k rest = absurd (false≢true k)
     go false e k rest = rw (e, rest k)
 

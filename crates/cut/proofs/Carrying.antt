@@ -10,10 +10,10 @@ use Rattle.cut.specs.declared.service.Syntax.{Syntax}
 use Rattle.cut.specs.declared.scan.Cut.the-variants as cut
 use Rattle.cut.specs.Segments.{Segment, segmentsFrom}
 use Rattle.cut.specs.Calls.{segmentAt}
-use Rattle.cut.specs.Carrying.{Carries}
-use Rattle.cut.specs.Workers.{openCut, Onward}
+use Rattle.cut.specs.workers.Carrying.{Carries}
+use Rattle.cut.specs.workers.Scanning.{openCut, Onward}
 use Rattle.cut.proofs.First.{cutting}
-use Rattle.cut.proofs.Scanning.{cut-open, open-end, open-marked, onward-none, onward-plain, onward-released, marked-release}
+use Rattle.cut.proofs.cutting.Scanning.{cut-open, open-end, open-marked, onward-none, onward-plain, onward-released, marked-release}
 
 reopened : (a b e : ℕ) (ss : List Segment) → openCut b b ss ≡ cut.Segment b e false → openCut a b ss ≡ cut.Segment a e false
 unfolding openCut

@@ -1,7 +1,7 @@
 -- What an admitted delivery with a tail that begins UNH says of its front: UNA and the limit taken in.
 use Prim.Native.Nat.{ℕ, zero, suc, _+_, _≤_, _<_}
 use mathlib.Core.Path.{_≡_, refl, sym, _∙_, ap}
-use mathlib.Core.Bool.{Bool, true, false, not, _&&_, true≢false, false≢true}
+use mathlib.Core.Bool.{Bool, true, false, cond, not, _&&_, true≢false, false≢true}
 use mathlib.Core.List.{List, [], _∷_, _++_}
 use native.Mathlib.Nat.{add-zero, le-trans}
 use native.Mathlib.Omega.{arith}
@@ -10,51 +10,17 @@ use lib.Seq.{getD-append-add}
 use lib.Dec.{eqb, leb, ltb, lit<, lit≤}
 use borrow.Author.Tests.{eqb-true, eqb-false, ltb-false, le-ltb, leb-true, leb-false}
 use Rattle.cut.specs.declared.service.Syntax.{Syntax}
-use Rattle.cut.specs.Bytes.{begins}
-use Rattle.cut.specs.Admission.{limit, UNA, nine, pickℕ, admissionOf, openingOf}
-use Rattle.cut.proofs.Searching.{neither}
+use Rattle.bytewise.specs.Bytes.{begins}
+use Rattle.cut.specs.Admission.{limit, UNA, nine, admissionOf, openingOf}
+use Rattle.bytewise.proofs.Booleans.{or-neither}
+use Rattle.bytewise.proofs.Words.{begins-front, begins-more, begins-at, begins-length}
 use Rattle.cut.specs.Fronts.{has, service, UNH, Tail}
-
-pub both : (a b : Bool) → (a && b) ≡ true → (a ≡ true) × (b ≡ true)
-both true b h = (refl, h)
-both false b h = absurd (false≢true h)
-
--- a beginning within the front is one of the whole
-pub begins-front : (w front tail : List ℕ) → length w ≤ length front → begins w (front ++ tail) ≡ begins w front
-unfolding begins
-begins-front [] front tail h = refl
-begins-front (w ∷ ws) [] tail h = absurd (omega arith)
-begins-front (w ∷ ws) (x ∷ xs) tail h = rw (begins-front ws xs tail (omega arith))
-
-pub begins-more : (w front tail : List ℕ) → begins w front ≡ true → begins w (front ++ tail) ≡ true
-unfolding begins
-begins-more [] front tail h = refl
-begins-more (w ∷ ws) [] tail h = absurd (false≢true h)
-begins-more (w ∷ ws) (x ∷ xs) tail h =
-    let k = both (eqb x w) (begins ws xs) h in
-    rw (k .0) (begins-more ws xs tail (k .1))
-
--- what begins with a word has its bytes
-pub begins-at : (w d : List ℕ) (i : ℕ) → begins w d ≡ true → i < length w → getD d i 0 ≡ getD w i 0
-unfolding begins
-begins-at [] d i h k = absurd (omega arith)
-begins-at (w ∷ ws) [] i h k = absurd (false≢true h)
-begins-at (w ∷ ws) (x ∷ xs) zero h k = eqb-true x w (both (eqb x w) (begins ws xs) h .0)
-begins-at (w ∷ ws) (x ∷ xs) (suc i) h k = begins-at ws xs i (both (eqb x w) (begins ws xs) h .1) (omega arith)
-
-pub begins-length : (w d : List ℕ) → begins w d ≡ true → length w ≤ length d
-unfolding begins
-begins-length [] d h = omega arith
-begins-length (w ∷ ws) [] h = absurd (false≢true h)
-begins-length (w ∷ ws) (x ∷ xs) h =
-    let k = begins-length ws xs (both (eqb x w) (begins ws xs) h .1) in
-    omega arith
 
 pub has-not : (x : ℕ) (zs : List ℕ) (i : ℕ) → has x zs ≡ false → i < length zs → x ≡ getD zs i 0 → ⊥
 unfolding has
 has-not x [] i h k e = omega arith
-has-not x (z ∷ zs) zero h k e = eqb-false x z (neither (eqb x z) (has x zs) h .0) e
-has-not x (z ∷ zs) (suc i) h k e = has-not x zs i (neither (eqb x z) (has x zs) h .1) (omega arith) e
+has-not x (z ∷ zs) zero h k e = eqb-false x z (or-neither (eqb x z) (has x zs) h .0) e
+has-not x (z ∷ zs) (suc i) h k e = has-not x zs i (or-neither (eqb x z) (has x zs) h .1) (omega arith) e
 
 -- what begins UNH does not begin UNA
 pub unh-una : (d : List ℕ) → begins UNH d ≡ true → begins UNA d ≡ false
@@ -85,7 +51,7 @@ module _ (y : Syntax) (d : List ℕ) where
   unfolding admissionOf
   admitted-length e = go (ltb limit (length d)) refl e
     where
-      go : (b : Bool) → ltb limit (length d) ≡ b → pickℕ b 1 (pickℕ (begins UNA d && not (begins (nine y) d)) 2 0) ≡ 0 → length d ≤ limit
+      go : (b : Bool) → ltb limit (length d) ≡ b → _≡_ {A = ℕ} (cond b 1 (cond (begins UNA d && not (begins (nine y) d)) 2 0)) 0 → length d ≤ limit
       go true l k = absurd (omega arith)
       go false l k = ltb-false limit (length d) l
 
@@ -94,7 +60,7 @@ module _ (y : Syntax) (d : List ℕ) where
   admitted-una e u = go (ltb limit (length d)) (begins (nine y) d) refl (rw u at e)
     where
       go
-          : (b n : Bool) → begins (nine y) d ≡ n → pickℕ b 1 (pickℕ (not n) 2 0) ≡ 0
+          : (b n : Bool) → begins (nine y) d ≡ n → _≡_ {A = ℕ} (cond b 1 (cond (not n) 2 0)) 0
           → begins (nine y) d ≡ true
       go true n l k = absurd (omega arith)
       go false true l k = l
@@ -104,7 +70,7 @@ module _ (y : Syntax) (d : List ℕ) where
   unfolding admissionOf
   admitted-by h n = rw (le-ltb limit (length d) h) (go (begins UNA d) refl)
     where
-      go : (u : Bool) → begins UNA d ≡ u → pickℕ (u && not (begins (nine y) d)) 2 0 ≡ 0
+      go : (u : Bool) → begins UNA d ≡ u → _≡_ {A = ℕ} (cond (u && not (begins (nine y) d)) 2 0) 0
       go true e = rw (n e)
       go false e = refl
 
@@ -149,7 +115,7 @@ module _ (y : Syntax) (front tail : List ℕ) (t : Tail y front tail) where
   unfolding openingOf
   opening-fits = go (begins UNA front) refl
     where
-      go : (b : Bool) → begins UNA front ≡ b → pickℕ b 9 0 ≤ length front
+      go : (b : Bool) → begins UNA front ≡ b → cond b 9 0 ≤ length front
       go true e = una-front (una-same ∙ e)
       go false e = omega arith
 

@@ -8,9 +8,8 @@ use lib.ListN.{take, drop, take-append-drop}
 use lib.Dec.{eqb}
 use borrow.Author.Tests.{eq-eqb, eqb-true}
 use Rattle.cut.specs.declared.service.Syntax.{Syntax}
-use Rattle.cut.specs.Segments.{Segment, joined}
+use Rattle.cut.specs.Segments.{Segment, joined, beginsIn}
 use Rattle.cut.specs.Admission.{admissionOf, openingOf, segments}
-use Rattle.cut.specs.Messages.{beginsIn}
 use Rattle.cut.specs.Calls.{beginsSegment}
 use Rattle.cut.proofs.Places.{admitted}
 use Rattle.cut.proofs.Appended.{segments-joined}
@@ -27,7 +26,9 @@ unfolding beginsIn
 begins-member at [] h = absurd (false≢true h)
 begins-member at (s ∷ ss) h = go (eqb at (s .start)) refl h (begins-member at ss)
   where
-    go : (b : Bool) → eqb at (s .start) ≡ b → (b || beginsIn at ss) ≡ true → (beginsIn at ss ≡ true → List·Memᴰ at (starts ss)) → List·Memᴰ at (starts (s ∷ ss))
+    go
+        : (b : Bool) → eqb at (s .start) ≡ b → (b || beginsIn at ss) ≡ true → (beginsIn at ss ≡ true → List·Memᴰ at (starts ss))
+        → List·Memᴰ at (starts (s ∷ ss))
     go true e k ih = List·Memᴰ·head (eqb-true at (s .start) e)
     go false e k ih = List·Memᴰ·tail (ih k)
 

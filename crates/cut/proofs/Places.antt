@@ -10,17 +10,16 @@ use lib.Dec.{eqb, leb}
 use borrow.Author.Tests.{eq-eqb, ne-eqb, leb-true, leb-false, eqb-true, eqb-false}
 use Rattle.cut.specs.declared.service.Syntax.{Syntax}
 use Rattle.cut.specs.declared.scan.Cut.the-variants as cut
-use Rattle.cut.specs.Bytes.{part}
-use Rattle.cut.specs.Segments.{Segment, segmentsFrom}
+use Rattle.bytewise.specs.Bytes.{part}
+use Rattle.cut.specs.Segments.{Segment, segmentsFrom, beginsIn}
 use Rattle.cut.specs.Admission.{admissionOf, openingOf, segments}
-use Rattle.cut.specs.Messages.{beginsIn}
 use Rattle.cut.specs.Calls.{cutFrom, beginsSegment}
 use Rattle.cut.specs.Fronts.{whole, after}
-use Rattle.cut.specs.Workers.{since}
-use Rattle.cut.proofs.Scanning.{segments-none}
+use Rattle.cut.specs.Since.{since}
+use Rattle.cut.proofs.cutting.Scanning.{segments-none}
 use Rattle.cut.proofs.First.{cutting, nothing}
 use Rattle.cut.proofs.Starts.{Below, rising-weaken, segments-rising, segments-below, begins-past, begins-append, below-more, since-all, since-none}
-use Rattle.cut.proofs.Boundaries.{begins-told, since-closed, since-open}
+use Rattle.cut.proofs.cutting.Boundaries.{begins-told, since-closed, since-open}
 
 module _ (y : Syntax) (d : List ℕ) where
   pub refused : (admissionOf y d ≡ 0 → ⊥) → segments y d ≡ []

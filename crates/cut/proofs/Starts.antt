@@ -8,9 +8,8 @@ use native.Mathlib.Omega.{arith}
 use lib.ListN.{length}
 use borrow.Author.Tests.{ne-eqb, le-leb, lt-leb}
 use Rattle.cut.specs.declared.service.Syntax.{Syntax}
-use Rattle.cut.specs.Segments.{Segment, ends, frees, join, segmentsFrom}
-use Rattle.cut.specs.Messages.{beginsIn}
-use Rattle.cut.specs.Workers.{since}
+use Rattle.cut.specs.Segments.{Segment, ends, frees, join, segmentsFrom, beginsIn}
+use Rattle.cut.specs.Since.{since}
 
 -- each begins at q or later, and after the one before it
 unfoldable pub Rising : ℕ → List Segment → Type 0

@@ -1,7 +1,7 @@
 -- The cursor: a walk by its steps goes through the delivery's segments, one by one and all of them.
 use Prim.Native.Nat.{ℕ, _≤_, _<_, max}
 use mathlib.Core.Path.{_≡_, refl, sym, ap, subst}
-use mathlib.Core.Bool.{Bool, true, false}
+use mathlib.Core.Bool.{Bool, true, false, cond}
 use mathlib.Core.List.{List, [], _∷_}
 use native.Mathlib.Omega.{arith}
 use lib.ListN.{length, drop}
@@ -13,10 +13,10 @@ use Rattle.cut.specs.declared.scan.Cut.the-variants as cut
 use Rattle.cut.specs.declared.steps.Cursor.{Cursor}
 use Rattle.cut.specs.declared.steps.Step.{Step}
 use Rattle.cut.specs.declared.steps.Step.the-variants as step
-use Rattle.cut.specs.Bytes.{part}
+use Rattle.bytewise.specs.Bytes.{part}
 use Rattle.cut.specs.Segments.{Segment, segmentsFrom}
 use Rattle.cut.specs.Admission.{admissionOf, openingOf, onlyIf, segments}
-use Rattle.cut.specs.Calls.{segmentAt, pickStep, stepped, openedAt, stepOf}
+use Rattle.cut.specs.Calls.{segmentAt, stepped, openedAt, stepOf}
 use Rattle.cut.proofs.First.{Cutting, cutting, nothing}
 
 module _ (c : Cursor) (d : List ℕ) where
@@ -85,7 +85,7 @@ module _ (c : Cursor) (d : List ℕ) where
     where
       go
           : (a : Bool) (k : Cut) → eqb (admissionOf (c .syntax) d) 0 ≡ a → segmentAt (c .syntax) d (max (c .at) (openingOf d)) ≡ k
-          → pickStep a (stepped (c .syntax) k) step.Nothing ≡ step.Segment s e p n → Stepped c d s e p n
+          → cond a (stepped (c .syntax) k) step.Nothing ≡ step.Segment s e p n → Stepped c d s e p n
       go true (cut.Segment s′ e′ p′) f g h =
           subst Says h (ahead-cut s′ e′ p′ true f (cutting (c .syntax) d (max (c .at) (openingOf d)) false s′ e′ p′ g) refl)
       go true cut.Nothing f g h = absurd (let z : _≡_ {A = ℕ} 0 1 = cc in omega arith)
@@ -97,7 +97,7 @@ module _ (c : Cursor) (d : List ℕ) where
   step-none h = go (eqb (admissionOf (c .syntax) d) 0) (segmentAt (c .syntax) d (max (c .at) (openingOf d))) refl h
     where
       go
-          : (a : Bool) (k : Cut) → segmentAt (c .syntax) d (max (c .at) (openingOf d)) ≡ k → pickStep a (stepped (c .syntax) k) step.Nothing ≡ step.Nothing
+          : (a : Bool) (k : Cut) → segmentAt (c .syntax) d (max (c .at) (openingOf d)) ≡ k → cond a (stepped (c .syntax) k) step.Nothing ≡ step.Nothing
           → onlyIf a (segmentsFrom (c .syntax) (max (c .at) (openingOf d)) false (drop (max (c .at) (openingOf d)) d)) ≡ []
       go true (cut.Segment s e p) g h = absurd (let z : _≡_ {A = ℕ} 0 1 = cc in omega arith)
       go true cut.Nothing g h = nothing (c .syntax) d (max (c .at) (openingOf d)) false g

@@ -1,12 +1,12 @@
 -- Admission of a delivery, UNA and the segments that it holds. Document 01, 'Cutting' and refusals 1 and 2.
 use Prim.Native.Nat.{ℕ}
-use mathlib.Core.Bool.{Bool, true, false, not, _&&_}
+use mathlib.Core.Bool.{Bool, true, false, cond, not, _&&_}
 use mathlib.Core.List.{List, [], _∷_, _++_}
-use lib.ListN.{length, drop}
+use lib.ListN.{length}
 use lib.Dec.{eqb, ltb}
 use Rattle.cut.specs.declared.service.Syntax.{Syntax}
-use Rattle.cut.specs.Bytes.{bytesOf, begins}
-use Rattle.cut.specs.Segments.{Segment, segmentsFrom}
+use Rattle.bytewise.specs.Bytes.{bytesOf, begins}
+use Rattle.cut.specs.Segments.{Segment, segmentsAt}
 
 -- "at most 1,048,576 bytes"
 abbrev pub limit : ℕ
@@ -19,17 +19,13 @@ UNA = bytesOf "UNA"
 abbrev pub nine : Syntax → List ℕ
 nine y = UNA ++ (y .component ∷ y .element ∷ y .decimal ∷ y .release ∷ bytesOf " " ++ (y .terminator ∷ []))
 
-abbrev pub pickℕ : Bool → ℕ → ℕ → ℕ
-pickℕ true a b = a
-pickℕ false a b = b
-
 -- 1: longer than the limit; 2: "begins `UNA`, first nine bytes not those above"; 1 before 2; else 0
 unfoldable pub admissionOf : Syntax → List ℕ → ℕ
-admissionOf y d = pickℕ (ltb limit (length d)) 1 (pickℕ (begins UNA d && not (begins (nine y) d)) 2 0)
+admissionOf y d = cond (ltb limit (length d)) 1 (cond (begins UNA d && not (begins (nine y) d)) 2 0)
 
 -- "its first nine bytes .. are skipped": where the first segment begins
 unfoldable pub openingOf : List ℕ → ℕ
-openingOf d = pickℕ (begins UNA d) 9 0
+openingOf d = cond (begins UNA d) 9 0
 
 -- the segments if the test holds, else none
 abbrev pub onlyIf : Bool → List Segment → List Segment
@@ -38,4 +34,4 @@ onlyIf false ss = []
 
 -- the segments of a delivery; none, if it is not admitted
 unfoldable pub segments : Syntax → List ℕ → List Segment
-segments y d = onlyIf (eqb (admissionOf y d) 0) (segmentsFrom y (openingOf d) false (drop (openingOf d) d))
+segments y d = onlyIf (eqb (admissionOf y d) 0) (segmentsAt y d (openingOf d))

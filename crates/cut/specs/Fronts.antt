@@ -1,22 +1,17 @@
 -- What demand 3 speaks of: a front before a tail, and places moved by the front's length.
 use Prim.Native.Nat.{ℕ, _+_}
 use mathlib.Core.Path.{_≡_}
-use mathlib.Core.Bool.{Bool, true, false, not, _&&_, _||_}
-use mathlib.Core.List.{List, [], _∷_, _++_, map}
+use mathlib.Core.Bool.{Bool, true, false, cond, not, _&&_, _||_}
+use mathlib.Core.List.{List, [], _∷_, _++_}
 use lib.Dec.{eqb}
 use Rattle.cut.specs.declared.service.Syntax.{Syntax}
 use Rattle.cut.specs.Segments.{Segment, frees}
-use Rattle.cut.specs.Bytes.{bytesOf, begins}
+use Rattle.bytewise.specs.Bytes.{bytesOf, begins}
 use Rattle.cut.specs.Admission.{admissionOf}
-use Rattle.cut.specs.Messages.{Message, tagOf, body, begin}
 
 -- the same segment k places later
 abbrev pub moved : ℕ → Segment → Segment
 moved k s = record { start = k + s .start; bytes = s .bytes; piece = s .piece }
-
--- the same message k places later
-abbrev pub movedMessage : ℕ → Message → Message
-movedMessage k m = record { first = moved k (m .first); rest = map (moved k) (m .rest) }
 
 -- none of them is a piece: what they stand in "ends where a segment ends"
 unfoldable pub whole : List Segment → Bool
@@ -33,19 +28,10 @@ unfoldable pub glued : Segment → List Segment → List Segment
 glued s [] = s ∷ []
 glued s (t ∷ ts) = record { start = s .start; bytes = s .bytes ++ t .bytes; piece = t .piece } ∷ ts
 
-abbrev pub pickSegments : Bool → List Segment → List Segment → List Segment
-pickSegments true ss ts = ss
-pickSegments false ss ts = ts
-
 -- a front's segments and then those of what follows: a piece and the first of these are one segment
 unfoldable pub meet : List Segment → List Segment → List Segment
 meet [] ts = ts
-meet (s ∷ ss) ts = pickSegments (s .piece) (glued s ts) (s ∷ meet ss ts)
-
--- the messages that begin in ss, where ts follow
-unfoldable pub begunIn : List Segment → List Segment → List Message
-begunIn [] ts = []
-begunIn (s ∷ ss) ts = begin (tagOf (s .bytes)) (record { first = s; rest = body (ss ++ ts) }) (begunIn ss ts)
+meet (s ∷ ss) ts = cond (s .piece) (glued s ts) (s ∷ meet ss ts)
 
 -- the five service characters
 abbrev pub service : Syntax → List ℕ

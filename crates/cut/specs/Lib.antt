@@ -1,12 +1,7 @@
-pub mod Bytes
-pub mod Every
-pub mod Eights
 pub mod Segments
+pub mod Since
 pub mod Admission
-pub mod Messages
-pub mod Held
 pub mod Calls
-pub mod Carrying
 pub mod Fronts
-pub mod Workers
 pub mod Base
+pub mod workers

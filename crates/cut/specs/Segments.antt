@@ -1,6 +1,6 @@
 -- Segments. Document 01, 'Cutting', for any service characters.
 use Prim.Native.Nat.{ℕ, suc, _+_}
-use mathlib.Core.Bool.{Bool, true, false, not, _&&_}
+use mathlib.Core.Bool.{Bool, true, false, not, _&&_, _||_}
 use mathlib.Core.List.{List, [], _∷_, _++_}
 use lib.ListN.{length, drop}
 use lib.Dec.{eqb}
@@ -37,9 +37,28 @@ unfoldable pub segmentsFrom : Syntax → ℕ → Bool → List ℕ → List Segm
 segmentsFrom y p r [] = []
 segmentsFrom y p r (x ∷ xs) = join (ends y r x) p x (segmentsFrom y (suc p) (frees y r x) xs)
 
+-- the segments of the bytes xs, which stand from place p on, where a segment begins
+abbrev pub segmentsOf : Syntax → ℕ → List ℕ → List Segment
+segmentsOf y p xs = segmentsFrom y p false xs
+
 -- the segments from a place on
 abbrev pub segmentsAt : Syntax → List ℕ → ℕ → List Segment
-segmentsAt y d at = segmentsFrom y at false (drop at d)
+segmentsAt y d at = segmentsOf y at (drop at d)
+
+-- where the last of some segments ends; e, if there is none
+unfoldable pub lastEnd : ℕ → List Segment → ℕ
+lastEnd e [] = e
+lastEnd e (s ∷ ss) = lastEnd (endOf s) ss
+
+-- whether one of them begins at a place
+unfoldable pub beginsIn : ℕ → List Segment → Bool
+beginsIn at [] = false
+beginsIn at (s ∷ ss) = eqb at (s .start) || beginsIn at ss
+
+-- a segment before others, if it is to be kept
+abbrev pub keepIf : Bool → Segment → List Segment → List Segment
+keepIf true s ss = s ∷ ss
+keepIf false s ss = ss
 
 -- their bytes, one segment's after the other's
 unfoldable pub joined : List Segment → List ℕ

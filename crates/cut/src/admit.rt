@@ -1,7 +1,7 @@
 // Whether a delivery is read at all, and where its first segment begins.
 use crate::service::Syntax;
+use bytewise::begins_with;
 ghost use mathlib.Core.Path.{_≡_};
-ghost use Rattle.cut.specs.Bytes.{begins};
 ghost use Rattle.cut.specs.Admission.{admissionOf, openingOf};
 
 // The most bytes that a delivery has.
@@ -36,20 +36,4 @@ pub fn opening(d: &[u8]) -> usize
     ensures { λ r. ⌜ r ≡ openingOf (now (d .entry)) ⌝ }
 {
     if begins_with(d, b"UNA") { 9 } else { 0 }
-}
-
-fn begins_with(d: &[u8], word: &[u8]) -> bool
-    ensures { λ r. ⌜ r ≡ begins (now (word .entry)) (now (d .entry)) ⌝ }
-{
-    if d.len() < word.len() {
-        return false;
-    }
-    let mut i = 0;
-    while i < word.len() {
-        if d[i] != word[i] {
-            return false;
-        }
-        i += 1;
-    }
-    true
 }

@@ -4,15 +4,16 @@ use crate::admit::opening;
 use crate::scan::Cut;
 use crate::scan::cut_from;
 use crate::service::Syntax;
-ghost use Prim.Native.Nat.{_≤_, _<_};
+use bytewise::limit_of;
+ghost use Prim.Native.Nat.{_<_};
 ghost use mathlib.Core.Bool.{false};
 ghost use mathlib.Core.Path.{_≡_};
-ghost use lib.ListN.{length, drop};
-ghost use Rattle.cut.specs.Bytes.{part};
-ghost use Rattle.cut.specs.Segments.{frees, segmentsFrom};
+ghost use lib.ListN.{length};
+ghost use Rattle.bytewise.specs.Bytes.{part};
+ghost use Rattle.cut.specs.Segments.{frees, segmentsAt, segmentsOf};
 ghost use Rattle.cut.specs.Calls.{beginsSegment};
 ghost use Rattle.cut.specs.Fronts.{whole, after};
-ghost use Rattle.cut.specs.Workers.{since};
+ghost use Rattle.cut.specs.Since.{since};
 
 // Whether a segment of the delivery begins at `at`. The cost is the run of release characters before it, not the place.
 pub fn begins_segment(y: Syntax, d: &[u8], at: usize) -> bool
@@ -32,8 +33,8 @@ pub fn begins_segment(y: Syntax, d: &[u8], at: usize) -> bool
 }
 
 // Where the first segment begins that begins at `from` or later, of those from `first` on; the end of the delivery, if none does.
-pub(crate) fn first_from(y: Syntax, d: &[u8], first: usize, from: usize) -> usize
-    ensures { λ r. ⌜ since from (segmentsFrom y first false (drop first (now (d .entry)))) ≡ segmentsFrom y r false (drop r (now (d .entry))) ⌝ }
+pub fn first_from(y: Syntax, d: &[u8], first: usize, from: usize) -> usize
+    ensures { λ r. ⌜ since from (segmentsAt y (now (d .entry)) first) ≡ segmentsAt y (now (d .entry)) r ⌝ }
 {
     if from <= first {
         return first;
@@ -56,14 +57,14 @@ pub(crate) fn first_from(y: Syntax, d: &[u8], first: usize, from: usize) -> usiz
 }
 
 // Whether the bytes from `first` up to `at` end where a segment ends.
-pub(crate) fn follows_end(y: Syntax, d: &[u8], first: usize, at: usize) -> bool
-    requires { ⌜ (first ≤ at) × (at < length (now d)) ⌝ }
-    ensures { λ r. ⌜ r ≡ whole (segmentsFrom y first false (part first at (now (d .entry)))) ⌝ }
+pub fn follows_end(y: Syntax, d: &[u8], first: usize, at: usize) -> bool
+    ensures { λ r. ⌜ r ≡ whole (segmentsOf y first (part first at (now (d .entry)))) ⌝ }
 {
-    if at == first {
+    let end = limit_of(d, at);
+    if end <= first {
         return true;
     }
-    let last = at - 1;
+    let last = end - 1;
     if d[last] != y.terminator {
         return false;
     }

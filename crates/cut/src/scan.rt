@@ -1,14 +1,14 @@
 // The loop over bytes: where a segment ends.
-use crate::eights::alike;
-use crate::eights::eight_from;
-use crate::eights::first_of;
 use crate::service::Syntax;
+use bytewise::alike;
+use bytewise::eight_at;
+use bytewise::first_of;
 ghost use mathlib.Core.Path.{_≡_};
 ghost use Prim.Native.Nat.{_≤_};
 ghost use lib.ListN.{length};
 ghost use Rattle.cut.specs.Calls.{cutFrom, segmentAt};
-ghost use Rattle.cut.specs.Eights.{Flagged};
-ghost use Rattle.cut.specs.Workers.{isMark, Marked, Released};
+ghost use Rattle.bytewise.specs.Eights.{Flagged};
+ghost use Rattle.cut.specs.workers.Scanning.{isMark, Marked, Released};
 
 // A segment's first byte, the byte after its last, and whether it is an unterminated piece; or nothing.
 pub enum Cut {
@@ -63,7 +63,7 @@ fn next_mark(y: Syntax, d: &[u8], from: usize) -> usize
 {
     let mut i = from;
     while 8 <= d.len() - i {
-        let m = marks_in(y, eight_from(d, i));
+        let m = marks_in(y, eight_at(d, i));
         if m != 0 {
             return i + first_of(m);
         }

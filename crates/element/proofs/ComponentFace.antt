@@ -39,7 +39,7 @@ pub use Rattle.element.proofs.scan.Splits.{Last, Stop}
 pub use Rattle.element.proofs.scan.Endings.{ending-segment, ending-element}
 -- a segment has at most one component more than it has bytes: a count of them fits
 pub use Rattle.element.proofs.components.Counts.{components-count}
-pub use Rattle.element.proofs.Limits.{part-fits}
+pub use Rattle.bytewise.proofs.Limits.{part-fits}
 -- no byte is lost: the components joined again by their separators are the segment up to its terminator
 pub use Rattle.element.proofs.components.Joined.{elements-joined}
 unfoldable pub use Rattle.element.proofs.components.Joined.{joinBy, joined, keep, untilEnd}
@@ -49,8 +49,8 @@ pub use Rattle.element.proofs.components.Released.{releases-frees}
 pub use Rattle.element.proofs.components.Whole.{segment-joined}
 unfoldable pub use Rattle.element.proofs.components.Whole.{lastOf}
 -- `same` is equality: it says true of a row and itself, and of equal rows only
-pub use Rattle.element.proofs.Sameness.{same-refl, same-true}
+pub use Rattle.plain.proofs.Sameness.{same-refl, same-true}
 -- whether a part begins with a tag, by its first four bytes
-pub use Rattle.element.proofs.clean.Laws.{tag-short, tag-four}
+pub use Rattle.clean.proofs.Laws.{tag-short, tag-four}
 -- an empty part has no bytes; what each byte of a part adds to the decoded ones
-pub use Rattle.element.proofs.Decoding.{decoded-none, plain-byte, plain-released, plain-last}
+pub use Rattle.plain.proofs.Decoding.{decoded-none, plain-byte, plain-released, plain-last}

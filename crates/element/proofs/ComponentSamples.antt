@@ -4,7 +4,7 @@ use mathlib.Core.Bool.{true, false}
 use mathlib.Core.List.{[], _∷_}
 use Rattle.cut.specs.Segments.{frees}
 use Rattle.cut.specs.declared.service.Syntax.{Syntax}
-use Rattle.element.specs.Clean.{between, allowedByte, capital, endsTag, lettered, taggedBytes}
+use Rattle.clean.specs.Clean.{between, allowedByte, capital, endsTag, lettered, taggedBytes}
 use Rattle.element.specs.Elements.{endingOf, stays, releases, before, splitFrom, elements, component}
 use Rattle.element.specs.Components.{inElement, inElements, width, components, spanIn}
 

@@ -9,16 +9,29 @@ use native.Mathlib.Omega.{arith}
 use borrow.Author.Tests.{eqb-true, eqb-false}
 use lib.ListN.{length, take, drop}
 use lib.Dec.{eqb}
-use Rattle.cut.specs.Bytes.{part}
+use Rattle.bytewise.specs.Bytes.{part}
 use Rattle.cut.specs.Calls.{cutFrom}
 use Rattle.cut.specs.Segments.{Segment, ends, frees, join, segmentsFrom}
 use Rattle.cut.specs.declared.scan.Cut.the-variants as cut
 use Rattle.cut.specs.declared.service.Syntax.{Syntax}
 use Rattle.cut.proofs.First.{Cutting, cutting}
-use Rattle.cut.proofs.Parts.{length-part}
-use Rattle.element.specs.Elements.{ends-segment, ends-element, ends-component, ends-nothing, endingOf, stays, releases, listed, before, splitFrom, elements, component}
+use Rattle.bytewise.proofs.Parts.{length-part}
+use Rattle.element.specs.Elements.{
+  ends-segment,
+  ends-element,
+  ends-component,
+  ends-nothing,
+  endingOf,
+  stays,
+  releases,
+  listed,
+  before,
+  splitFrom,
+  elements,
+  component,
+}
 use Rattle.element.specs.Components.{components, componentAt}
-use Rattle.element.proofs.Limits.{part-out, take-part}
+use Rattle.bytewise.proofs.Limits.{part-out, take-part}
 use Rattle.element.proofs.components.Released.{releases-frees}
 use Rattle.element.proofs.components.Whole.{end-is}
 

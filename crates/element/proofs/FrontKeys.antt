@@ -7,25 +7,25 @@ use mathlib.Core.List.{List}
 use native.Mathlib.Omega.{arith}
 use lib.ListN.{length, getD}
 use lib.Bits.{bitAnd}
-use Rattle.cut.specs.Bytes.{part}
-use Rattle.cut.specs.Eights.{onFrom, eightAt, byteOf, Flagged, firstByte}
+use Rattle.bytewise.specs.Bytes.{part}
+use Rattle.bytewise.specs.Eights.{onFrom, eightAt, byteOf, Flagged, firstByte}
 use Rattle.cut.specs.declared.service.Syntax.{Syntax}
-use Rattle.cut.proofs.Bytewise.{byte-there, flagged-there}
-use Rattle.cut.proofs.Clearing.{first-before, first-passes}
-use Rattle.cut.proofs.Parts.{length-part}
+use Rattle.bytewise.proofs.Bytewise.{byte-there, flagged-there}
+use Rattle.bytewise.proofs.Clearing.{first-before, first-passes}
+use Rattle.bytewise.proofs.Parts.{length-part}
 use Rattle.element.specs.Elements.{ends-element, endingOf, stays, before, component}
-use Rattle.element.specs.Plain.{plain, decoded}
+use Rattle.plain.specs.Plain.{plain, decoded}
 use Rattle.element.specs.Services.{isService, Passed, Service}
-use Rattle.element.specs.Words.{wordOf}
+use Rattle.plain.specs.Words.{wordOf}
 use Rattle.element.proofs.Cuts.{elements-some}
-use Rattle.element.proofs.Limits.{limited}
+use Rattle.bytewise.proofs.Limits.{limited}
 use Rattle.element.proofs.scan.Endings.{ending-element}
 use Rattle.element.proofs.scan.Extents.{extent-ends, extent-stop, extent-ended}
 use Rattle.element.proofs.scan.Services.{passed-none, service-here, service-end, service-eight, plain-no-mark}
 use Rattle.element.proofs.scan.Stopping.{from, Ended}
-use Rattle.element.proofs.words.AtOnce.{front-worth, word-plain}
+use Rattle.plain.proofs.AtOnce.{front-worth, word-plain}
 -- what the 1 above n bytes counts is not 0, and the sum fits
-pub use Rattle.element.proofs.words.AtOnce.{scale-some, scale-fits}
+pub use Rattle.plain.proofs.AtOnce.{scale-some, scale-fits}
 
 -- where the first component is all of the first element
 second-element
@@ -48,7 +48,8 @@ module _ (y : Syntax) (d : List ℕ) (start end limit : ℕ) (lim : limit ≡ mi
       let fits : limit ≤ length d = omega arith in
       let same : limit ≡ min limit (length d) = omega arith in
       let f : stays (endingOf y false (getD d p 0)) ≡ false = rw g in
-      let one = extent-ended y d start limit _ (extent-ends y d start limit limit same p (service-here y d start p s limit (service-end y _ f)) h f) (omega arith) fits in
+      let one = extent-ended y d start limit _ (extent-ends y d start limit limit same p (service-here y d start p s limit (service-end y _ f)) h f)
+      (omega arith) fits in
       let two = extent-ended y d (p + 1) limit _ (extent-stop y d (p + 1) limit limit same q t k n) (omega arith) fits in
       ap (λ (l : List ℕ). component y l 1 0) (sym (limited d start end limit lim))
       ∙ second-element y d start limit p (omega arith) fits one h g

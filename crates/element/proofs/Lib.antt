@@ -1,10 +1,3 @@
-pub mod Decoding
-pub mod LiteralPlaces
-pub mod Sameness
-pub mod Copying
-pub mod Packing
-pub mod Summing
-pub mod Limits
 pub mod Cuts
 pub mod FrontKeys
 pub mod UsualServices

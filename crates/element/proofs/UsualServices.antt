@@ -5,7 +5,7 @@ use borrow.Author.Tests.{eq-eqb, ne-eqb, eqb-true}
 use lib.Dec.{eqb}
 use Rattle.cut.specs.declared.service.Syntax.{Syntax}
 use Rattle.element.specs.Services.{usualServices}
-use Rattle.element.proofs.cursor.Standing.{both}
+use Rattle.bytewise.proofs.Booleans.{and-both}
 
 module _ (y : Syntax) where
   pub services-first : (y .terminator ≡ 39 → ⊥) → false ≡ usualServices y
@@ -29,7 +29,7 @@ module _ (y : Syntax) where
   pub usual-are : usualServices y ≡ true → (y .terminator ≡ 39) × (y .element ≡ 43) × (y .component ≡ 58) × (y .release ≡ 63)
   unfolding usualServices
   usual-are u =
-      let a = both (eqb (y .terminator) 39) _ u in
-      let b = both (eqb (y .element) 43) _ (a .1) in
-      let c = both (eqb (y .component) 58) (eqb (y .release) 63) (b .1) in
+      let a = and-both (eqb (y .terminator) 39) _ u in
+      let b = and-both (eqb (y .element) 43) _ (a .1) in
+      let c = and-both (eqb (y .component) 58) (eqb (y .release) 63) (b .1) in
       (eqb-true (y .terminator) 39 (a .0), eqb-true (y .element) 43 (b .0), eqb-true (y .component) 58 (c .0), eqb-true (y .release) 63 (c .1))

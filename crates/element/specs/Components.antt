@@ -4,10 +4,10 @@ use mathlib.Core.Bool.{false, cond, _&&_}
 use mathlib.Core.List.{List, [], _∷_, _++_}
 use lib.ListN.{length}
 use lib.Dec.{eqb}
-use Rattle.cut.specs.Bytes.{part}
+use Rattle.bytewise.specs.Bytes.{part}
 use Rattle.cut.specs.declared.service.Syntax.{Syntax}
 use Rattle.element.specs.Elements.{elements, component}
-use Rattle.element.specs.Plain.{plain}
+use Rattle.plain.specs.Plain.{plain}
 use Rattle.element.specs.declared.components.Span.{Span}
 use Rattle.element.specs.declared.scan.Extent.{Extent}
 

@@ -1,9 +1,5 @@
-pub mod Inner
-pub mod Plain
-pub mod Words
-pub mod Clean
 pub mod Elements
 pub mod Services
 pub mod Components
-pub mod Scans
 pub mod Cursors
+pub mod workers

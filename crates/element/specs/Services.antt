@@ -7,7 +7,7 @@ use lib.ListN.{getD}
 use lib.Dec.{eqb}
 use Rattle.cut.specs.Base.{edifact}
 use Rattle.cut.specs.declared.service.Syntax.{Syntax}
-use Rattle.element.specs.Clean.{allowedByte}
+use Rattle.clean.specs.Clean.{allowedByte}
 use Rattle.element.specs.Elements.{endingOf, stays}
 
 -- whether the byte x ends something where it is not released, or is the release character

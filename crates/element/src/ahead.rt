@@ -5,7 +5,7 @@ use cut::Syntax;
 ghost use Prim.Native.Nat.{_≤_};
 ghost use mathlib.Core.Path.{_≡_};
 ghost use lib.ListN.{length};
-ghost use Rattle.element.specs.Scans.{Scanned, Sought};
+ghost use Rattle.element.specs.workers.Scans.{Scanned, Sought};
 
 // The place of the component that comes next, the place behind the last word that was tested, and the flags of those of this word's service characters that
 // are not before the component.
@@ -38,11 +38,11 @@ pub(crate) fn service_on(y: Syntax, d: &[u8], limit: usize, scan: Scan) -> Scan
         if last < n {
             return untested(limit + 1);
         }
-        m = services_in(y, cut::eight_at(d, n));
+        m = services_in(y, bytewise::eight_at(d, n));
         n += 8;
     }
     Scan {
-        at: n + cut::first_of(m) - 7,
+        at: n + bytewise::first_of(m) - 7,
         next: n,
         left: m & (m - 1),
     }

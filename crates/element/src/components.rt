@@ -1,9 +1,9 @@
 // The part of the delivery that is one component of a segment.
 use crate::ahead::service_on;
 use crate::ahead::untested;
-use crate::limit::limit_of;
 use crate::scan::component_from;
 use crate::usual::has_usual_services;
+use bytewise::limit_of;
 use cut::Syntax;
 ghost use mathlib.Core.Path.{_≡_};
 ghost use mathlib.Core.Bool.{true, false, not, _&&_};

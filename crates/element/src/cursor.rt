@@ -1,6 +1,6 @@
 // A cursor by value that goes through the components of a segment once, from left to right.
-use crate::limit::limit_of;
 use crate::scan::component_from;
+use bytewise::limit_of;
 use cut::Syntax;
 ghost use mathlib.Core.Path.{_≡_};
 ghost use lib.ListN.{drop};

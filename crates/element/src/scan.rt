@@ -1,13 +1,13 @@
 // Where a component ends and how many bytes it has: the bytes are looked at up to the first that ends something and no further than its word, so that a
 // walk over a segment is one pass.
-use crate::limit::limit_of;
-use crate::plain::length_on;
+use bytewise::limit_of;
 use cut::Syntax;
+use plain::plain_length;
 ghost use mathlib.Core.Path.{_≡_};
 ghost use Prim.Native.Nat.{_+_, _≤_};
 ghost use lib.ListN.{length};
-ghost use Rattle.cut.specs.Bytes.{part};
-ghost use Rattle.cut.specs.Eights.{Flagged};
+ghost use Rattle.bytewise.specs.Bytes.{part};
+ghost use Rattle.bytewise.specs.Eights.{Flagged};
 ghost use Rattle.cut.specs.Segments.{frees};
 ghost use Rattle.element.specs.Elements.{component, endingOf, stays};
 ghost use Rattle.element.specs.Components.{extentOf};
@@ -71,7 +71,7 @@ pub fn component_from(y: Syntax, d: &[u8], from: usize, end: usize) -> Extent
         let stop = released_end(y, d, i, limit);
         return Extent {
             end: stop,
-            length: length_on(y, d, i, stop, i - from),
+            length: i - from + plain_length(y, d, i, stop),
         };
     }
     Extent {
@@ -95,9 +95,9 @@ fn next_service(y: Syntax, d: &[u8], from: usize, limit: usize) -> usize
         if last < i {
             return rest_service(y, d, i, limit);
         }
-        let m = services_in(y, cut::eight_at(d, i));
+        let m = services_in(y, bytewise::eight_at(d, i));
         if m != 0 {
-            return i + cut::first_of(m);
+            return i + bytewise::first_of(m);
         }
         i += 8;
     }
@@ -108,10 +108,10 @@ fn next_service(y: Syntax, d: &[u8], from: usize, limit: usize) -> usize
 pub fn services_in(y: Syntax, w: u64) -> u64
     ensures { λ r. ⌜ Flagged w (isService y) r ⌝ }
 {
-    cut::alike(w, y.terminator)
-        | cut::alike(w, y.element)
-        | cut::alike(w, y.component)
-        | cut::alike(w, y.release)
+    bytewise::alike(w, y.terminator)
+        | bytewise::alike(w, y.element)
+        | bytewise::alike(w, y.component)
+        | bytewise::alike(w, y.release)
 }
 
 // The same as `next_service`, a byte at a time.

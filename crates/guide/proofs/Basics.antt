@@ -6,12 +6,12 @@ use mathlib.Core.List.{List, [], _∷_, _++_, map}
 use native.Mathlib.Omega.{arith}
 use lib.Dec.{T, eqb, ltb, eqb→eq, ltb→lt}
 use borrow.Author.Tests.{eq-eqb, ne-eqb, eqb-true, eqb-false, ltb-false}
-use Rattle.element.specs.Plain.{same}
+use Rattle.plain.specs.Plain.{same}
 use Rattle.guide.specs.Tree.{one}
-use Rattle.guide.specs.Placing.{lowest}
+use Rattle.guide.specs.workers.Placing.{lowest}
 use Rattle.guide.specs.Choices.{pickℕ, orElse}
-use Rattle.guide.specs.Checks.{implies}
-pub use Rattle.cut.proofs.Every.{every-at}
+use Rattle.guide.specs.workers.Checks.{implies}
+pub use Rattle.bytewise.proofs.Every.{every-at}
 
 pub T-true : {b : Bool} → b ≡ true → T b
 T-true e = rw e tt

@@ -14,7 +14,7 @@ use Rattle.guide.specs.Composites.{C212, C509}
 use Rattle.guide.specs.PageMakers.{LIN, PRI}
 use Rattle.guide.specs.Content.{text, Empty, Filled, by-status, Holds}
 use Rattle.guide.specs.Nodes.{among}
-use Rattle.guide.proofs.Listing.{begun, among-member, member-among}
+use Rattle.guide.proofs.pages.Listing.{begun, among-member, member-among}
 
 module _ (y : Syntax) (page : Page) (s : List ℕ) (h : Holds y page s) (e c : ℕ) (l : 1 ≤ e) where
   -- a component that is not used is empty

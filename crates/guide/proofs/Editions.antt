@@ -4,21 +4,21 @@ use mathlib.Core.Path.{_≡_}
 use mathlib.Core.Logic.{_↔_}
 use mathlib.Core.List.{List, _++_, map}
 use lib.Dec.{T, lit≤}
-use Rattle.guide.specs.Nodes.{View, Guide, capacity, node, among, matches, samePlace, takes, paired}
-use Rattle.element.specs.Plain.{same}
+use Rattle.guide.specs.Nodes.{View, Guide, capacity, node, among, matches, samePlace, takes, paired, numberOf}
+use Rattle.plain.specs.Plain.{same}
 use Rattle.guide.specs.Pricat.{pricat20d, pricat20c}
 use Rattle.guide.specs.Tree.{Whole, Beginning}
-use Rattle.guide.specs.Placing.{start, fault, run}
+use Rattle.guide.specs.workers.Placing.{start, fault, run}
 use Rattle.guide.specs.Meaning.{Stops}
-use Rattle.guide.specs.Runs.{Goes, GoesTo}
-use Rattle.guide.specs.Checks.{every, rising, shared, together, overlap, upward, apartAt, apart, distinct, ends, mates, Passes}
-use Rattle.guide.proofs.Tables.{passing, distinct-takes}
+use Rattle.guide.specs.workers.Runs.{Goes, GoesTo}
+use Rattle.guide.specs.workers.Checks.{every, rising, shared, together, overlap, upward, apartAt, apart, distinct, ends, mates, Passes}
+use Rattle.guide.proofs.tables.Tables.{passing, distinct-takes}
 use Rattle.guide.proofs.Fitting.{only-one, goes-beginning, front-begins}
-use Rattle.guide.proofs.Ending.{only-whole, goes-to-whole}
-use Rattle.guide.proofs.Faults.{fault-means, nothing-mends}
+use Rattle.guide.proofs.placing.Ending.{only-whole, goes-to-whole}
+use Rattle.guide.proofs.placing.Faults.{fault-means, nothing-mends}
 
 rising-20d : T (rising pricat20d)
-unfolding pricat20d rising every paired
+unfolding pricat20d rising every paired numberOf
 rising-20d = tt
 
 apart-20d : T (apart pricat20d)
@@ -38,7 +38,7 @@ unfolding pricat20d
 pricat20d-passes = passing pricat20d 26 rising-20d apart-20d ends-20d mates-20d (lit≤ tt)
 
 rising-20c : T (rising pricat20c)
-unfolding pricat20c rising every paired
+unfolding pricat20c rising every paired numberOf
 rising-20c = tt
 
 apart-20c : T (apart pricat20c)

@@ -7,7 +7,7 @@ use native.Mathlib.Omega.{arith}
 use lib.Dec.{eqb, ltb}
 use borrow.Author.Tests.{eq-eqb, ne-eqb, lt-ltb, le-ltb, le-leb, lt-leb}
 use Rattle.guide.specs.Nodes.{View, Guide, node, matches, required, over}
-use Rattle.guide.specs.Placing.{firstNode, Level, levels, fitsIn, seek, tally, lacking, missing, place}
+use Rattle.guide.specs.workers.Placing.{firstNode, Level, levels, fitsIn, seek, tally, lacking, missing, place}
 use Rattle.guide.specs.Answers.{placed, refused}
 use Rattle.guide.specs.Choices.{pickℕ}
 use Rattle.guide.proofs.Basics.{orElse-some}

@@ -7,14 +7,14 @@ use mathlib.Core.List.{List, _++_, map}
 use lib.ListN.{length}
 use Rattle.guide.specs.Nodes.{View, Guide}
 use Rattle.guide.specs.Tree.{none, Given, assigned, Beginning}
-use Rattle.guide.specs.Placing.{State, start, Ran, fits, fault, run, given}
-use Rattle.guide.specs.Runs.{Goes}
-use Rattle.guide.specs.Checks.{Rising, Apart, Pairing}
+use Rattle.guide.specs.workers.Placing.{State, start, Ran, fits, fault, run, given}
+use Rattle.guide.specs.workers.Runs.{Goes}
+use Rattle.guide.specs.workers.Checks.{Rising, Apart, Pairing}
 use Rattle.guide.proofs.Basics.{map-append}
-use Rattle.guide.proofs.Growing.{Begun, begun-none}
-use Rattle.guide.proofs.Meeting.{one-tree}
-use Rattle.guide.proofs.Standing.{stands-start}
-use Rattle.guide.proofs.Running.{fits-fault, run-stopped, Reached, reached, built}
+use Rattle.guide.proofs.placing.Growing.{Begun, begun-none}
+use Rattle.guide.proofs.placing.Meeting.{one-tree}
+use Rattle.guide.proofs.placing.Standing.{stands-start}
+use Rattle.guide.proofs.placing.Running.{fits-fault, run-stopped, Reached, reached, built}
 
 module _ {A : Type 0} (g : Guide) (view : A → View) where
   pub begun-of : (ss : List A) (b : Beginning g view ss) → Begun g view 0 (b .tree)

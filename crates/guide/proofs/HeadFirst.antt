@@ -8,16 +8,16 @@ use lib.ListN.{length}
 use lib.Dec.{T, eqb}
 use borrow.Author.Tests.{eqb-false}
 use Rattle.cut.specs.declared.service.Syntax.{Syntax}
-use Rattle.cut.specs.Bytes.{bytesOf, begins}
+use Rattle.bytewise.specs.Bytes.{bytesOf, begins}
 use Rattle.cut.specs.Segments.{Segment}
 use Rattle.guide.specs.Nodes.{Guide, node}
 use Rattle.guide.specs.Tree.{Kids, none, then, one, segs, giving, count, Limits, Next, Closed}
 use Rattle.guide.specs.Sheet.{isTag, childrenWith}
-use Rattle.guide.specs.Heads.{isPia, isImd, isHead, Foremost}
+use Rattle.guide.specs.workers.Heads.{isPia, isImd, isHead, Foremost}
 use Rattle.guide.specs.Accepted.{seen}
 use Rattle.guide.proofs.Basics.{T-true, false-T, and-left, and-right, and-both, or-left, or-right, same-eq, one-same, true-T}
-use Rattle.guide.proofs.Tables.{takes-limit}
-use Rattle.guide.proofs.Taken.{taken-begins}
+use Rattle.guide.proofs.tables.Tables.{takes-limit}
+use Rattle.guide.proofs.placing.Taken.{taken-begins}
 
 -- none, or one segment with the tag t
 pub data Lone (t : List ℕ) : List Segment → Type 0 where
@@ -118,7 +118,12 @@ module _ (y : Syntax) (g : Guide) (h : Foremost g) where
           apart : (b : Bool) → eqb m n ≡ b → ⊥
           apart true d = omega (arith, room, ap one d, one-same n n refl, h .once n i)
           apart false d =
-              omega (arith, last .order, h .before n m i (first .under ∙ sym (last .under)) (takes-limit g m (seen y s) (first .takes)) (eqb-false m n d) neither)
+              omega (
+                arith,
+                last .order,
+                h .before n m i (first .under ∙ sym (last .under)) (takes-limit g m (seen y s) (first .takes)) (eqb-false m n d)
+                    neither,
+              )
 
   childless : (n : ℕ) (k : Kids Segment) → T (isHead g n) → Closed g (seen y) n k → k ≡ none
   unfolding Closed

@@ -4,15 +4,15 @@ use mathlib.Core.Bool.{not, _&&_}
 use native.Mathlib.Omega.{arith}
 use lib.ListN.{length}
 use lib.Dec.{T, eqb, ltb, eqb→eq, ltb→lt, T-not}
-use Rattle.element.specs.Plain.{same}
+use Rattle.plain.specs.Plain.{same}
 use Rattle.guide.specs.Nodes.{Guide, node}
 use Rattle.guide.specs.Pricat.{pricat20d, pricat20c}
-use Rattle.guide.specs.Checks.{every, upward, Rising}
+use Rattle.guide.specs.workers.Checks.{every, upward, Rising}
 use Rattle.guide.specs.Sheet.{isTag}
-use Rattle.guide.specs.Heads.{isLin, isPia, isImd, isHead, foremostBy, headAt, lineAt, foremost, Foremost}
+use Rattle.guide.specs.workers.Heads.{isLin, isPia, isImd, isHead, foremostBy, headAt, lineAt, foremost, Foremost}
 use Rattle.guide.proofs.Basics.{and-left, and-right, or-cases, implied, eq-T, every-at}
-use Rattle.guide.proofs.Tables.{in-table, upward-at}
-use Rattle.guide.proofs.Framing.{tag-inside}
+use Rattle.guide.proofs.tables.Tables.{in-table, upward-at}
+use Rattle.guide.proofs.tables.Framing.{tag-inside}
 use Rattle.guide.proofs.Editions.{pricat20d-passes, pricat20c-passes}
 
 module _ (g : Guide) (r : Rising g) (t : T (foremost g)) where

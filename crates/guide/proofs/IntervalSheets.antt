@@ -3,12 +3,13 @@ use Prim.Native.Nat.{ℕ}
 use mathlib.Core.Path.{_≡_, refl}
 use mathlib.Core.List.{List, [], _∷_, _++_}
 use lib.ListN.{replicate}
-use Rattle.element.specs.Plain.{same}
+use Rattle.plain.specs.Plain.{same}
 use Rattle.guide.specs.Nodes.{View, among, chosen, matches, paired, numberOf, required, over}
 use Rattle.guide.specs.Pricat.{pricat20d, pricat20c}
 use Rattle.guide.specs.Answers.{Answer, placed, refused}
-use Rattle.guide.specs.Placing.{lowest, levels, fitsIn, seek, lacking, missing, place, indexed, recounted, countsAfter, lastAfter, run}
-use Rattle.guide.specs.Sheets.{bare, with, refusal, Sheet, intervals, saidOf, expectedOf, AllMean}
+use Rattle.guide.specs.workers.Placing.{lowest, levels, fitsIn, seek, lacking, missing, place, indexed, recounted, countsAfter, lastAfter, run}
+use Rattle.guide.specs.Sheets.{bare, with, refusal, Sheet, intervals, expectedOf, AllMean}
+use Rattle.guide.specs.workers.Runs.{saidOf}
 use Rattle.guide.proofs.Editions.{pricat20d-passes, pricat20c-passes}
 use Rattle.guide.proofs.Sheets.{all-mean}
 
@@ -40,11 +41,15 @@ abbrev intervals20c : List Sheet
 intervals20c = intervals 19 (refusal 15 11 18)
 
 pub intervals-hold-20d : saidOf pricat20d intervals20d ≡ expectedOf intervals20d
-unfolding matches same among chosen paired numberOf required over pricat20d lowest levels fitsIn seek lacking missing place indexed recounted countsAfter lastAfter run
+unfolding
+    matches same among chosen paired numberOf required over pricat20d lowest levels fitsIn seek lacking missing place indexed recounted countsAfter
+    lastAfter run
 intervals-hold-20d = refl
 
 pub intervals-hold-20c : saidOf pricat20c intervals20c ≡ expectedOf intervals20c
-unfolding matches same among chosen paired numberOf required over pricat20c lowest levels fitsIn seek lacking missing place indexed recounted countsAfter lastAfter run
+unfolding
+    matches same among chosen paired numberOf required over pricat20c lowest levels fitsIn seek lacking missing place indexed recounted countsAfter
+    lastAfter run
 intervals-hold-20c = refl
 
 -- Each over trees.

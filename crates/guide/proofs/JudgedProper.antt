@@ -2,28 +2,29 @@
 -- For every table that passes the tests, with any pages.
 use Prim.Native.Nat.{ℕ, suc}
 use mathlib.Core.Path.{_≡_, refl, sym, _∙_}
-use mathlib.Core.Bool.{Bool, true, false}
+use mathlib.Core.Bool.{Bool, true, false, cond}
 use mathlib.Core.Logic.{_↔_, _⊎_, inl, inr}
 use lib.ListN.{length}
 use Rattle.cut.specs.declared.service.Syntax.{Syntax}
-use Rattle.cut.specs.Bytes.{bytesOf}
-use Rattle.cut.specs.Messages.{Message, closeOf}
+use Rattle.bytewise.specs.Bytes.{bytesOf}
+use Rattle.messages.specs.Messages.{Message, closeOf}
 use Rattle.guide.specs.Nodes.{Guide}
 use Rattle.guide.specs.Pricat.{pricat20d, pricat20c}
 use Rattle.guide.specs.Page.{Page}
 use Rattle.guide.specs.Pages20d.{pageOf}
 use Rattle.guide.specs.Pages20c.{pageOf20c}
-use Rattle.guide.specs.Checks.{Passes}
+use Rattle.guide.specs.workers.Checks.{Passes}
 use Rattle.guide.specs.Sheet.{isTag}
-use Rattle.guide.specs.Frames.{Framed}
+use Rattle.guide.specs.workers.Frames.{Framed}
 use Rattle.guide.specs.Accepted.{segmentsOf, Proper}
-use Rattle.guide.specs.Judging.{accepts, refuses, pickVerdict, fresh, judged}
+use Rattle.guide.specs.Answers.{accepts, refuses}
+use Rattle.guide.specs.workers.Judging.{fresh, judged}
 use Rattle.guide.proofs.Basics.{T-true, true-T}
 use Rattle.guide.proofs.Editions.{pricat20d-passes, pricat20c-passes}
-use Rattle.guide.proofs.Framing.{pricat20d-framed, pricat20c-framed}
-use Rattle.guide.proofs.Faultless.{kept, Through, Stopped, through-or-stopped}
-use Rattle.guide.proofs.Verdicts.{through-judged, stopped-judged, accepts-refuses}
-use Rattle.guide.proofs.ProperThrough.{proper-through, through-proper}
+use Rattle.guide.proofs.tables.Framing.{pricat20d-framed, pricat20c-framed}
+use Rattle.guide.proofs.judging.Faultless.{kept, Through, Stopped, through-or-stopped}
+use Rattle.guide.proofs.judging.Verdicts.{through-judged, stopped-judged, accepts-refuses}
+use Rattle.guide.proofs.judging.ProperThrough.{proper-through, through-proper}
 
 module _ (y : Syntax) (g : Guide) (pages : ℕ → Page) (u : ℕ) (p : Passes g u) (h : ℕ) (q : Framed g h u) (m : Message) where
   accepts-proper : (n e : ℕ) → judged y g pages m ≡ accepts n e → Proper y g pages m × (n ≡ length (segmentsOf m)) × (e ≡ closeOf m)
@@ -31,7 +32,7 @@ module _ (y : Syntax) (g : Guide) (pages : ℕ → Page) (u : ℕ) (p : Passes g
     where
       ended
           : (t : Through y g pages 0 fresh (segmentsOf m)) (b : Bool) → isTag g (bytesOf "UNT") (kept y g pages fresh (t .given) .state .last) ≡ b
-          → pickVerdict b (accepts (length (segmentsOf m)) (closeOf m)) (refuses 24 (suc (length (segmentsOf m))) (closeOf m) 0) ≡ accepts n e
+          → cond b (accepts (length (segmentsOf m)) (closeOf m)) (refuses 24 (suc (length (segmentsOf m))) (closeOf m) 0) ≡ accepts n e
           → Proper y g pages m × (n ≡ length (segmentsOf m)) × (e ≡ closeOf m)
       ended t true k w = (through-proper y g pages u p h q m t (T-true k), cc, cc)
       ended t false k w = absurd (accepts-refuses (sym w))

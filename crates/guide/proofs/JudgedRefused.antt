@@ -2,35 +2,36 @@
 -- first segment with a fault, or of its end. For every table that passes the tests, with any pages.
 use Prim.Native.Nat.{ℕ, suc, _+_}
 use mathlib.Core.Path.{_≡_, refl, sym, _∙_, ap}
-use mathlib.Core.Bool.{Bool, true, false}
+use mathlib.Core.Bool.{Bool, true, false, cond}
 use mathlib.Core.Logic.{_↔_, _⊎_, inl, inr}
 use mathlib.Core.List.{List, _∷_, _++_}
 use native.Mathlib.Omega.{arith}
 use lib.ListN.{length, length-map}
 use Rattle.cut.specs.declared.service.Syntax.{Syntax}
-use Rattle.cut.specs.Bytes.{bytesOf}
+use Rattle.bytewise.specs.Bytes.{bytesOf}
 use Rattle.cut.specs.Segments.{Segment}
-use Rattle.cut.specs.Messages.{Message, closeOf}
+use Rattle.messages.specs.Messages.{Message, closeOf}
 use Rattle.guide.specs.Nodes.{Guide, numberOf}
 use Rattle.guide.specs.Pricat.{pricat20d, pricat20c}
 use Rattle.guide.specs.Page.{Page}
 use Rattle.guide.specs.Pages20d.{pageOf}
 use Rattle.guide.specs.Pages20c.{pageOf20c}
 use Rattle.guide.specs.Tree.{Given}
-use Rattle.guide.specs.Checks.{Passes}
+use Rattle.guide.specs.workers.Checks.{Passes}
 use Rattle.guide.specs.Sheet.{isTag}
-use Rattle.guide.specs.Frames.{Framed}
+use Rattle.guide.specs.workers.Frames.{Framed}
 use Rattle.guide.specs.Accepted.{segmentsOf}
-use Rattle.guide.specs.Judging.{accepts, refuses, pickVerdict, fresh, judged}
+use Rattle.guide.specs.Answers.{accepts, refuses}
+use Rattle.guide.specs.workers.Judging.{fresh, judged}
 use Rattle.guide.specs.Refusal.{FaultAfter, Refused, at-segment, at-end}
 use Rattle.guide.proofs.Basics.{false-T}
 use Rattle.guide.proofs.Editions.{pricat20d-passes, pricat20c-passes}
-use Rattle.guide.proofs.Framing.{pricat20d-framed, pricat20c-framed}
-use Rattle.guide.proofs.Faultless.{segmentsIn, kept, Through, Stopped, through-or-stopped}
-use Rattle.guide.proofs.Verdicts.{through-judged, stopped-judged, accepts-refuses}
-use Rattle.guide.proofs.FaultFound.{fault-found}
-use Rattle.guide.proofs.FaultFree.{free-iff}
-use Rattle.guide.proofs.LastTag.{last-tagged}
+use Rattle.guide.proofs.tables.Framing.{pricat20d-framed, pricat20c-framed}
+use Rattle.guide.proofs.judging.Faultless.{segmentsIn, kept, Through, Stopped, through-or-stopped}
+use Rattle.guide.proofs.judging.Verdicts.{through-judged, stopped-judged, accepts-refuses}
+use Rattle.guide.proofs.judging.FaultFound.{fault-found}
+use Rattle.guide.proofs.judging.FaultFree.{free-iff}
+use Rattle.guide.proofs.judging.LastTag.{last-tagged}
 
 module _ (y : Syntax) (g : Guide) (pages : ℕ → Page) (u : ℕ) (p : Passes g u) (h : ℕ) (q : Framed g h u) (m : Message) where
   size : (xs : List (Given Segment)) → length xs ≡ length (segmentsIn xs)
@@ -66,7 +67,7 @@ module _ (y : Syntax) (g : Guide) (pages : ℕ → Page) (u : ℕ) (p : Passes g
 
       ended
           : (t : Through y g pages 0 fresh (segmentsOf m)) (b : Bool) → isTag g (bytesOf "UNT") (kept y g pages fresh (t .given) .state .last) ≡ b
-          → pickVerdict b (accepts (length (segmentsOf m)) (closeOf m)) (refuses 24 (suc (length (segmentsOf m))) (closeOf m) 0) ≡ refuses k i a n
+          → cond b (accepts (length (segmentsOf m)) (closeOf m)) (refuses 24 (suc (length (segmentsOf m))) (closeOf m) 0) ≡ refuses k i a n
           → Refused y g pages m k i a n
       ended t true e w = absurd (accepts-refuses w)
       ended t false e w = same 24 (suc (length (segmentsOf m))) (closeOf m) 0 w (ended-refused t e)

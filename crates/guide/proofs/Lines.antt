@@ -1,20 +1,20 @@
 -- The positions of a tree are those of its LIN segments, in message order: no LIN is in another's instance.
 use Prim.Native.Nat.{ℕ}
 use mathlib.Core.Path.{_≡_, refl, sym, _∙_, ap, ap₂}
-use mathlib.Core.Bool.{Bool, true, false}
+use mathlib.Core.Bool.{Bool, true, false, cond}
 use mathlib.Core.List.{List, [], _∷_, _++_, map, append-assoc}
 use lib.Dec.{T}
-use Rattle.cut.specs.Bytes.{bytesOf}
+use Rattle.bytewise.specs.Bytes.{bytesOf}
 use Rattle.cut.specs.Segments.{Segment}
 use Rattle.guide.specs.Nodes.{View, Guide, node}
 use Rattle.guide.specs.Tree.{Kids, none, then, Given, giving, assigned, Closed, Whole}
-use Rattle.guide.specs.Checks.{Rising, Under, child, deeper}
-use Rattle.guide.specs.Sheet.{onlyIf, pickList, Position, isTag, withTag, position, positionsIn}
-use Rattle.guide.specs.Heads.{isLin, Foremost}
+use Rattle.guide.specs.workers.Checks.{Rising, Under, child, deeper}
+use Rattle.guide.specs.Sheet.{onlyIf, Position, isTag, withTag, position, positionsIn}
+use Rattle.guide.specs.workers.Heads.{isLin, Foremost}
 use Rattle.guide.specs.Accepted.{Each}
 use Rattle.guide.proofs.Basics.{T-true, false-T, map-append}
-use Rattle.guide.proofs.Tables.{takes-limit}
-use Rattle.guide.proofs.Taken.{each-more}
+use Rattle.guide.proofs.tables.Tables.{takes-limit}
+use Rattle.guide.proofs.placing.Taken.{each-more}
 
 -- the LIN of each position
 abbrev pub linesOf : List Position → List Segment
@@ -57,7 +57,7 @@ module _ (view : Segment → View) (g : Guide) (r : Rising g) (h : Foremost g) w
   unfolding Closed positionsIn withTag
   lines p none c = refl
   lines p (then l n s k) c =
-      map-append (λ (q : Position). q .lin) (positionsIn g l) (pickList (isLin g n) (position g s k ∷ []) (positionsIn g k))
+      map-append (λ (q : Position). q .lin) (positionsIn g l) (cond (isLin g n) (position g s k ∷ []) (positionsIn g k))
       ∙ ap₂ _++_ (lines p l (c .0)) (go (isLin g n) refl (lines n k (c .2)))
       ∙ sym (withTag-append g (bytesOf "LIN") (assigned l) (giving n s ∷ assigned k))
     where
@@ -66,7 +66,7 @@ module _ (view : Segment → View) (g : Guide) (r : Rising g) (h : Foremost g) w
 
       go
           : (b : Bool) → isLin g n ≡ b → linesOf (positionsIn g k) ≡ LINs
-          → linesOf (pickList b (position g s k ∷ []) (positionsIn g k)) ≡ onlyIf b s ++ LINs
+          → linesOf (cond b (position g s k ∷ []) (positionsIn g k)) ≡ onlyIf b s ++ LINs
       go true e ih = ap (λ (ss : List Segment). s ∷ ss) (sym (no-line g (assigned k) (no-line-inside n k (T-true e) (c .2))))
       go false e ih = ih
 

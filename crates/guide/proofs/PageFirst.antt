@@ -6,8 +6,8 @@ use mathlib.Core.Logic.{_↔_}
 use Rattle.cut.specs.declared.service.Syntax.{Syntax}
 use Rattle.guide.specs.Page.{Page}
 use Rattle.guide.specs.FirstFault.{First}
-use Rattle.guide.specs.PageFault.{pageFault}
-use Rattle.guide.proofs.Leftmost.{fault-first, first-fault}
+use Rattle.guide.specs.workers.PageFault.{pageFault}
+use Rattle.guide.proofs.pages.Leftmost.{fault-first, first-fault}
 
 pub first-iff : (y : Syntax) (page : Page) (s : List ℕ) (n : ℕ) → (n ≡ 0 → ⊥) → (pageFault y page s ≡ n) ↔ First y page s n
 first-iff y page s zero h = absurd (h refl)

@@ -7,9 +7,9 @@ use native.Mathlib.Omega.{arith}
 use Rattle.cut.specs.declared.service.Syntax.{Syntax}
 use Rattle.guide.specs.Page.{Page}
 use Rattle.guide.specs.Content.{Sound, Holds}
-use Rattle.guide.specs.PageFault.{pageFault}
-use Rattle.guide.proofs.Scanned.{scan-none, none-scan}
-use Rattle.guide.proofs.PageScan.{page-scan, element-sound, sound-element}
+use Rattle.guide.specs.workers.PageFault.{pageFault}
+use Rattle.guide.proofs.pages.Scanned.{scan-none, none-scan}
+use Rattle.guide.proofs.pages.Scan.{page-scan, element-sound, sound-element}
 
 pub holds-iff : (y : Syntax) (page : Page) (s : List ℕ) → (pageFault y page s ≡ 0) ↔ Holds y page s
 unfolding Holds

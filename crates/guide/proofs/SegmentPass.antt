@@ -8,11 +8,12 @@ use native.Mathlib.Omega.{arith}
 use lib.ListN.{length, getD, drop}
 use Rattle.cut.specs.declared.service.Syntax.{Syntax}
 use Rattle.element.specs.Elements.{splitFrom, elements}
-use Rattle.element.specs.Plain.{plain}
+use Rattle.plain.specs.Plain.{plain}
 use Rattle.guide.specs.Page.{unused, Page, beyond, elementOf, rowOf}
-use Rattle.guide.specs.PageFault.{firstOf, elementFault, pageFault}
+use Rattle.guide.specs.workers.PageFault.{firstOf, elementFault, pageFault}
 use Rattle.guide.specs.Choices.{orElse}
-use Rattle.guide.proofs.OnePass.{Mood, opened, moodAfter, moodFault, passFault, absentFault, firstOf-step, element-pass, absent-pass}
+use Rattle.guide.specs.workers.Moods.{Mood, opened, moodAfter, moodFault, passFault, absentFault}
+use Rattle.guide.proofs.pages.OnePass.{firstOf-step, element-pass, absent-pass}
 
 module _ {A : Type 0} where
   drop-one : (l : List A) (n : ℕ) → drop 1 (drop n l) ≡ drop (suc n) l

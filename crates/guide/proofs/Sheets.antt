@@ -5,11 +5,11 @@ use mathlib.Core.List.{List, [], _∷_, _++_, map}
 use native.Mathlib.Omega.{arith}
 use lib.ListN.{replicate}
 use Rattle.guide.specs.Nodes.{View, Guide, capacity, among, chosen, matches, paired, numberOf, required, over}
-use Rattle.element.specs.Plain.{same}
+use Rattle.plain.specs.Plain.{same}
 use Rattle.guide.specs.Pricat.{pricat20d}
 use Rattle.guide.specs.Tree.{Whole}
 use Rattle.guide.specs.Answers.{Answer, placed, refused}
-use Rattle.guide.specs.Placing.{
+use Rattle.guide.specs.workers.Placing.{
   lowest,
   levels,
   fitsIn,
@@ -27,8 +27,9 @@ use Rattle.guide.specs.Placing.{
   fault,
   run,
 }
-use Rattle.guide.specs.Checks.{Passes}
-use Rattle.guide.specs.Sheets.{bare, with, Said, fitting, refusal, said, Sheet, H, H4, a-to-l, saidOf, expectedOf, Means, AllMean}
+use Rattle.guide.specs.workers.Checks.{Passes}
+use Rattle.guide.specs.Sheets.{bare, with, Said, fitting, refusal, Sheet, H, H4, a-to-l, expectedOf, Means, AllMean}
+use Rattle.guide.specs.workers.Runs.{said, saidOf}
 use Rattle.guide.proofs.Editions.{pricat20d-passes, whole-iff, beginning-iff, fault-iff}
 
 -- what comes of a COM behind a COM, where k have come under the open CTA and each node before it once
@@ -43,7 +44,9 @@ sixth-com = (refl, refl)
 
 -- The twelve rows.
 pub sheets-hold : saidOf pricat20d a-to-l ≡ expectedOf a-to-l
-unfolding matches same among chosen paired numberOf required over pricat20d lowest levels fitsIn seek lacking missing place indexed recounted countsAfter lastAfter run
+unfolding
+    matches same among chosen paired numberOf required over pricat20d lowest levels fitsIn seek lacking missing place indexed recounted countsAfter
+    lastAfter run
 sheets-hold = refl
 
 map-same : (vs : List View) → map (λ v. v) vs ≡ vs

@@ -3,14 +3,15 @@ use Prim.Native.Nat.{ℕ}
 use mathlib.Core.Path.{_≡_, refl}
 use mathlib.Core.List.{List, [], _∷_, _++_, map}
 use lib.ListN.{length, getD}
-use Rattle.element.specs.Plain.{same}
+use Rattle.plain.specs.Plain.{same}
 use Rattle.guide.specs.Nodes.{Node, node, among, chosen, matches, paired, numberOf, required, over}
-use Rattle.guide.specs.Columns.{values}
+use Rattle.guide.specs.workers.Columns.{values}
 use Rattle.guide.specs.Pricat.{pricat20d, pricat20c}
 use Rattle.guide.specs.Pages20d.{pages20d, pageOf}
 use Rattle.guide.specs.Pages20c.{pages20c, pageOf20c}
-use Rattle.guide.specs.Placing.{lowest, levels, fitsIn, seek, lacking, missing, place, indexed, recounted, countsAfter, lastAfter, run}
-use Rattle.guide.specs.Sheets.{bare, with, Said, fitting, refusal, Sheet, H, sheet, a-to-l, saidOf, expectedOf}
+use Rattle.guide.specs.workers.Placing.{lowest, levels, fitsIn, seek, lacking, missing, place, indexed, recounted, countsAfter, lastAfter, run}
+use Rattle.guide.specs.Sheets.{bare, with, Said, fitting, refusal, Sheet, H, sheet, a-to-l, expectedOf}
+use Rattle.guide.specs.workers.Runs.{saidOf}
 
 -- the row that 2.0c has for each row of 2.0d; 0 for RFF/Z56 and the first kind's RNG, which it does not have
 abbrev numbers : List ℕ
@@ -69,7 +70,9 @@ saidWith (refusal k i n) = refusal k i (renumbered n)
 
 -- rows a to l
 sheets-20c : saidOf pricat20c a-to-l ≡ map saidWith (expectedOf a-to-l)
-unfolding matches same among chosen paired numberOf required over pricat20c lowest levels fitsIn seek lacking missing place indexed recounted countsAfter lastAfter run
+unfolding
+    matches same among chosen paired numberOf required over pricat20c lowest levels fitsIn seek lacking missing place indexed recounted countsAfter
+    lastAfter run
 sheets-20c = refl
 
 -- H with RFF/Z56; H PGI/9 LIN PRI PRI; H PGI/9 LIN PRI RNG; the same in the second kind
@@ -89,5 +92,7 @@ abbrev differing20c : List Sheet
 differing20c = differing (refusal 13 4 0) (refusal 15 10 18) (refusal 13 10 0)
 
 differing-20c : saidOf pricat20c differing20c ≡ expectedOf differing20c
-unfolding matches same among chosen paired numberOf required over pricat20c lowest levels fitsIn seek lacking missing place indexed recounted countsAfter lastAfter run
+unfolding
+    matches same among chosen paired numberOf required over pricat20c lowest levels fitsIn seek lacking missing place indexed recounted countsAfter
+    lastAfter run
 differing-20c = refl

@@ -1,15 +1,16 @@
--- An accepted message. Demand 2: "its segments can be given guide nodes so that order, status, limits and contents of the guide hold, with the
--- message rules of document 01". It cites the tree, the pages and the layers below, and nothing that places, runs or judges.
+-- An accepted message, by the guide that it names. Demand 2: "its segments can be given guide nodes so that order, status, limits and contents of the
+-- PRICAT 2.0d guide hold, with the message rules of document 01". It cites the tree, the pages and the layers below, and nothing that places, runs or
+-- judges.
 use Prim.Native.Nat.{ℕ, suc}
 use mathlib.Core.Path.{_≡_}
 use mathlib.Core.Bool.{true, false}
 use mathlib.Core.List.{List, [], _∷_}
 use lib.ListN.{length}
 use Rattle.cut.specs.declared.service.Syntax.{Syntax}
-use Rattle.cut.specs.Bytes.{bytesOf}
+use Rattle.bytewise.specs.Bytes.{bytesOf}
 use Rattle.cut.specs.Segments.{Segment}
-use Rattle.cut.specs.Messages.{Message}
-use Rattle.element.specs.Clean.{allowedBytes, taggedBytes}
+use Rattle.messages.specs.Messages.{Message}
+use Rattle.clean.specs.Clean.{allowedBytes, taggedBytes}
 use Rattle.value.specs.Digits.{countOf}
 use Rattle.value.specs.declared.counts.Count.the-variants.{Is}
 use Rattle.guide.specs.Nodes.{View, Guide}

@@ -6,7 +6,7 @@ use mathlib.Core.Path.{_≡_}
 use mathlib.Core.List.{List, [], List·Memᴰ}
 use Rattle.cut.specs.declared.service.Syntax.{Syntax}
 use Rattle.element.specs.Elements.{component}
-use Rattle.element.specs.Plain.{plain}
+use Rattle.plain.specs.Plain.{plain}
 use Rattle.value.specs.Format.{fitsFormat}
 use Rattle.value.specs.declared.formats.Format.{Format}
 use Rattle.guide.specs.Page.{Status, must, used, unused, Page, elementOf, rowOf}

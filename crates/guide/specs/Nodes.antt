@@ -1,13 +1,12 @@
 -- The nodes of a guide, and which segments they take. Document 01, 'Guide nodes of PRICAT 2.0d', for any guide.
 use Prim.Native.Nat.{ℕ, zero, suc}
 use Prim.Native.String.{String}
-use mathlib.Core.Bool.{Bool, true, false, not, _&&_, _||_}
+use mathlib.Core.Bool.{Bool, true, false, not, cond, _&&_, _||_}
 use mathlib.Core.List.{List, [], _∷_, map}
 use lib.ListN.{getD}
 use lib.Dec.{eqb, ltb}
-use Rattle.cut.specs.Bytes.{bytesOf}
-use Rattle.element.specs.Plain.{same}
-use Rattle.guide.specs.Choices.{pickℕ}
+use Rattle.bytewise.specs.Bytes.{bytesOf}
+use Rattle.plain.specs.Plain.{same}
 
 -- a segment as a guide sees it: its tag, and the component at each element and component, releases removed; the tag is element 0,
 -- components count from 0, and one that does not stand there is empty
@@ -97,17 +96,17 @@ paired g n = ltb 0 (node g n .partner)
 
 -- the node's number in the guide: both rows of a pair have that of the lower
 unfoldable pub numberOf : Guide → ℕ → ℕ
-numberOf g n = pickℕ (paired g n && ltb (node g n .partner) n) (node g n .partner) n
+numberOf g n = cond (paired g n && ltb (node g n .partner) n) (node g n .partner) n
 
 -- whether node m must occur in an instance of its parent, where `seen` says how often each node has come there; request 2: "Where either is
 -- given, both must be"
 unfoldable pub required : Guide → ℕ → (ℕ → ℕ) → Bool
 required g m seen = node g m .must || (paired g m && ltb 0 (seen (node g m .partner)))
 
--- the number given when node n comes once more than its limit; request 2: "25 at the second DTM of one code", unless the other code stands too: "a
--- third DTM is 15 first"
+-- the number given when node n comes once more than its limit; request 2: "25 at the second DTM of one code, after 15 and 16", so where the
+-- other code stands too a third DTM gets 15
 unfoldable pub over : Guide → ℕ → (ℕ → ℕ) → ℕ
-over g n seen = pickℕ (paired g n && eqb (seen (node g n .partner)) 0) 25 (node g n .refusal)
+over g n seen = cond (paired g n && eqb (seen (node g n .partner)) 0) 25 (node g n .refusal)
 
 -- a table's rows as they are written
 abbrev pub tagAlone : Selector

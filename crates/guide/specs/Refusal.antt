@@ -1,5 +1,5 @@
 -- What a refusal of a message says. Document 01, 'Refusal numbers': "In a message the first segment with a fault decides; within it 12, 10, 11,
--- 13, 15 or 16, 25 (request 2), 14, then components left to right (18, 17, 19, 20 at each), then 21 or 22."
+-- 13, 15 or 16, 14, then components left to right (18, 17, 19, 20 at each), then 21 or 22", and request 2's 25 "after 15 and 16".
 use Prim.Native.Nat.{ℕ, suc}
 use mathlib.Core.Path.{_≡_}
 use mathlib.Core.Bool.{true, false}
@@ -7,10 +7,10 @@ use mathlib.Core.List.{List, [], _∷_, _++_, List·Memᴰ}
 use lib.ListN.{length}
 use lib.Dec.{T}
 use Rattle.cut.specs.declared.service.Syntax.{Syntax}
-use Rattle.cut.specs.Bytes.{bytesOf}
+use Rattle.bytewise.specs.Bytes.{bytesOf}
 use Rattle.cut.specs.Segments.{Segment}
-use Rattle.cut.specs.Messages.{Message, closeOf}
-use Rattle.element.specs.Clean.{allowedBytes, taggedBytes}
+use Rattle.messages.specs.Messages.{Message, closeOf}
+use Rattle.clean.specs.Clean.{allowedBytes, taggedBytes}
 use Rattle.value.specs.Digits.{countOf}
 use Rattle.value.specs.declared.counts.Count.the-variants.{Is}
 use Rattle.guide.specs.Nodes.{Guide, numberOf}
@@ -78,7 +78,7 @@ module _ (y : Syntax) (g : Guide) (pages : ℕ → Page) where
         Refused m 24 (suc (length (segmentsOf m))) (closeOf m) 0
 
 module _ (y : Syntax) (g : Guide) where
-  -- "the first LIN that agrees with an earlier one" is segment i, begins at the place a and is given node n
+  -- "the first LIN that agrees with an earlier one" is segment i, begins at the place a and is given the node of row n
   pub record Repeated (tree : Kids Segment) (i a n : ℕ) : Type 0 where
     -- no two of the positions before it agree, and one of them agrees with it
     pub before : List Position
@@ -98,7 +98,7 @@ module _ (y : Syntax) (g : Guide) where
     pub number : i ≡ suc (length front)
     pub place : a ≡ repeats .lin .start
 
-  -- "23 comes only when all else holds; it names the first LIN that agrees with an earlier one": segment i, at the place a, with node n
+  -- "23 comes only when all else holds; it names the first LIN that agrees with an earlier one": segment i, at the place a, with the node of row n
   pub record Repeats (pages : ℕ → Page) (m : Message) (i a n : ℕ) : Type 0 where
     pub proper : Proper y g pages m
     pub compared : Compared y (withTag g (bytesOf "BGM") (assigned (proper .sheet .tree)))
@@ -109,4 +109,5 @@ module _ (y : Syntax) (g : Guide) (pages : ℕ → Page) where
   -- agreeing positions
   pub data Refusal (m : Message) : ℕ → ℕ → ℕ → ℕ → Type 0 where
     for-fault : {k i a n : ℕ} → Refused y g pages m k i a n → Refusal m k i a n
-    for-agreement : {i a n : ℕ} → Repeats y g pages m i a n → Refusal m 23 i a n
+    -- the node is named by its number in the guide, as a fault's is
+    for-agreement : {i a n : ℕ} → Repeats y g pages m i a n → Refusal m 23 i a (numberOf g n)

@@ -1,11 +1,11 @@
 -- What a message's tree says: the positions with their prices. Document 01, 'Message rules' and 'What is handed out'. It cites the tree and
 -- the table only.
 use Prim.Native.Nat.{ℕ}
-use mathlib.Core.Bool.{Bool, true, false}
+use mathlib.Core.Bool.{Bool, true, false, cond}
 use mathlib.Core.List.{List, [], _∷_, _++_}
-use Rattle.cut.specs.Bytes.{bytesOf}
+use Rattle.bytewise.specs.Bytes.{bytesOf}
 use Rattle.cut.specs.Segments.{Segment}
-use Rattle.element.specs.Plain.{same}
+use Rattle.plain.specs.Plain.{same}
 use Rattle.guide.specs.Nodes.{Guide, node}
 use Rattle.guide.specs.Tree.{Kids, none, then, Given}
 
@@ -13,10 +13,6 @@ use Rattle.guide.specs.Tree.{Kids, none, then, Given}
 abbrev pub onlyIf : {A : Type 0} → Bool → A → List A
 onlyIf true a = a ∷ []
 onlyIf false a = []
-
-abbrev pub pickList : {A : Type 0} → Bool → List A → List A → List A
-pickList true xs ys = xs
-pickList false xs ys = ys
 
 -- a price: its PRI, and its RNG if there is one
 pub record Price : Type 0 where
@@ -58,4 +54,4 @@ module _ (g : Guide) where
   -- the positions of both kinds of SG17 together, in message order
   unfoldable pub positionsIn : Kids Segment → List Position
   positionsIn none = []
-  positionsIn (then l n s k) = positionsIn l ++ pickList (isTag (bytesOf "LIN") n) (position s k ∷ []) (positionsIn k)
+  positionsIn (then l n s k) = positionsIn l ++ cond (isTag (bytesOf "LIN") n) (position s k ∷ []) (positionsIn k)

@@ -2,34 +2,25 @@
 use Prim.Native.Nat.{ℕ}
 use Prim.Native.String.{String}
 use mathlib.Core.Path.{_≡_}
-use mathlib.Core.Bool.{Bool, true, false, _&&_}
+use mathlib.Core.Bool.{Bool, true, false, _&&_, cond}
 use mathlib.Core.List.{List, [], _∷_, _++_, map}
 use lib.Dec.{eqb}
-use Rattle.guide.specs.Nodes.{View, Guide, capacity, numberOf}
-use Rattle.cut.specs.Bytes.{bytesOf}
+use Rattle.guide.specs.Nodes.{View, Guide, numberOf}
+use Rattle.bytewise.specs.Bytes.{bytesOf}
 use Rattle.guide.specs.Tree.{Beginning}
-use Rattle.guide.specs.Placing.{Ran, fits, fault, run, start}
 use Rattle.guide.specs.Meaning.{Stops}
-
-abbrev pub pickBytes : Bool → List ℕ → List ℕ → List ℕ
-pickBytes true a b = a
-pickBytes false a b = b
 
 -- a segment with a tag alone, and one with a code in the first component after the tag
 abbrev pub bare : String → View
 bare t = record { tag = bytesOf t; key = λ e c. [] }
 
 abbrev pub with : String → String → View
-with t k = record { tag = bytesOf t; key = λ e c. pickBytes (eqb e 1 && eqb c 0) (bytesOf k) [] }
+with t k = record { tag = bytesOf t; key = λ e c. cond (eqb e 1 && eqb c 0) (bytesOf k) [] }
 
 -- what is said of a sheet: it fits, or the refusal's number, segment and node
 pub data Said : Type 0 where
   fitting : Said
   refusal : ℕ → ℕ → ℕ → Said
-
-abbrev pub said : Guide → Ran → Said
-said g (fits st) = fitting
-said g (fault k i n) = refusal k i (numberOf g n)
 
 pub record Sheet : Type 0 where
   pub segments : List View
@@ -99,10 +90,6 @@ intervals n next =
     -- what just stops may still go on
     ∷ sheet (interval ("164" ∷ []) []) fitting
     ∷ []
-
--- what placing says of each sheet
-abbrev pub saidOf : Guide → List Sheet → List Said
-saidOf g sheets = map (λ (x : Sheet). said g (run g 1 (x .segments) (start capacity))) sheets
 
 abbrev pub expectedOf : List Sheet → List Said
 expectedOf sheets = map (λ (x : Sheet). x .expected) sheets

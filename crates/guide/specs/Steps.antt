@@ -2,7 +2,7 @@
 use Prim.Native.Nat.{ℕ, _≤_, _<_}
 use mathlib.Core.Path.{_≡_}
 use lib.Dec.{T}
-use Rattle.guide.specs.Nodes.{Guide, node, required, over}
+use Rattle.guide.specs.Nodes.{Guide, node, numberOf, required, over}
 use Rattle.guide.specs.Tree.{Kids, none, then, count, top, Complete, Due}
 
 -- what may be said of node n in an instance of p with the children f so far
@@ -59,22 +59,22 @@ module _ {A : Type 0} (g : Guide) where
     pub lacks : Lacks p f m
     pub earlier : node g m .counter < c
 
--- m is the lowest number with P
-pub record Lowest (P : ℕ → Type 0) (m : ℕ) : Type 0 where
+-- of the rows with P, m is one whose node has the lowest number
+pub record Lowest (g : Guide) (P : ℕ → Type 0) (m : ℕ) : Type 0 where
   pub holds : P m
-  pub lowest : (x : ℕ) → x < m → P x → ⊥
+  pub lowest : (x : ℕ) → P x → numberOf g m ≤ numberOf g x
 
 module _ {A : Type 0} (g : Guide) where
-  -- of the instance p and those open inside it, the innermost that lacks a node lacks m, and none lower
+  -- of the instance p and those open inside it, the innermost that lacks a node lacks m, and none of a lower number
   pub data Gap : ℕ → Kids A → ℕ → Type 0 where
     inside : {p : ℕ} {l : Kids A} {x : ℕ} {t : A} {k : Kids A} {m : ℕ} → Gap x k m → Gap p (then l x t k) m
-    itself : {p : ℕ} {f : Kids A} {m : ℕ} → Done g f → Lowest (Lacks g p f) m → Gap p f m
+    itself : {p : ℕ} {f : Kids A} {m : ℕ} → Done g f → Lowest g (Lacks g p f) m → Gap p f m
 
   -- "the lowest missing node, looked for from the innermost open instance outward level by level", where n comes in the instance p: first the
   -- instances that it closes, then p's nodes of a counter below n's
   pub data Short : ℕ → Kids A → ℕ → ℕ → Type 0 where
     closing : {p : ℕ} {l : Kids A} {x : ℕ} {t : A} {k : Kids A} {n m : ℕ} → Gap x k m → Short p (then l x t k) n m
-    earlier : {p : ℕ} {f : Kids A} {n m : ℕ} → Done g f → Lowest (LacksBefore g (node g n .counter) p f) m → Short p f n m
+    earlier : {p : ℕ} {f : Kids A} {n m : ℕ} → Done g f → Lowest g (LacksBefore g (node g n .counter) p f) m → Short p f n m
 
   -- "it can, but a required node is missing": m
   pub record Lacking (m : ℕ) (p : ℕ) (f : Kids A) (n : ℕ) : Type 0 where

@@ -5,7 +5,7 @@ use mathlib.Core.List.{List}
 use lib.ListN.{take}
 use Rattle.cut.specs.declared.service.Syntax.{Syntax}
 use Rattle.element.specs.Elements.{component}
-use Rattle.element.specs.Plain.{plain}
+use Rattle.plain.specs.Plain.{plain}
 use Rattle.guide.specs.Nodes.{View}
 
 unfoldable pub viewOf : Syntax → List ℕ → View

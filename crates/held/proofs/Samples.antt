@@ -6,7 +6,7 @@ use mathlib.Core.List.{List, [], _∷_}
 use base.Fml.{GName}
 use denote.Ref.{RefT}
 use Rattle.cut.specs.declared.scan.Cut.the-variants.{Segment, Nothing}
-use Rattle.cut.specs.Bytes.{bytesOf, begins}
+use Rattle.bytewise.specs.Bytes.{bytesOf, begins}
 use Rattle.cut.specs.Segments.{ends, frees, join, segmentsFrom}
 use Rattle.cut.specs.Admission.{admissionOf, openingOf}
 use Rattle.cut.specs.Calls.{headCut, cutFrom, stepOf}

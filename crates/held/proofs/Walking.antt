@@ -1,7 +1,7 @@
 -- A walk by the reader's steps gives the delivery's segments, all of them and in order, and then none.
-use Prim.Native.Nat.{ℕ, zero, suc, _+_}
+use Prim.Native.Nat.{ℕ, zero, suc, _+_, _≤_, _<_}
 use mathlib.Core.Path.{_≡_, refl, ap, _∙_}
-use mathlib.Core.Bool.{Bool, true, false}
+use mathlib.Core.Bool.{Bool, true, false, cond}
 use mathlib.Core.List.{List, [], _∷_, _++_, map}
 use native.Mathlib.Nat.{zero-add, suc-add}
 use native.Mathlib.Omega.{arith}
@@ -17,10 +17,10 @@ use Rattle.cut.specs.declared.steps.Step.the-variants as step
 use Rattle.cut.specs.Segments.{Segment}
 use Rattle.cut.specs.Admission.{admissionOf, onlyIf, segments}
 use Rattle.cut.specs.Base.{edifact}
-use Rattle.cut.specs.Calls.{headCut, cutFrom, segmentAt, pickStep, stepped, stepOf}
+use Rattle.cut.specs.Calls.{headCut, cutFrom, segmentAt, stepped, stepOf}
 use Rattle.cut.proofs.Stepping.{ahead, ahead-opened, step-refused, step-some, step-none}
 use Rattle.held.specs.declared.reader.Reader.{Reader}
-use Rattle.held.specs.Reading.{asCut, nextFrom, placeAfter, readerOn, answerOf, movedOn, movedBy, answers, segmentCut, segmentNo, firstTwo}
+use Rattle.held.specs.Reading.{asCut, nextFrom, placeAfter, readerOn, answerOf, movedOn, movedBy, answers, answersFrom, segmentCut, segmentNo}
 
 -- the by-value cursor at a place
 abbrev cursor : ℕ → Cursor
@@ -43,7 +43,7 @@ drop-one [] (suc n) = refl
 drop-one (s ∷ ss) n = refl
 
 module _ (d : List ℕ) (at : ℕ) where
-  first-of : (a : Bool) (ss : List Segment) → asCut (pickStep a (stepped edifact (headCut ss)) step.Nothing) ≡ headCut (onlyIf a ss)
+  first-of : (a : Bool) (ss : List Segment) → asCut (cond a (stepped edifact (headCut ss)) step.Nothing) ≡ headCut (onlyIf a ss)
   unfolding headCut
   first-of true ss = cut-of-stepped edifact (headCut ss)
   first-of false ss = refl
@@ -58,7 +58,7 @@ module _ (d : List ℕ) (at : ℕ) where
   unfolding stepOf
   cursor-after s e p n h = go (eqb (admissionOf edifact d) 0) (segmentAt edifact d _) h
     where
-      go : (a : Bool) (k : Cut) → pickStep a (stepped edifact k) step.Nothing ≡ step.Segment s e p n → n ≡ cursor e
+      go : (a : Bool) (k : Cut) → cond a (stepped edifact k) step.Nothing ≡ step.Segment s e p n → n ≡ cursor e
       go true (cut.Segment s′ e′ p′) h = cc
       go true cut.Nothing h = absurd (let z : _≡_ {A = ℕ} 0 1 = cc in omega arith)
       go false k h = absurd (let z : _≡_ {A = ℕ} 0 1 = cc in omega arith)
@@ -71,6 +71,19 @@ module _ (d : List ℕ) (at : ℕ) where
       go : (s : Step) → stepOf (cursor at) d ≡ s → ahead (cursor (placeAfter (asCut s) at)) d ≡ drop 1 (ahead (cursor at) d)
       go (step.Segment s e p n) h = rw (step-some (cursor at) d s e p n h .rest, cursor-after s e p n h)
       go step.Nothing h = rw (step-none (cursor at) d h)
+
+  -- a step's segment is not empty, and lies in the delivery, at the place or later
+  pub next-in-delivery : (s e : ℕ) (p : Bool) → nextFrom d at ≡ cut.Segment s e p → (at ≤ s) × ((s < e) × (e ≤ length d))
+  unfolding nextFrom
+  next-in-delivery s e p h = go (stepOf (cursor at) d) refl h
+    where
+      go : (t : Step) → stepOf (cursor at) d ≡ t → asCut t ≡ cut.Segment s e p → (at ≤ s) × ((s < e) × (e ≤ length d))
+      go (step.Segment s′ e′ p′ n) f h =
+          let q = step-some (cursor at) d s′ e′ p′ n f in
+          let a : s′ ≡ s = cc in
+          let b : e′ ≡ e = cc in
+          (omega (arith, q .later), (omega (arith, q .some), omega (arith, q .fits)))
+      go step.Nothing f h = absurd (let z : _≡_ {A = ℕ} 0 1 = cc in omega arith)
 
 -- the segments that a reader still has before it
 abbrev before : Reader → List Segment
@@ -94,25 +107,38 @@ pub nth-step : (d : RefT (List ℕ)) (n : ℕ) → answerOf (movedBy n (readerOn
 nth-step d n =
     answer-before (movedBy n (readerOn d)) ∙ ap headCut (moved-by-before n (readerOn d) ∙ ap (drop n) (ahead-opened edifact (now d)))
 
-answers-none : (n : ℕ) (r : Reader) → before r ≡ [] → answers n r ≡ replicate n cut.Nothing
-unfolding answers headCut
-answers-none zero r h = refl
-answers-none (suc n) r h =
-    let e : answerOf r ≡ cut.Nothing = answer-before r ∙ ap headCut h in
-    rw (e, answers-none n (movedOn r) (moved-before r ∙ ap (drop 1) h))
+module _ (d : List ℕ) where
+  from-none : (n at : ℕ) → ahead (cursor at) d ≡ [] → answersFrom n d at ≡ replicate n cut.Nothing
+  unfolding answersFrom headCut
+  from-none zero at h = refl
+  from-none (suc n) at h =
+      let e : nextFrom d at ≡ cut.Nothing = next-ahead d at ∙ ap headCut h in
+      rw (from-none n (placeAfter (nextFrom d at) at) (others-ahead d at ∙ ap (drop 1) h), e)
 
-answers-all : (n : ℕ) (ss : List Segment) (r : Reader) → before r ≡ ss → answers (length ss + n) r ≡ map segmentCut ss ++ replicate n cut.Nothing
-unfolding answers headCut
-answers-all n [] r h = rw (zero-add n) (answers-none n r h)
-answers-all n (s ∷ ss) r h =
-    let e : answerOf r ≡ segmentCut s = answer-before r ∙ ap headCut h in
-    rw (suc-add (length ss) n, e, answers-all n ss (movedOn r) (moved-before r ∙ ap (drop 1) h))
+  from-all
+      : (n : ℕ) (ss : List Segment) (at : ℕ) → ahead (cursor at) d ≡ ss
+      → answersFrom (length ss + n) d at ≡ map segmentCut ss ++ replicate n cut.Nothing
+  unfolding answersFrom headCut
+  from-all n [] at h = rw (zero-add n) (from-none n at h)
+  from-all n (s ∷ ss) at h =
+      let e : nextFrom d at ≡ segmentCut s = next-ahead d at ∙ ap headCut h in
+      rw (suc-add (length ss) n, from-all n ss (placeAfter (nextFrom d at) at) (others-ahead d at ∙ ap (drop 1) h), e)
+
+  -- from 0 on, and then from each end, `step_from` gives all segments of the delivery, in order, and none from then on
+  pub all-from-0
+      : (n : ℕ) → answersFrom (length (segments edifact d) + n) d 0 ≡ map segmentCut (segments edifact d) ++ replicate n cut.Nothing
+  all-from-0 n = from-all n (segments edifact d) 0 (ahead-opened edifact d)
+
+same-answers : (n : ℕ) (r : Reader) → answers n r ≡ answersFrom n (now (r .delivery)) (r .at)
+unfolding answers answersFrom answerOf movedOn
+same-answers zero r = refl
+same-answers (suc n) r = ap (λ (cs : List Cut). answerOf r ∷ cs) (same-answers n (movedOn r))
 
 -- from `opened` on the steps give all segments of the delivery, in order, and none from then on
 pub all-in-order
     : (d : RefT (List ℕ)) (n : ℕ)
     → answers (length (segments edifact (now d)) + n) (readerOn d) ≡ map segmentCut (segments edifact (now d)) ++ replicate n cut.Nothing
-all-in-order d n = answers-all n (segments edifact (now d)) (readerOn d) (ahead-opened edifact (now d))
+all-in-order d n = same-answers _ (readerOn d) ∙ all-from-0 (now d) n
 
 -- "on a delivery not admitted, none at once", wherever the reader stands
 pub none-at-once : (r : Reader) → (admissionOf edifact (now (r .delivery)) ≡ 0 → ⊥) → answerOf r ≡ cut.Nothing
@@ -123,10 +149,3 @@ none-at-once r n = ap asCut (step-refused (cursor (r .at)) (now (r .delivery)) n
 pub none-stays : (r : Reader) → answerOf r ≡ cut.Nothing → movedOn r ≡ r
 unfolding movedOn placeAfter
 none-stays r h = ap (λ (c : Cut). record { delivery = r .delivery; at = placeAfter c (r .at) }) h
-
--- `first_two`: the answers of two steps from `opened` on are the delivery's first two segments
-pub first-two
-    : (d : RefT (List ℕ)) (a b : Cut) → a ≡ answerOf (readerOn d) → b ≡ answerOf (movedOn (readerOn d))
-    → record { first = a; second = b } ≡ firstTwo (now d)
-unfolding movedBy firstTwo
-first-two d a b e f = rw (e, f, nth-step d 0, nth-step d 1)

@@ -12,14 +12,14 @@ use Rattle.cut.specs.Admission.{segments}
 use Rattle.cut.specs.Base.{edifact}
 use Rattle.cut.specs.Calls.{headCut, stepOf}
 use Rattle.held.specs.declared.reader.Reader.{Reader}
-use Rattle.held.specs.declared.reader.FirstTwo.{FirstTwo}
 
 -- "the next segment's start, end and whether it is a piece, or none"
 abbrev pub asCut : Step → Cut
 asCut (step.Segment s e p n) = cut.Segment s e p
 asCut step.Nothing = cut.Nothing
 
--- the segment from a place on, as the cursor there steps to it; none, if the delivery is not admitted
+-- step_from: the segment from a place on, as the by-value cursor there steps to it: a place within UNA is before the first, and "on a delivery not
+-- admitted, none at once"
 unfoldable pub nextFrom : List ℕ → ℕ → Cut
 nextFrom d at = asCut (stepOf (record { syntax = edifact; at = at }) d)
 
@@ -50,6 +50,11 @@ unfoldable pub answers : ℕ → Reader → List Cut
 answers zero r = []
 answers (suc n) r = answerOf r ∷ answers n (movedOn r)
 
+-- what n calls of step_from answer, the first from the place `at`, each other from the place after the one before
+unfoldable pub answersFrom : ℕ → List ℕ → ℕ → List Cut
+answersFrom zero d at = []
+answersFrom (suc n) d at = nextFrom d at ∷ answersFrom n d (placeAfter (nextFrom d at) at)
+
 -- a segment as an answer: its start, its end and whether it is a piece
 abbrev pub segmentCut : Segment → Cut
 segmentCut s = cut.Segment (s .start) (endOf s) (s .piece)
@@ -57,7 +62,3 @@ segmentCut s = cut.Segment (s .start) (endOf s) (s .piece)
 -- the segment with the number n, from 0; none past the last
 abbrev pub segmentNo : List ℕ → ℕ → Cut
 segmentNo d n = headCut (drop n (segments edifact d))
-
--- first_two: the delivery's first and second segment
-unfoldable pub firstTwo : List ℕ → FirstTwo
-firstTwo d = record { first = segmentNo d 0; second = segmentNo d 1 }

@@ -2,8 +2,7 @@
 mod next;
 mod reader;
 
-pub use reader::FirstTwo;
 pub use reader::Reader;
-pub use reader::first_two;
 pub use reader::opened;
 pub use reader::step;
+pub use reader::step_from;

@@ -9,7 +9,7 @@ pub(crate) fn next_from(d: &[u8], at: usize) -> Cut
     ensures { λ r. ⌜ r ≡ nextFrom (now (d .entry)) at ⌝ }
 {
     let c = Cursor {
-        syntax: cut::base::syntax(),
+        syntax: cut::base(),
         at,
     };
     let s = c.step(d);

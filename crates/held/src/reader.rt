@@ -4,7 +4,7 @@ use crate::next::next_from;
 use crate::next::place_after;
 use cut::Cut;
 ghost use mathlib.Core.Path.{_≡_};
-ghost use Rattle.held.specs.Reading.{readerOn, answerOf, movedOn, firstTwo};
+ghost use Rattle.held.specs.Reading.{nextFrom, readerOn, answerOf, movedOn};
 
 pub struct Reader<'a> {
     pub delivery: &'a [u8],
@@ -30,17 +30,10 @@ pub fn step<'s, 'a>(r: &'s mut Reader<'a>) -> Cut
     c
 }
 
-pub struct FirstTwo {
-    pub first: Cut,
-    pub second: Cut,
-}
-
-// The delivery's first two segments, as a caller of the reader has them; callers of this one hold no reader.
-pub fn first_two(d: &[u8]) -> FirstTwo
-    ensures { λ r. ⌜ r ≡ firstTwo (now (d .entry)) ⌝ }
+// One step of a reader that stands at a place; callers of this one hold no reader.
+pub fn step_from(d: &[u8], at: usize) -> Cut
+    ensures { λ r. ⌜ r ≡ nextFrom (now (d .entry)) at ⌝ }
 {
-    let mut r = opened(d);
-    let first = step(&mut r);
-    let second = step(&mut r);
-    FirstTwo { first, second }
+    let mut r = Reader { delivery: d, at };
+    step(&mut r)
 }

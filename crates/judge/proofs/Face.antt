@@ -2,7 +2,7 @@
 -- of a run.
 use Prim.Native.Nat.{ℕ, suc, _<_}
 use mathlib.Core.Path.{_≡_, refl, sym}
-use mathlib.Core.Bool.{Bool, true, false}
+use mathlib.Core.Bool.{Bool, true, false, cond}
 use mathlib.Core.List.{List, _∷_}
 use native.Mathlib.Omega.{arith}
 use lib.ListN.{length, getD}
@@ -10,12 +10,12 @@ use lib.Dec.{eqb, ltb}
 use borrow.Author.Tests.{eqb-false}
 use Rattle.guide.specs.Nodes.{View, Guide, node, over}
 use Rattle.guide.specs.Answers.{Answer, placed, refused}
-use Rattle.guide.specs.Placing.{pickAnswer, levels, seek, missing, place, countsAfter, lastAfter, State, fault, run}
+use Rattle.guide.specs.workers.Placing.{levels, seek, missing, place, countsAfter, lastAfter, State, fault, run}
 use Rattle.guide.specs.declared.edition.Edition.{Edition}
 use Rattle.judge.specs.declared.placing.Placed.the-variants.{At, Refused}
 use Rattle.guide.specs.Editions.{guideOf}
 use Rattle.judge.specs.Answers.{answerOf}
-use Rattle.judge.proofs.Outcomes.{found-inside}
+use Rattle.judge.proofs.placing.Outcomes.{found-inside}
 
 pub answer-at : (a : Answer) (n : ℕ) → answerOf a ≡ At n → a ≡ placed n
 answer-at (placed m) n h = cc
@@ -31,7 +31,8 @@ answer-refused (refused j n) k m h = cc
 
 -- an answer that is a node is the one that was sought, and one was found
 placed-only
-    : (n k m : ℕ) (some room full : Bool) (r : ℕ) → pickAnswer some (refused 13 0) (pickAnswer room (pickAnswer full (placed n) (refused 14 m)) (refused k n)) ≡ placed r
+    : (n k m : ℕ) (some room full : Bool) (r : ℕ)
+    → cond some (refused 13 0) (cond room (cond full (placed n) (refused 14 m)) (refused k n)) ≡ placed r
     → (some ≡ false) × (n ≡ r)
 placed-only n k m true room full r h =
     let z : _≡_ {A = ℕ} 0 1 = cc in

@@ -1,17 +1,1 @@
-pub mod Tables
-pub mod Members
-pub mod Packing
-pub mod Sound
-pub mod Codes
-pub mod Matches
-pub mod Links
-pub mod Levels
-pub mod Sought
-pub mod Following
-pub mod Gaps
-pub mod Partners
-pub mod Counts
-pub mod Missed
-pub mod Outcomes
-pub mod Tagged
 pub mod Face

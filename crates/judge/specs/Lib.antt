@@ -1,5 +1,2 @@
-pub mod Words
-pub mod Rows
-pub mod Sets
+pub mod workers
 pub mod Answers
-pub mod Workers

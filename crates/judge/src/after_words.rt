@@ -4,7 +4,7 @@ use guide::Edition;
 ghost use mathlib.Core.Path.{_≡_};
 ghost use Rattle.guide.specs.Pricat.{pricat20d, pricat20c};
 ghost use Rattle.guide.specs.Editions.{guideOf};
-ghost use Rattle.judge.specs.Sets.{afterWord};
+ghost use Rattle.judge.specs.workers.Sets.{afterWord};
 
 fn after_20d(n: usize) -> u64
     ensures { λ r. ⌜ r ≡ afterWord pricat20d n ⌝ }

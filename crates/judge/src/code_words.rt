@@ -5,7 +5,7 @@ ghost use mathlib.Core.Path.{_≡_};
 ghost use lib.ListN.{length, getD};
 ghost use Rattle.guide.specs.Pricat.{pricat20d, pricat20c};
 ghost use Rattle.guide.specs.Editions.{guideOf};
-ghost use Rattle.judge.specs.Rows.{codesOf};
+ghost use Rattle.judge.specs.workers.Rows.{codesOf};
 
 fn code_20d(j: usize) -> u64
     requires { ⌜ j < 12 ⌝ }

@@ -6,9 +6,9 @@ use guide::Edition;
 ghost use Prim.Native.Nat.{_<_, _^_, suc};
 ghost use mathlib.Core.Path.{_≡_};
 ghost use lib.ListN.{length, getD};
-ghost use Rattle.guide.specs.Placing.{recounted};
+ghost use Rattle.guide.specs.workers.Placing.{recounted};
 ghost use Rattle.guide.specs.Editions.{guideOf};
-ghost use Rattle.judge.specs.Workers.{cleared};
+ghost use Rattle.judge.specs.workers.Searches.{cleared};
 
 // None of these nodes has come yet.
 fn clear(nodes: u32, counts: &mut [u32; 96])

@@ -6,7 +6,7 @@ ghost use mathlib.Core.Path.{_≡_};
 ghost use lib.ListN.{length};
 ghost use Rattle.guide.specs.Pricat.{pricat20d, pricat20c};
 ghost use Rattle.guide.specs.Editions.{guideOf};
-ghost use Rattle.judge.specs.Sets.{entryWord};
+ghost use Rattle.judge.specs.workers.Sets.{entryWord};
 
 fn entry_20d(n: usize) -> u64
     requires { ⌜ n < 28 ⌝ }

@@ -13,10 +13,10 @@ ghost use Prim.Native.Nat.{suc, _<_};
 ghost use mathlib.Core.Path.{_≡_};
 ghost use mathlib.Core.Bool.{true};
 ghost use lib.ListN.{length};
-ghost use Rattle.guide.specs.Placing.{firstNode, levels, lacking, missing};
+ghost use Rattle.guide.specs.workers.Placing.{firstNode, levels, lacking, missing};
 ghost use Rattle.guide.specs.Editions.{guideOf};
-ghost use Rattle.judge.specs.Sets.{someLevel, followsIn};
-ghost use Rattle.judge.specs.Workers.{missed, lacksDue};
+ghost use Rattle.judge.specs.workers.Sets.{someLevel, followsIn};
+ghost use Rattle.judge.specs.workers.Searches.{missed, lacksDue};
 
 // Whether node m, which is required or one of a pair, has not come though it must.
 fn is_missed(edition: Edition, counts: &[u32; 96], m: usize) -> bool

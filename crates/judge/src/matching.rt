@@ -9,7 +9,7 @@ ghost use mathlib.Core.List.{map};
 ghost use lib.ListN.{length};
 ghost use Rattle.guide.specs.Nodes.{node};
 ghost use Rattle.guide.specs.Editions.{guideOf};
-ghost use Rattle.judge.specs.Words.{packed, holds, picks};
+ghost use Rattle.judge.specs.workers.Words.{packed, holds, picks};
 
 // Whether the number is that of one of the node's codes.
 fn has_code(edition: Edition, n: usize, key: u64) -> bool

@@ -6,9 +6,9 @@ ghost use mathlib.Core.Path.{_≡_};
 ghost use lib.ListN.{length};
 ghost use Rattle.guide.specs.Nodes.{node, numberOf, over};
 ghost use Rattle.guide.specs.Pricat.{pricat20d, pricat20c};
-ghost use Rattle.guide.specs.Placing.{tally};
+ghost use Rattle.guide.specs.workers.Placing.{tally};
 ghost use Rattle.guide.specs.Editions.{guideOf};
-ghost use Rattle.judge.specs.Workers.{wanted};
+ghost use Rattle.judge.specs.workers.Searches.{wanted};
 
 fn partner_20d(n: usize) -> usize
     ensures { λ r. ⌜ r ≡ node pricat20d n .partner ⌝ }

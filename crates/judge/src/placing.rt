@@ -7,11 +7,7 @@ use crate::seeking::node_for;
 use cut::Syntax;
 use guide::Edition;
 ghost use mathlib.Core.Path.{_≡_};
-ghost use Rattle.cut.specs.Bytes.{part};
-ghost use Rattle.guide.specs.Placing.{place as placeIn, countsAfter};
-ghost use Rattle.guide.specs.Views.{viewOf};
-ghost use Rattle.guide.specs.Editions.{guideOf};
-ghost use Rattle.judge.specs.Answers.{answerOf};
+ghost use Rattle.judge.specs.Answers.{answerOf, placedIn, countsIn};
 
 // The row of the segment's node, or a refusal with its number and row.
 pub enum Placed {
@@ -30,8 +26,8 @@ pub fn place(
     last: usize,
     counts: &mut [u32; 96],
 ) -> Placed
-    ensures { λ r. ⌜ r ≡ answerOf (placeIn (guideOf edition) (viewOf y (part start end (now (d .entry)))) last (now (counts .entry))) ⌝ }
-    ensures { λ _. ⌜ now (counts .exit) ≡ countsAfter (guideOf edition) (placeIn (guideOf edition) (viewOf y (part start end (now (d .entry)))) last (now (counts .entry))) (now (counts .entry)) ⌝ }
+    ensures { λ r. ⌜ r ≡ answerOf (placedIn y edition (now (d .entry)) start end last (now (counts .entry))) ⌝ }
+    ensures { λ _. ⌜ now (counts .exit) ≡ countsIn y edition (now (d .entry)) start end last (now (counts .entry)) ⌝ }
 {
     let n = node_for(y, edition, d, start, end, last);
     if n == 0 {

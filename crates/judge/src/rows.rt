@@ -7,8 +7,8 @@ ghost use mathlib.Core.Path.{_≡_};
 ghost use lib.ListN.{length, take};
 ghost use Rattle.guide.specs.Nodes.{node};
 ghost use Rattle.guide.specs.Editions.{guideOf};
-ghost use Rattle.judge.specs.Rows.{codesOf, firstDue, nextDue};
-ghost use Rattle.judge.specs.Words.{packed};
+ghost use Rattle.judge.specs.workers.Rows.{codesOf, firstDue, nextDue};
+ghost use Rattle.judge.specs.workers.Words.{packed};
 
 // The tag, as a number.
 pub(crate) fn tag_of(edition: Edition, n: usize) -> u32

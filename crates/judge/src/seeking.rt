@@ -13,13 +13,13 @@ ghost use Prim.Native.Nat.{suc};
 ghost use mathlib.Core.Path.{_≡_};
 ghost use mathlib.Core.Bool.{_&&_};
 ghost use mathlib.Core.List.{map};
-ghost use Rattle.cut.specs.Bytes.{part};
+ghost use Rattle.bytewise.specs.Bytes.{part};
 ghost use Rattle.guide.specs.Nodes.{node};
-ghost use Rattle.guide.specs.Placing.{firstNode, levels, seek};
+ghost use Rattle.guide.specs.workers.Placing.{firstNode, levels, seek};
 ghost use Rattle.guide.specs.Views.{viewOf};
 ghost use Rattle.guide.specs.Editions.{guideOf};
-ghost use Rattle.judge.specs.Words.{packed, picks};
-ghost use Rattle.judge.specs.Sets.{member, Nodes};
+ghost use Rattle.judge.specs.workers.Words.{packed, picks};
+ghost use Rattle.judge.specs.workers.Sets.{member, Nodes};
 
 // The lowest of these nodes that is found by the key, or by its tag alone; 0 if none is.
 fn found_by(edition: Edition, nodes: u32, key: u64) -> usize

@@ -8,7 +8,7 @@ ghost use lib.ListN.{length};
 ghost use lib.Bits.{bitAnd};
 ghost use lib.Count.{trailingZeros};
 ghost use Rattle.guide.specs.Editions.{guideOf};
-ghost use Rattle.judge.specs.Sets.{followersOf, dueAfter, codedOf, precedingOf, childrenOf};
+ghost use Rattle.judge.specs.workers.Sets.{followersOf, dueAfter, codedOf, precedingOf, childrenOf};
 
 // The lowest node of a set that is not empty.
 pub(crate) fn first_in(set: u32) -> usize

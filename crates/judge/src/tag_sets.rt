@@ -3,7 +3,7 @@ use guide::Edition;
 ghost use mathlib.Core.Path.{_≡_};
 ghost use Rattle.guide.specs.Pricat.{pricat20d, pricat20c};
 ghost use Rattle.guide.specs.Editions.{guideOf};
-ghost use Rattle.judge.specs.Sets.{taggedOf};
+ghost use Rattle.judge.specs.workers.Sets.{taggedOf};
 
 fn tagged_20d(tag: u32) -> u32
     ensures { λ r. ⌜ r ≡ taggedOf pricat20d tag ⌝ }

@@ -1,12 +1,12 @@
-// The tag of a row, its counter and the number of a passed limit: one number for each row, so that one load reads them. Its hexadecimal digits are three of the
-// counter, two of the number and seven of the tag.
+// The tag of a row, its counter and the number of a passed limit: one number for each row, so that one load reads them. Its hexadecimal digits are three
+// of the counter, two of the number and seven of the tag.
 use guide::Edition;
 ghost use Prim.Native.Nat.{_<_};
 ghost use mathlib.Core.Path.{_≡_};
 ghost use lib.ListN.{length};
 ghost use Rattle.guide.specs.Pricat.{pricat20d, pricat20c};
 ghost use Rattle.guide.specs.Editions.{guideOf};
-ghost use Rattle.judge.specs.Rows.{tagWord};
+ghost use Rattle.judge.specs.workers.Rows.{tagWord};
 
 fn tag_word_20d(n: usize) -> u64
     requires { ⌜ n < 28 ⌝ }

@@ -5,9 +5,9 @@ ghost use mathlib.Core.Path.{_≡_};
 ghost use mathlib.Core.Bool.{true};
 ghost use mathlib.Core.List.{[], _∷_};
 ghost use lib.ListN.{length, take};
-ghost use Rattle.cut.specs.Bytes.{part};
+ghost use Rattle.bytewise.specs.Bytes.{part};
 ghost use Rattle.guide.specs.Views.{viewOf};
-ghost use Rattle.judge.specs.Words.{packed, letters, wordOf};
+ghost use Rattle.judge.specs.workers.Words.{packed, letters, wordOf};
 
 fn wide(x: u8) -> u32
     ensures { λ r. ⌜ (r ≡ x) × (r < 256) ⌝ }
@@ -46,7 +46,7 @@ pub(crate) fn pack(d: &[u8], a: usize, e: usize) -> u32
 pub(crate) fn tag_number(d: &[u8], start: usize, end: usize) -> u32
     ensures { λ r. ⌜ r ≡ packed (take 3 (part start end (now (d .entry)))) ⌝ }
 {
-    let limit = element::limit_of(d, end);
+    let limit = bytewise::limit_of(d, end);
     if limit <= start {
         return 1;
     }
@@ -56,13 +56,13 @@ pub(crate) fn tag_number(d: &[u8], start: usize, end: usize) -> u32
     pack(d, start, start + 3)
 }
 
-// The word of component 0 of element 1 where eight bytes tell it: the service characters are the usual ones, which no letter of the tag is, and the component has
-// at most six bytes, of which none is the release character. 0 where they do not tell it.
+// The word of component 0 of element 1 where eight bytes tell it: the service characters are the usual ones, which no letter of the tag is, and the
+// component has at most six bytes, of which none is the release character. 0 where they do not tell it.
 fn front_key(y: Syntax, d: &[u8], start: usize, end: usize) -> u64
     requires { ⌜ letters (packed (take 3 (part start end (now d)))) ≡ true ⌝ }
     ensures { λ r. ⌜ ((r ≡ 0 → ⊥) → r ≡ wordOf (viewOf y (part start end (now (d .entry))) .key 1 0)) ⌝ }
 {
-    let limit = element::limit_of(d, end);
+    let limit = bytewise::limit_of(d, end);
     if limit < 12 {
         return 0;
     }
@@ -75,8 +75,8 @@ fn front_key(y: Syntax, d: &[u8], start: usize, end: usize) -> u64
     if d[start + 3] != y.element {
         return 0;
     }
-    let w = cut::eight_at(d, start + 4);
-    let n = cut::first_of(element::services_in(y, w));
+    let w = bytewise::eight_at(d, start + 4);
+    let n = bytewise::first_of(element::services_in(y, w));
     if 6 < n {
         return 0;
     }
@@ -97,5 +97,5 @@ pub(crate) fn key_number(y: Syntax, d: &[u8], start: usize, end: usize) -> u64
         return key;
     }
     let span = element::component_at(y, d, start, end, 1, 0);
-    element::word_of(y, d, span.start, span.end)
+    plain::word_of(y, d, span.start, span.end)
 }

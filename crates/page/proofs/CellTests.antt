@@ -6,10 +6,10 @@ use lib.ListN.{getD}
 use lib.Dec.{T, eqb, ltb, leb, eqb→eq, ltb→lt, leb→le}
 use borrow.Author.Tests.{eq-eqb, ne-eqb}
 use mir.Facts.{and-yes}
-use Rattle.cut.specs.Every.{every}
-use Rattle.cut.proofs.Every.{every-at}
-use Rattle.page.specs.Cells.{Spot, spot, spotOf, states, cellOf, stepsOf, mayEnd, rowOfCell}
-use Rattle.page.proofs.PageCells.{elementTable, rowTable}
+use Rattle.bytewise.specs.Every.{every}
+use Rattle.bytewise.proofs.Every.{every-at}
+use Rattle.page.specs.workers.Cells.{Spot, spot, spotOf, states, cellOf, stepsOf, mayEnd, rowOfCell}
+use Rattle.page.proofs.words.Ties.{elementTable, rowTable}
 
 -- the word of an element of a page, and that of a component's row
 unfoldable pub wordAt : ℕ → ℕ → ℕ
@@ -76,7 +76,8 @@ unfoldable pub freed : ℕ → ℕ → Bool
 freed w r =
     ifSome (w / 1048576)
     (both (not (eqb (r / 65536 % 4) 0))
-    (both (eqb (w / 1048576) (r / 1048576)) (both (eqb (w / 262144 % 4) (r / 262144 % 4)) (both (eqb (w % 1024) (r % 1024)) (eqb (w / 1024 % 64) (r / 1024 % 64))))))
+    (both (eqb (w / 1048576) (r / 1048576))
+    (both (eqb (w / 262144 % 4) (r / 262144 % 4)) (both (eqb (w % 1024) (r % 1024)) (eqb (w / 1024 % 64) (r / 1024 % 64))))))
 
 -- the element and the row are there, and the row's word is right
 unfoldable fitsSpot : ℕ → Spot → Bool
@@ -117,7 +118,9 @@ unfoldable right : ℕ → Bool
 right s = both (ifSome s (fitsSpot (rowOfCell (cellOf s)) (spotOf s))) (both (stepsRight 0 s) (stepsRight 1 s))
 
 all-right : T (every right states)
-unfolding every both ifSome ifSo right stepsRight furtherRight behindRight endRight fitsSpot freed leads same behindOf furtherOf keptOf lastRow calm moodOn openingOf rowWord wordOf wordAt spotOf cellOf
+unfolding
+    every both ifSome ifSo right stepsRight furtherRight behindRight endRight fitsSpot freed leads same behindOf furtherOf keptOf lastRow calm moodOn
+    openingOf rowWord wordOf wordAt spotOf cellOf
 all-right = tt
 
 -- ---- what that says of one state

@@ -5,21 +5,21 @@ use mathlib.Core.Bool.{Bool, true, false, not, _||_}
 use mathlib.Core.List.{List, [], _∷_}
 use native.Mathlib.Omega.{arith}
 use lib.ListN.{drop}
-use Rattle.cut.specs.Bytes.{part}
-use Rattle.cut.specs.Calls.{segmentAt}
+use Rattle.bytewise.specs.Bytes.{part}
+use Rattle.cut.specs.Calls.{cutAt}
 use Rattle.cut.specs.Segments.{Segment as Piece}
 use Rattle.cut.specs.declared.scan.Cut.{Cut}
 use Rattle.cut.specs.declared.scan.Cut.the-variants.{Segment, Nothing}
 use Rattle.cut.specs.declared.service.Syntax.{Syntax}
-use Rattle.element.specs.Clean.{allowedBytes, taggedBytes}
+use Rattle.clean.specs.Clean.{allowedBytes, taggedBytes}
 use Rattle.element.specs.Components.{componentAt}
 use Rattle.element.specs.Elements.{elements}
-use Rattle.element.specs.Plain.{plain}
+use Rattle.plain.specs.Plain.{plain}
 use Rattle.guide.specs.Choices.{pickℕ, orElse}
-use Rattle.guide.specs.Editions.{guideOf, pagesOf}
-use Rattle.guide.specs.Judging.{bytesFault}
+use Rattle.guide.specs.Editions.{pagesOf}
+use Rattle.guide.specs.workers.Judging.{bytesFault}
 use Rattle.guide.specs.Page.{Row, unused, Composite, Page, beyond}
-use Rattle.guide.specs.PageFault.{firstOf, notUsed, missing, wrongFormat, wrongCode, textFault, componentFault, anyFilled, elementFault, pageFault}
+use Rattle.guide.specs.workers.PageFault.{firstOf, notUsed, missing, wrongFormat, wrongCode, textFault, componentFault, anyFilled, elementFault, pageFault}
 use Rattle.guide.specs.declared.edition.Edition.{Edition}
 use Rattle.page.specs.Examined.{examinedBy}
 use Rattle.page.specs.Reading.{segmentIn, readTo, readFault, readingBy, readingOf}
@@ -67,20 +67,20 @@ few-picked false true t = omega arith
 few-picked false false true = omega arith
 few-picked false false false = omega arith
 
-pub bytes-early : (ed : Edition) (y : Syntax) (s : Piece) → bytesFault y (guideOf ed) (pagesOf ed) s < 13
+pub bytes-early : (y : Syntax) (s : Piece) → bytesFault y s < 13
 unfolding bytesFault
-bytes-early ed y s = few-picked (s .piece) (not (allowedBytes (s .bytes))) (not (taggedBytes y (s .bytes)))
+bytes-early y s = few-picked (s .piece) (not (allowedBytes (s .bytes))) (not (taggedBytes y (s .bytes)))
 
 module _ (y : Syntax) (ed : Edition) (node : ℕ) (d : List ℕ) (start : ℕ) (x : Reading) where
   abbrev cuts : Cut
-  cuts = segmentAt y d start
+  cuts = cutAt y d start
 
   -- a segment without a fault
   pub record Sound : Type 0 where
     pub place : ℕ
     pub piece : Bool
     pub cut : cuts ≡ Segment place (x .end) piece
-    pub bytes : bytesFault y (guideOf ed) (pagesOf ed) (segmentIn start (x .end) piece d) ≡ 0
+    pub bytes : bytesFault y (segmentIn start (x .end) piece d) ≡ 0
     pub page : pageFault y (pagesOf ed node) (part start (x .end) d) ≡ 0
     pub first : x .first ≡ componentAt y d start (x .end) 1 0
     pub third : x .third ≡ componentAt y d start (x .end) 3 0
@@ -90,7 +90,7 @@ module _ (y : Syntax) (ed : Edition) (node : ℕ) (d : List ℕ) (start : ℕ) (
   sound reads none = go cuts refl reads
     where
       by-faults
-          : (s e : ℕ) (p : Bool) (b f : ℕ) → cuts ≡ Segment s e p → bytesFault y (guideOf ed) (pagesOf ed) (segmentIn start e p d) ≡ b
+          : (s e : ℕ) (p : Bool) (b f : ℕ) → cuts ≡ Segment s e p → bytesFault y (segmentIn start e p d) ≡ b
           → pageFault y (pagesOf ed node) (part start e d) ≡ f
           → x ≡ readTo e (examinedBy (orElse b f) (componentAt y d start e 1 0) (componentAt y d start e 3 0) start) → Sound
       by-faults s e p zero zero c g h r =

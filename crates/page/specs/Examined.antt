@@ -1,12 +1,12 @@
 -- What the page check says of a segment: its first fault, or where the components stand that the rules of a message ask for.
 use Prim.Native.Nat.{ℕ, zero, suc}
 use mathlib.Core.List.{List}
-use Rattle.cut.specs.Bytes.{part}
+use Rattle.bytewise.specs.Bytes.{part}
 use Rattle.cut.specs.declared.service.Syntax.{Syntax}
 use Rattle.element.specs.Components.{componentAt}
 use Rattle.element.specs.declared.components.Span.{Span}
 use Rattle.guide.specs.Page.{Page}
-use Rattle.guide.specs.PageFault.{pageFault}
+use Rattle.guide.specs.workers.PageFault.{pageFault}
 use Rattle.page.specs.declared.places.Examined.{Examined}
 
 -- no fault and the places f and t; or a fault, and for both places the empty part at the place a

@@ -1,10 +1,3 @@
-pub mod PageColumns
-pub mod PageWords
-pub mod PageKeys
-pub mod PageWalk
+pub mod workers
 pub mod Examined
-pub mod PagePlaces
-pub mod Marks
-pub mod Quick
-pub mod Cells
 pub mod Reading

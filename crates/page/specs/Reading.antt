@@ -2,8 +2,8 @@
 use Prim.Native.Nat.{ℕ}
 use mathlib.Core.Bool.{Bool}
 use mathlib.Core.List.{List}
-use Rattle.cut.specs.Bytes.{part}
-use Rattle.cut.specs.Calls.{segmentAt}
+use Rattle.bytewise.specs.Bytes.{part}
+use Rattle.cut.specs.Calls.{cutAt}
 use Rattle.cut.specs.Segments.{Segment as Piece}
 use Rattle.cut.specs.declared.scan.Cut.{Cut}
 use Rattle.cut.specs.declared.scan.Cut.the-variants.{Segment, Nothing}
@@ -11,9 +11,9 @@ use Rattle.cut.specs.declared.service.Syntax.{Syntax}
 use Rattle.element.specs.Components.{componentAt}
 use Rattle.element.specs.declared.components.Span.{Span}
 use Rattle.guide.specs.Choices.{orElse}
-use Rattle.guide.specs.Editions.{guideOf, pagesOf}
-use Rattle.guide.specs.Judging.{bytesFault}
-use Rattle.guide.specs.PageFault.{pageFault}
+use Rattle.guide.specs.Editions.{pagesOf}
+use Rattle.guide.specs.workers.Judging.{bytesFault}
+use Rattle.guide.specs.workers.PageFault.{pageFault}
 use Rattle.guide.specs.declared.edition.Edition.{Edition}
 use Rattle.page.specs.Examined.{examinedBy}
 use Rattle.page.specs.declared.places.Examined.{Examined}
@@ -34,7 +34,7 @@ emptyAt a = record { start = a; end = a }
 module _ (y : Syntax) (ed : Edition) (node : ℕ) (d : List ℕ) (start : ℕ) where
   -- "12, 10, 11, .. then components left to right", against the node's page; 0 if none
   unfoldable pub readFault : ℕ → Bool → ℕ
-  readFault e p = orElse (bytesFault y (guideOf ed) (pagesOf ed) (segmentIn start e p d)) (pageFault y (pagesOf ed node) (part start e d))
+  readFault e p = orElse (bytesFault y (segmentIn start e p d)) (pageFault y (pagesOf ed node) (part start e d))
 
   -- what is read where the bytes are cut so; without a byte it is 12, and ends where it begins
   unfoldable pub readingBy : Cut → Reading
@@ -43,4 +43,4 @@ module _ (y : Syntax) (ed : Edition) (node : ℕ) (d : List ℕ) (start : ℕ) w
 
   -- read: the segment that the bytes from the place on begin with
   unfoldable pub readingOf : Reading
-  readingOf = readingBy (segmentAt y d start)
+  readingOf = readingBy (cutAt y d start)

@@ -6,7 +6,7 @@ ghost use Rattle.guide.specs.Pricat.{pricat20d, pricat20c};
 ghost use Rattle.guide.specs.Pages20d.{pageOf};
 ghost use Rattle.guide.specs.Pages20c.{pageOf20c};
 ghost use Rattle.guide.specs.Editions.{guideOf, pagesOf};
-ghost use Rattle.page.specs.Cells.{cellOf, FirstWord};
+ghost use Rattle.page.specs.workers.Cells.{cellOf, FirstWord};
 
 // The next state behind a component separator and behind an element separator, 8 bits each, where the component is filled, then both where it is empty; a bit
 // each that the segment may end behind it, filled or empty; and the word of its row, with what is kept of its place instead of the status.
@@ -191,8 +191,9 @@ fn first_20c(n: usize) -> u64
     }
 }
 
-// The state before the first component behind the tag of a node's page, in the lower 32 bits, and above it the first four bytes of a segment of the node as one
-// number, the first the lowest: its tag and the usual element separator. A node without a page has the state 0, behind which nothing is told, and the tag ZZZ.
+// The state before the first component behind the tag of a node's page, in the lower 32 bits, and above it the first four bytes of a segment of the node
+// as one number, the first the lowest: its tag and the usual element separator. A node without a page has the state 0, behind which nothing is told, and
+// the tag ZZZ.
 pub(crate) fn first_cell(edition: Edition, n: usize) -> u64
     ensures { λ r. ⌜ FirstWord (node (guideOf edition) n .tag) (pagesOf edition n) r ⌝ }
 {

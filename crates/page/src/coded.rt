@@ -1,18 +1,18 @@
 // Whether a component is one of its row's codes.
 use crate::words::code_word;
 use cut::Syntax;
-use element::word_of;
+use plain::word_of;
 ghost use Prim.Native.Nat.{_+_, _-_, _^_, _≤_};
 ghost use mathlib.Core.Path.{_≡_};
 ghost use mathlib.Core.List.{[]};
 ghost use lib.ListN.{length};
-ghost use Rattle.cut.specs.Bytes.{part};
-ghost use Rattle.element.specs.Plain.{decoded};
-ghost use Rattle.element.specs.Words.{wordOf};
+ghost use Rattle.bytewise.specs.Bytes.{part};
+ghost use Rattle.plain.specs.Plain.{decoded};
+ghost use Rattle.plain.specs.Words.{wordOf};
 ghost use Rattle.guide.specs.Nodes.{chosen};
-ghost use Rattle.page.specs.PageColumns.{allCodes};
-ghost use Rattle.page.specs.PageKeys.{keyAmong};
-ghost use Rattle.page.specs.PageWords.{span, codesIn};
+ghost use Rattle.page.specs.workers.Columns.{allCodes};
+ghost use Rattle.page.specs.workers.Keys.{keyAmong};
+ghost use Rattle.page.specs.workers.Words.{span, codesIn};
 
 // Whether the number is that of a code from one place up to another. All are compared: which of them it is cannot be foreseen, so that a loop that ends at
 // the one found is slower.
@@ -50,7 +50,7 @@ pub(crate) fn front_word(d: &[u8], a: usize, n: usize) -> u64
     ensures { λ r. ⌜ r ≡ wordOf (part a (a + n) (now (d .entry))) ⌝ }
 {
     let top = above(n);
-    (cut::eight_at(d, a) & (top - 1)) + top
+    (bytewise::eight_at(d, a) & (top - 1)) + top
 }
 
 // The number of a component of n bytes. One without release marks is the beginning of the eight bytes that begin with it, where eight stand there.

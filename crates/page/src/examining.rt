@@ -5,14 +5,14 @@ use crate::places::Examined;
 use crate::places::nowhere;
 use crate::places::told;
 use crate::words::node_word;
+use bytewise::limit_of;
 use cut::Syntax;
-use element::limit_of;
 use guide::Edition;
 ghost use mathlib.Core.Path.{_≡_};
 ghost use Rattle.guide.specs.Editions.{pagesOf};
 ghost use Rattle.page.specs.Examined.{examinedOf};
 
-pub fn examined(
+pub(crate) fn examined(
     y: Syntax,
     edition: Edition,
     node: usize,

@@ -8,11 +8,11 @@ ghost use mathlib.Core.Path.{_≡_};
 ghost use mathlib.Core.Bool.{false, _&&_};
 ghost use lib.ListN.{length};
 ghost use Rattle.value.specs.Format.{fitsFormat};
-ghost use Rattle.element.specs.Plain.{decoded};
-ghost use Rattle.guide.specs.PageFault.{textFault};
+ghost use Rattle.plain.specs.Plain.{decoded};
+ghost use Rattle.guide.specs.workers.PageFault.{textFault};
 ghost use Rattle.guide.specs.Choices.{pickℕ};
-ghost use Rattle.guide.proofs.PageFace.{isMust};
-ghost use Rattle.page.specs.PageWords.{formatIn, rowIn};
+ghost use Rattle.guide.specs.workers.Moods.{isMust};
+ghost use Rattle.page.specs.workers.Words.{formatIn, rowIn};
 
 pub(crate) fn is_must(row: usize) -> bool
     ensures { λ r. ⌜ r ≡ isMust (rowIn row) ⌝ }

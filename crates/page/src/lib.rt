@@ -13,8 +13,6 @@ mod rows;
 mod scan;
 mod words;
 
-pub use examining::examined;
-pub use places::Examined;
 pub use reads::Reading;
 pub use reads::bytes_fault;
 pub use reads::read;

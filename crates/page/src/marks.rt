@@ -10,9 +10,9 @@ ghost use Prim.Native.Nat.{_≤_};
 ghost use mathlib.Core.Bool.{true};
 ghost use mathlib.Core.Path.{_≡_};
 ghost use lib.ListN.{length};
-ghost use Rattle.element.specs.Clean.{between};
+ghost use Rattle.clean.specs.Clean.{between};
 ghost use Rattle.element.specs.Services.{usualServices};
-ghost use Rattle.page.specs.Marks.{MarkScanned, MarkSought, CleanAhead};
+ghost use Rattle.page.specs.workers.Marks.{MarkScanned, MarkSought, CleanAhead};
 
 // The scan behind the mark that comes next; at the delivery's start, where words of eight bytes find none.
 fn mark_on(d: &[u8], scan: Scan) -> Scan
@@ -29,11 +29,11 @@ fn mark_on(d: &[u8], scan: Scan) -> Scan
         if last < n {
             return untested(0);
         }
-        m = marks_in(cut::eight_at(d, n));
+        m = marks_in(bytewise::eight_at(d, n));
         n += 8;
     }
     Scan {
-        at: n + cut::first_of(m) - 7,
+        at: n + bytewise::first_of(m) - 7,
         next: n,
         left: m & (m - 1),
     }

@@ -1,6 +1,6 @@
 // The first fault of a segment against its page, in one pass over its components from left to right. The pass keeps plain numbers: the place of the
-// component that comes next, its element's number, its own, the word of its element, and the mood: 0 idle, 1 asking, 2 owing, 3 in the tag, of which nothing is
-// asked; and the places of two components.
+// component that comes next, its element's number, its own, the word of its element, and the mood: 0 idle, 1 asking, 2 owing, 3 in the tag, of which
+// nothing is asked; and the places of two components.
 use crate::formed::is_must;
 use crate::formed::text_fault;
 use crate::places::Examined;
@@ -14,11 +14,11 @@ use element::component_from;
 ghost use Prim.Native.Nat.{_+_, _^_, _≤_, _<_};
 ghost use mathlib.Core.Path.{_≡_};
 ghost use lib.ListN.{length, drop};
-ghost use Rattle.element.specs.Plain.{decoded};
-ghost use Rattle.guide.proofs.PageFace.{opened, absentFault};
+ghost use Rattle.plain.specs.Plain.{decoded};
+ghost use Rattle.guide.specs.workers.Moods.{opened, absentFault};
 ghost use Rattle.page.specs.Examined.{examinedOf};
-ghost use Rattle.page.specs.PageWalk.{inside, standOf, standFault, MoodAfter, EndFault, stopOf};
-ghost use Rattle.page.specs.PageWords.{rowIn, elementIn, pageIn, NodeWord};
+ghost use Rattle.page.specs.workers.Walk.{inside, standOf, standFault, MoodAfter, EndFault, stopOf};
+ghost use Rattle.page.specs.workers.Words.{rowIn, elementIn, pageIn, NodeWord};
 
 // The fault of the elements behind element e of the page that has a word, where none of them stands.
 pub(crate) fn absent(page: usize, e: usize) -> u32

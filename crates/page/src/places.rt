@@ -2,7 +2,7 @@
 use element::Span;
 ghost use mathlib.Core.Path.{_≡_};
 ghost use Rattle.page.specs.Examined.{examinedBy};
-ghost use Rattle.page.specs.PagePlaces.{placesOn};
+ghost use Rattle.page.specs.workers.Places.{placesOn};
 
 // The first component behind the tag, and the first of element 3.
 pub(crate) struct Places {
@@ -12,10 +12,10 @@ pub(crate) struct Places {
 
 // The fault, and where two components stand that the rules of a message ask for: the first behind the tag, and the first of element 3. Behind a fault both
 // are the empty part at the segment's start.
-pub struct Examined {
-    pub fault: u32,
-    pub first: Span,
-    pub third: Span,
+pub(crate) struct Examined {
+    pub(crate) fault: u32,
+    pub(crate) first: Span,
+    pub(crate) third: Span,
 }
 
 // None of the two stands in the segment that begins at `start`.

@@ -11,8 +11,8 @@ ghost use Prim.Native.Nat.{_/_, _%_};
 ghost use mathlib.Core.Bool.{true};
 ghost use mathlib.Core.Path.{_≡_};
 ghost use Rattle.guide.specs.Page.{Page};
-ghost use Rattle.page.specs.Cells.{isTagWord, FirstCell, stepsOf, mayEnd, nextOf, keepOf};
-ghost use Rattle.page.specs.Quick.{Begun, FaultlessAt};
+ghost use Rattle.page.specs.workers.Cells.{isTagWord, FirstCell, stepsOf, mayEnd, nextOf, keepOf};
+ghost use Rattle.page.specs.workers.Quick.{Begun, FaultlessAt};
 
 pub(crate) struct Faultless {
     pub(crate) end: usize,
@@ -97,7 +97,7 @@ fn is_begun(y: Syntax, d: &[u8], start: usize, tag: u64) -> bool
     if d.len() - 8 < start {
         return false;
     }
-    cut::eight_at(d, start) % 0x1_0000_0000 == tag
+    bytewise::eight_at(d, start) % 0x1_0000_0000 == tag
 }
 
 // The segment that begins at `start`, against the tag and the page of a first word; the end 0, where it is not told that there is no fault.

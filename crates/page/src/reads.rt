@@ -2,16 +2,15 @@
 use crate::cells::first_cell;
 use crate::examining::examined;
 use crate::quick::faultless_from;
+use clean::allowed;
+use clean::tagged;
 use cut::Cut;
 use cut::Syntax;
 use cut::segment_at;
 use element::Span;
-use element::allowed;
-use element::tagged;
 use guide::Edition;
 ghost use mathlib.Core.Path.{_≡_};
-ghost use Rattle.guide.specs.Editions.{guideOf, pagesOf};
-ghost use Rattle.guide.specs.Judging.{bytesFault};
+ghost use Rattle.guide.specs.workers.Judging.{bytesFault};
 ghost use Rattle.page.specs.Reading.{segmentIn, emptyAt, readingOf};
 
 // The first fault or 0, where two components stand that the rules of a message ask for, as in `Examined`, and the byte after the segment.
@@ -23,15 +22,8 @@ pub struct Reading {
 }
 
 // 12, 10, 11, in this order; 0 if none.
-pub fn bytes_fault(
-    y: Syntax,
-    edition: Edition,
-    d: &[u8],
-    start: usize,
-    end: usize,
-    piece: bool,
-) -> u32
-    ensures { λ r. ⌜ r ≡ bytesFault y (guideOf edition) (pagesOf edition) (segmentIn start end piece (now (d .entry))) ⌝ }
+pub fn bytes_fault(y: Syntax, d: &[u8], start: usize, end: usize, piece: bool) -> u32
+    ensures { λ r. ⌜ r ≡ bytesFault y (segmentIn start end piece (now (d .entry))) ⌝ }
 {
     if piece {
         return 12;
@@ -70,7 +62,7 @@ fn read_through(y: Syntax, edition: Edition, node: usize, d: &[u8], start: usize
     else {
         return stopped(12, start, start);
     };
-    let fault = bytes_fault(y, edition, d, start, end, piece);
+    let fault = bytes_fault(y, d, start, end, piece);
     if fault != 0 {
         return stopped(fault, start, end);
     }

@@ -9,12 +9,12 @@ ghost use mathlib.Core.Path.{_≡_};
 ghost use mathlib.Core.List.{List};
 ghost use lib.ListN.{length};
 ghost use lib.Dec.{leb, eqb};
-ghost use Rattle.cut.specs.Bytes.{part};
-ghost use Rattle.element.specs.Plain.{decoded};
+ghost use Rattle.bytewise.specs.Bytes.{part};
+ghost use Rattle.plain.specs.Plain.{decoded};
 ghost use Rattle.value.specs.Format.{fitsFormat};
 ghost use Rattle.guide.specs.Nodes.{chosen};
-ghost use Rattle.guide.specs.PageFault.{textFault};
-ghost use Rattle.page.specs.PageWords.{codesIn, formatIn, freeRow};
+ghost use Rattle.guide.specs.workers.PageFault.{textFault};
+ghost use Rattle.page.specs.workers.Words.{codesIn, formatIn, freeRow};
 
 // Whether the n bytes from a on surely are on the row that has a word.
 fn is_listed(d: &[u8], a: usize, n: usize, row: usize) -> bool

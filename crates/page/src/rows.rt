@@ -5,7 +5,7 @@ ghost use Prim.Native.Nat.{_+_};
 ghost use mathlib.Core.Path.{_≡_};
 ghost use lib.ListN.{getD};
 ghost use Rattle.guide.specs.Page.{unused, elementOf};
-ghost use Rattle.page.specs.PageWords.{rowIn, elementIn, pageIn, ElementWord};
+ghost use Rattle.page.specs.workers.Words.{rowIn, elementIn, pageIn, ElementWord};
 
 // The word of the element behind element e of the page that has a word; 0 where the page has none.
 pub(crate) fn element_behind(page: usize, e: usize) -> usize

@@ -1,17 +1,17 @@
-// The words of the pages: one number for each node, element, row and code, packed as specs/PageWords.antt reads it. A match over numbers is a
+// The words of the pages: one number for each node, element, row and code, packed as specs/workers/Words.antt reads it. A match over numbers is a
 // table in read-only memory, where a constant array would be built anew at each access. The editions have their own nodes; what stands on equal pages
 // they share.
 use guide::Edition;
 ghost use mathlib.Core.Path.{_≡_};
 ghost use mathlib.Core.List.{[]};
 ghost use lib.ListN.{getD};
-ghost use Rattle.element.specs.Words.{packed};
+ghost use Rattle.plain.specs.Words.{packed};
 ghost use Rattle.guide.specs.Page.{unused, beyond};
 ghost use Rattle.guide.specs.Pages20d.{pageOf};
 ghost use Rattle.guide.specs.Pages20c.{pageOf20c};
 ghost use Rattle.guide.specs.Editions.{pagesOf};
-ghost use Rattle.page.specs.PageColumns.{allElements, allRows, allCodes};
-ghost use Rattle.page.specs.PageWords.{rowIn, ElementWord, NodeWord};
+ghost use Rattle.page.specs.workers.Columns.{allElements, allRows, allCodes};
+ghost use Rattle.page.specs.workers.Words.{rowIn, ElementWord, NodeWord};
 
 fn node_20d(n: usize) -> usize
     ensures { λ r. ⌜ NodeWord r (pageOf n) ⌝ }

@@ -1,8 +1,8 @@
-pub mod PriceNumbers
-pub mod PriceSheet
-pub mod PriceList
-pub mod PriceRows
-pub mod PriceCalls
-pub mod PriceParts
-pub mod PriceTable
-pub mod PricePages
+pub mod Numbers
+pub mod Sheet
+pub mod Listing
+pub mod Rows
+pub mod Calls
+pub mod Table
+pub mod Pages
+pub mod workers

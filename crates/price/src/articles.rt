@@ -1,4 +1,4 @@
-// The article of a price, as the part of the delivery itself.
+// Where the article of a price stands.
 use crate::kinds::Kind;
 use crate::spots::Held;
 use crate::spots::Spot;
@@ -9,23 +9,13 @@ use cut::Syntax;
 use element::Span;
 use element::component_at;
 ghost use mathlib.Core.Path.{_≡_};
-ghost use Rattle.price.specs.PriceCalls.{articleAt, IsPart, pricesIn};
-ghost use Rattle.price.specs.PriceList.{pricesOf};
+ghost use Rattle.price.specs.Calls.{articleAt, pricesIn};
+ghost use Rattle.price.specs.Listing.{pricesOf};
 ghost use Rattle.cut.specs.Segments.{segmentsAt};
-ghost use Rattle.price.specs.PriceParts.{HeldAt, reachedBy};
+ghost use Rattle.price.specs.workers.Parts.{HeldAt, reachedBy};
 
-// The article of the k-th price of the message from `start` to `end`; an absent one, and that of a price that is not there, is the empty
-// part at `start`.
-pub fn article(y: Syntax, d: &[u8], start: usize, end: usize, k: usize) -> &[u8]
-    ensures { λ r. ⌜ IsPart (d .entry) r (articleAt y (now (d .entry)) start end k .start) (articleAt y (now (d .entry)) start end k .end) ⌝ }
-{
-    let s = article_at(y, d, start, end, k);
-    let a = s.start;
-    let e = s.end;
-    &d[a..e]
-}
-
-// Where it stands.
+// Where the article of the k-th price of the message from `start` to `end` stands; an absent one, and that of a price that is not there,
+// is the empty part at `start`.
 pub fn article_at(y: Syntax, d: &[u8], start: usize, end: usize, k: usize) -> Span
     ensures { λ r. ⌜ r ≡ articleAt y (now (d .entry)) start end k ⌝ }
 {

@@ -9,14 +9,14 @@ use crate::spots::added;
 use crate::spots::moved;
 use crate::spots::spot_at;
 use cut::Syntax;
-ghost use Prim.Native.Nat.{_≤_};
+ghost use Prim.Native.Nat.{_-_, _/_, _≤_, min};
 ghost use mathlib.Core.Path.{_≡_};
 ghost use lib.ListN.{length};
-ghost use Rattle.price.specs.PriceNumbers.{numbersOf};
-ghost use Rattle.price.specs.PriceList.{pricesOf};
-ghost use Rattle.price.specs.PriceCalls.{pricesIn, filledOf, rowAfter};
+ghost use Rattle.price.specs.Numbers.{numbersOf};
+ghost use Rattle.price.specs.Listing.{pricesOf};
+ghost use Rattle.price.specs.Calls.{pricesIn, filledOf, rowAfter};
 ghost use Rattle.cut.specs.Segments.{segmentsAt};
-ghost use Rattle.price.specs.PriceParts.{listedIn, putFound, countedOf, Within, NextWithin};
+ghost use Rattle.price.specs.workers.Parts.{listedIn, putFound, countedOf, Within, NextWithin};
 
 // How many prices were written, and how many the message has.
 pub struct Filled {
@@ -64,24 +64,27 @@ fn fill_from(y: Syntax, d: &[u8], start: usize, k: usize, row: &mut [i64]) -> Fi
     }
 }
 
-// The answer where `seen` prices are there and those from the k-th on go into a row of n numbers.
+// How many of `seen` prices are written where those from the k-th on go into a row of n numbers.
+fn written_of(seen: usize, k: usize, n: usize) -> usize
+    ensures { λ r. ⌜ r ≡ min (n / 8) (seen - k) ⌝ }
+{
+    if seen <= k {
+        return 0;
+    }
+    let left = seen - k;
+    if n / 8 < left {
+        return n / 8;
+    }
+    left
+}
+
+// The answer there.
 fn counted(seen: usize, k: usize, n: usize) -> Filled
     ensures { λ r. ⌜ r ≡ countedOf seen k n ⌝ }
 {
-    if seen <= k {
-        return Filled {
-            written: 0,
-            total: seen,
-        };
-    }
-    if n / 8 < seen - k {
-        return Filled {
-            written: n / 8,
-            total: seen,
-        };
-    }
+    let written = written_of(seen, k, n);
     Filled {
-        written: seen - k,
+        written,
         total: seen,
     }
 }

@@ -5,8 +5,8 @@ ghost use mathlib.Core.List.{[], _∷_};
 ghost use mathlib.Core.Path.{_≡_};
 ghost use lib.Dec.{eqb};
 ghost use lib.ListN.{length};
-ghost use Rattle.cut.specs.Bytes.{part};
-ghost use Rattle.price.specs.PriceList.{kindOf, isPri};
+ghost use Rattle.bytewise.specs.Bytes.{part};
+ghost use Rattle.price.specs.Listing.{kindOf, isPri};
 
 pub enum Kind {
     Lin,

@@ -1,4 +1,4 @@
-// The prices of one message: into a lent row, and the article of a price.
+// The prices of one message: into a lent row, and where the article of a price stands.
 mod articles;
 mod filling;
 mod kinds;
@@ -6,7 +6,6 @@ mod numbers;
 mod rows;
 mod spots;
 
-pub use articles::article;
 pub use articles::article_at;
 pub use filling::Filled;
 pub use filling::fill;

@@ -5,17 +5,17 @@ use crate::spots::Spot;
 use cut::Syntax;
 use element::Span;
 use element::component_at;
-use element::is_code;
+use plain::is_code;
 use value::Number;
 use value::number_of;
 ghost use Prim.Native.Nat.{_-_, _^_, _≤_, _<_};
 ghost use mathlib.Core.Path.{_≡_};
 ghost use lib.IntN.{pos};
 ghost use lib.ListN.{length};
-ghost use Rattle.cut.specs.Bytes.{part};
+ghost use Rattle.bytewise.specs.Bytes.{part};
 ghost use Rattle.element.specs.Components.{componentAt};
-ghost use Rattle.price.specs.PriceNumbers.{articlePlace, amountOf, decimalsOf, unitRank, placeOfFirst, numbersOf};
-ghost use Rattle.price.specs.PriceParts.{rngIn, listedIn, Within, NextWithin};
+ghost use Rattle.price.specs.Numbers.{articlePlace, amountOf, decimalsOf, unitRank, placeOfFirst, numbersOf};
+ghost use Rattle.price.specs.workers.Parts.{rngIn, listedIn, Within, NextWithin};
 
 // In document 01's order.
 pub struct Numbers {

@@ -3,7 +3,7 @@ use crate::numbers::Numbers;
 ghost use Prim.Native.Nat.{_<_, _/_};
 ghost use mathlib.Core.Path.{_≡_};
 ghost use lib.ListN.{length};
-ghost use Rattle.price.specs.PriceParts.{putRow};
+ghost use Rattle.price.specs.workers.Parts.{putRow};
 
 // Eight numbers from the place 8 n on, where they fit.
 pub(crate) fn put_row(row: &mut [i64], n: usize, p: Numbers)

@@ -7,7 +7,7 @@ use cut::segment_at;
 ghost use Prim.Native.Nat.{_<_, _^_};
 ghost use mathlib.Core.Path.{_≡_};
 ghost use Rattle.cut.specs.Segments.{segmentsAt};
-ghost use Rattle.price.specs.PriceParts.{headSpot, addBy, movedBy};
+ghost use Rattle.price.specs.workers.Parts.{headSpot, addBy, movedBy};
 
 // A segment's first byte, its kind and the byte after its last; or that there is none.
 pub enum Spot {

@@ -6,10 +6,10 @@ use native.Mathlib.Omega.{arith}
 use lib.IntN.{ℤ}
 use lib.ListN.{length, drop, length-take, length-drop, length-append}
 use Rattle.cut.specs.declared.service.Syntax.{Syntax}
-use Rattle.cut.specs.Messages.{startOf}
+use Rattle.messages.specs.Messages.{startOf}
 use Rattle.price.specs.declared.numbers.Numbers.{Numbers}
-use Rattle.price.specs.PriceRows.{allNumbers, fitting, filledRow}
-use Rattle.price.specs.PriceCalls.{numbersFrom, filledOf, rowAfter}
+use Rattle.price.specs.Rows.{allNumbers, fitting, filledRow}
+use Rattle.price.specs.Calls.{numbersFrom, filledOf, rowAfter}
 use Rattle.schaumtruhe.specs.declared.pricing.Priced.{Priced}
 use Rattle.schaumtruhe.specs.declared.pricing.Priced.the-variants as priced
 use Rattle.schaumtruhe.specs.Calls.{Sheet, stands, missing, sheetAt, listed, pricedBy, rowBy, pricedAt, rowAt}

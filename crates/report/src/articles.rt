@@ -1,11 +1,21 @@
 // The article of a price, as it is printed.
 use crate::writing::put;
 
-// The bytes of a part, releases removed. An article has at most 35.
+// The bytes of a part, releases removed, one after the other, so that a part of any length is written whole.
 fn put_plain(part: &[u8]) -> bool {
-    let mut text = [0u8; 35];
-    let n = element::copy_plain(cut::base::syntax(), part, 0, part.len(), &mut text);
-    put(&text[..n])
+    let mut i = 0;
+    while i < part.len() {
+        let at = plain::literal(cut::base(), part, i, part.len());
+        if part.len() <= at {
+            return true;
+        }
+        let e = at + 1;
+        if !put(&part[at..e]) {
+            return false;
+        }
+        i = e;
+    }
+    true
 }
 
 // A number of a row as a place or a length; 0 for one below.

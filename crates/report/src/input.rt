@@ -1,18 +1,24 @@
-// Standard input, read to its end.
-use crate::messages::delivery_lines;
-use crate::messages::refusal_line;
+// A delivery, read to its end.
+use crate::lines::delivery_lines;
+use crate::lines::refusal_line;
 use crate::writing::complain;
 use libc::STDIN_FILENO;
 
-// What stands on standard input, judged and printed. A count that is short may mean the input's end or a read that failed, so one more
-// read decides: it gives 0 at the end. Behind a full buffer it gives a byte if there are more than the buffer takes.
+// What stands on standard input, judged and printed.
 pub fn check_input() {
+    check(STDIN_FILENO);
+}
+
+// What stands on a descriptor, judged and printed; what could not be read or written is told on standard error, and then the last line, E or X,
+// is missing. A count that is short may mean the input's end or a read that failed, so one more read decides: it gives 0 at the end. Behind a
+// full buffer it gives a byte if there are more than the buffer takes.
+pub fn check(descriptor: i32) {
     let mut buffer = [0u8; 65536];
-    let n = io::read_full(STDIN_FILENO, &mut buffer);
+    let n = io::read_full(descriptor, &mut buffer);
     let mut next = [0u8; 1];
-    let more = libc::read(STDIN_FILENO, &mut next);
+    let more = libc::read(descriptor, &mut next);
     if more < 0 || (more > 0 && n < buffer.len()) {
-        complain(b"sheetcheck: standard input could not be read\n");
+        complain(b"sheetcheck: the delivery could not be read\n");
         return;
     }
     let written = if more > 0 {
@@ -21,6 +27,6 @@ pub fn check_input() {
         delivery_lines(&buffer[..n])
     };
     if !written {
-        complain(b"sheetcheck: standard output could not be written\n");
+        complain(b"sheetcheck: not all lines could be written\n");
     }
 }

@@ -12,24 +12,67 @@ use lib.ListN.{length}
 use borrow.Author.Tests.{ltb-false, le-ltb}
 use Rattle.cut.specs.declared.service.Syntax.{Syntax}
 use Rattle.cut.specs.Admission.{admissionOf}
-use Rattle.cut.specs.Messages.{Message, startOf, closeOf}
+use Rattle.messages.specs.Messages.{Message, startOf, closeOf}
 use Rattle.guide.specs.Accepted.{segmentsOf, Accepted}
 use Rattle.guide.specs.Choices.{pickℕ}
-use Rattle.guide.specs.Judging.{Verdict, accepts, refuses}
+use Rattle.guide.specs.Answers.{Verdict, accepts, refuses}
 use Rattle.guide.specs.Refusal.{Refusal}
-use Rattle.guide.proofs.Verdicts.{accepts-refuses}
+use Rattle.guide.proofs.judging.Verdicts.{accepts-refuses}
 use Rattle.verdict.proofs.Accepting.{accepted-named}
 use Rattle.verdict.proofs.Refusing.{refused-named}
-use Rattle.price.specs.PriceSheet.{pricesInTree}
-use Rattle.price.proofs.PriceFace.{prices-tree}
+use Rattle.price.specs.Sheet.{pricesInTree}
+use Rattle.price.proofs.Face.{prices-tree}
 use Rattle.verdict.specs.Named.{editionOf, guideNamed, pagesNamed}
-use Rattle.schaumtruhe.proofs.NamedPrices.{named-priced}
-use Rattle.schaumtruhe.specs.Calls.{nowhere, verdictAt, judged, Sheet, stands, missing, sheetBy, sheetAt, listed, surveyUnless, surveyOf, pricedBy, pricedAt, rowAt, articleRefusal}
-use Rattle.schaumtruhe.specs.Demands.{DeliveryRefused, Begins, NoMessage, VerdictRefused, no-message, of-message, Stands, VerdictAccepted, PricesRefused, not-accepted, ArticleRefused, no-prices, no-price}
+use Rattle.schaumtruhe.proofs.pricing.Named.{named-priced}
+use Rattle.schaumtruhe.specs.Calls.{
+  nowhere,
+  verdictAt,
+  judged,
+  Sheet,
+  stands,
+  missing,
+  sheetBy,
+  sheetAt,
+  listed,
+  surveyUnless,
+  surveyOf,
+  pricedBy,
+  pricedAt,
+  rowAt,
+  articleRefusal,
+}
+use Rattle.schaumtruhe.specs.Demands.{
+  DeliveryRefused,
+  Begins,
+  NoMessage,
+  VerdictRefused,
+  no-message,
+  of-message,
+  Stands,
+  VerdictAccepted,
+  PricesRefused,
+  not-accepted,
+  ArticleRefused,
+  no-prices,
+  no-price,
+}
 use Rattle.schaumtruhe.specs.declared.pricing.Priced.the-variants as priced
 use Rattle.schaumtruhe.specs.declared.surveys.Surveyed.{Surveyed}
 use Rattle.schaumtruhe.specs.declared.surveys.Surveyed.the-variants as surveyed
-use Rattle.schaumtruhe.proofs.Asked.{Admission, refused, admitted, admission, one-refusal, none-admitted, one-begins, Lost, There, asked, one-number, no-number}
+use Rattle.schaumtruhe.proofs.places.Asked.{
+  Admission,
+  refused,
+  admitted,
+  admission,
+  one-refusal,
+  none-admitted,
+  one-begins,
+  Lost,
+  There,
+  asked,
+  one-number,
+  no-number,
+}
 
 one-or-zero : {A : Type 0} → _≡_ {A = ℕ} 0 1 → A
 one-or-zero z = absurd (omega arith)
@@ -99,7 +142,9 @@ module _ (y : Syntax) (d : List ℕ) where
             let q = one-begins y d at (v .message) (t .message) (v .stands .begins) (t .begins) in
             t .verdict ∙ ap (judged y) (sym q) ∙ accepted-named y (v .message) n e .1 (v .stands .accepted, v .count, v .close)
 
-    by-verdict : (m : Message) (v : Verdict) → judged y m ≡ v → (n : ℕ) → sheetBy v m ≡ missing n → (n ≡ 30) × (Accepted y (guideNamed y m) (pagesNamed y m) m → ⊥)
+    by-verdict
+        : (m : Message) (v : Verdict) → judged y m ≡ v → (n : ℕ) → sheetBy v m ≡ missing n
+        → (n ≡ 30) × (Accepted y (guideNamed y m) (pagesNamed y m) m → ⊥)
     by-verdict m (accepts s e) j n h = one-or-zero (cc)
     by-verdict m (refuses k i a o) j n h =
         let q : n ≡ 30 = cc in
@@ -128,7 +173,8 @@ module _ (y : Syntax) (d : List ℕ) where
         from n (inr t) (no-message w) = absurd (no-number y d at n (t .message) w (t .admits) (t .begins))
         from n (inr t) (not-accepted m p b r) =
             let e = one-begins y d at m (t .message) b (t .begins) in
-            t .sheet ∙ refused-sheet (t .message) (judged y (t .message)) refl (subst (λ (x : Message). Accepted y (guideNamed y x) (pagesNamed y x) x → ⊥) e r)
+            t .sheet ∙ refused-sheet (t .message) (judged y (t .message)) refl
+            (subst (λ (x : Message). Accepted y (guideNamed y x) (pagesNamed y x) x → ⊥) e r)
 
     -- the accepted message that begins there
     pub sheet-stands : (m : Message) → (sheetAt y d at ≡ stands m) ↔ Stands y d at m
@@ -174,13 +220,21 @@ module _ (y : Syntax) (d : List ℕ) where
     refused-unwritten k row n r = rw (sheet-missing n .1 r)
 
     -- the prices of the message are the tree's
-    tree-prices : (m : Message) (s : Stands y d at m) → listed y m ≡ pricesInTree (guideNamed y m) (s .accepted .proper .sheet .tree)
+    pub tree-prices : (m : Message) (s : Stands y d at m) → listed y m ≡ pricesInTree (guideNamed y m) (s .accepted .proper .sheet .tree)
     tree-prices m s = prices-tree y (guideNamed y m) (named-priced (editionOf y (segmentsOf m))) (startOf m) (segmentsOf m) (s .accepted .proper .sheet)
+
+    -- article: the number that document 01 gives is the one that is answered
+    pub article-number : (k j : ℕ) → ArticleRefused y d at k j → articleRefusal y d at k ≡ j
+    unfolding articleRefusal
+    article-number k j (no-prices r) = rw (sheet-missing j .1 r)
+    article-number k j (no-price m s l) =
+        let i : length (listed y m) ≤ k = rw (tree-prices m s) l in
+        rw (sheet-stands m .1 s, le-ltb k (length (listed y m)) i)
 
     -- article: it is refused exactly if document 01 says so
     pub article-refuses : (k n : ℕ) → (articleRefusal y d at k ≡ suc n) ↔ ArticleRefused y d at k (suc n)
     unfolding articleRefusal
-    article-refuses k n = (to (sheetAt y d at) refl, from (suc n))
+    article-refuses k n = (to (sheetAt y d at) refl, article-number k (suc n))
       where
         none : (b : Bool) (t : ℕ) → ltb k t ≡ b → pickℕ b 0 32 ≡ suc n → (suc n ≡ 32) × (t ≤ k)
         none true t e h = one-or-zero (let z : 0 ≡ suc n = h in omega (arith, z))
@@ -194,9 +248,3 @@ module _ (y : Syntax) (d : List ℕ) where
         to (missing j) e w =
             let q : j ≡ suc n = rw e at w in
             no-prices (sheet-missing (suc n) .0 (e ∙ ap missing q))
-
-        from : (j : ℕ) → ArticleRefused y d at k j → articleRefusal y d at k ≡ j
-        from j (no-prices r) = rw (sheet-missing j .1 r)
-        from j (no-price m s l) =
-            let i : length (listed y m) ≤ k = rw (tree-prices m s) l in
-            rw (sheet-stands m .1 s, le-ltb k (length (listed y m)) i)

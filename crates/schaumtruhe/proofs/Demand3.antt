@@ -10,14 +10,17 @@ use lib.Seq.{drop-append-add}
 use Rattle.cut.specs.declared.service.Syntax.{Syntax}
 use Rattle.cut.specs.Admission.{admissionOf, segments, nine}
 use Rattle.cut.specs.Base.{edifact}
-use Rattle.cut.specs.Bytes.{part, begins}
-use Rattle.cut.specs.Messages.{Message, messages}
-use Rattle.cut.specs.Fronts.{movedMessage, whole, has, UNH, Tail}
-use Rattle.cut.proofs.Fronting.{tail-admitted}
-use Rattle.cut.proofs.TailFirst.{Opens, tail-opens}
-use Rattle.cut.proofs.Demand3.{messages-any-front, messages-whole-front, whole-empty, whole-nine}
+use Rattle.bytewise.specs.Bytes.{part, begins}
+use Rattle.messages.specs.Messages.{Message, messages}
+use Rattle.messages.specs.Fronts.{movedMessage}
+use Rattle.cut.specs.Fronts.{whole, has, UNH, Tail}
+use Rattle.cut.proofs.Fronting.{front-admitted, tail-admitted}
+use Rattle.messages.proofs.TailFirst.{Opens, tail-opens}
+use Rattle.messages.proofs.Demand3.{messages-any-front, messages-whole-front}
+use Rattle.cut.proofs.Demand3.{whole-empty, whole-nine}
 use Rattle.schaumtruhe.specs.Demand3.{Kept, earlier, FromSecond, FromFirst, AtMostFirst, Demand3}
-use Rattle.schaumtruhe.proofs.Demand3Kept.{kept}
+use Rattle.schaumtruhe.proofs.keeping.Kept.{kept}
+use Rattle.schaumtruhe.proofs.Demand3Alone.{each-alone}
 
 -- a part of the tail is a part of the whole
 part-front : (front tail : List ℕ) (a e : ℕ) → part (length front + a) (length front + e) (front ++ tail) ≡ part a e tail
@@ -81,7 +84,14 @@ module _ (y : Syntax) (front tail : List ℕ) (t : Tail y front tail) where
 
   -- demand 3, whole
   pub demand3 : Demand3 y front tail
-  demand3 = record { from-second = demand3-any; from-first = demand3-whole; at-most-first = demand3-at-most-first }
+  demand3 =
+      record {
+        front-admitted = front-admitted y front tail t;
+        each-alone = each-alone y (front ++ tail) (t .admitted);
+        from-second = demand3-any;
+        from-first = demand3-whole;
+        at-most-first = demand3-at-most-first;
+      }
 
 -- the empty front, and the front that is just UNA
 pub demand3-empty : (y : Syntax) (tail : List ℕ) → Tail y [] tail → FromFirst y [] tail

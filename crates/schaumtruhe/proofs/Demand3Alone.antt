@@ -6,16 +6,16 @@ use native.Mathlib.Omega.{arith}
 use lib.ListN.{length}
 use Rattle.cut.specs.declared.service.Syntax.{Syntax}
 use Rattle.cut.specs.Admission.{admissionOf}
-use Rattle.cut.specs.Bytes.{part}
-use Rattle.cut.specs.Messages.{Message, startOf, closeOf, messages}
-use Rattle.cut.proofs.ByItself.{ByItself, messages-by-themselves}
-use Rattle.cut.proofs.Parts.{length-part, part-part}
+use Rattle.bytewise.specs.Bytes.{part}
+use Rattle.messages.specs.Messages.{Message, startOf, closeOf, messages}
+use Rattle.messages.proofs.ByItself.{ByItself, messages-by-themselves}
+use Rattle.bytewise.proofs.Parts.{length-part, part-part}
 use Rattle.verdict.specs.Moves.{movedVerdict}
 use Rattle.verdict.proofs.Face.{each-member}
 use Rattle.schaumtruhe.specs.Calls.{verdictAt}
 use Rattle.schaumtruhe.specs.Demand3.{Alone}
-use Rattle.schaumtruhe.proofs.Only.{lies-here}
-use Rattle.schaumtruhe.proofs.Demand3Kept.{kept}
+use Rattle.schaumtruhe.proofs.places.Only.{lies-here}
+use Rattle.schaumtruhe.proofs.keeping.Kept.{kept}
 
 module _ (y : Syntax) (d : List ℕ) (a : admissionOf y d ≡ 0) (m : Message) (here : List·Memᴰ m (messages y d)) where
   abbrev own : List ℕ

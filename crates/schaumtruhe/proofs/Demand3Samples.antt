@@ -6,18 +6,19 @@ use mathlib.Core.List.{List, [], _∷_, _++_, List·Memᴰ, List·Memᴰ·head, 
 use lib.ListN.{length, drop}
 use Rattle.cut.specs.Admission.{admissionOf, openingOf, segments, nine}
 use Rattle.cut.specs.Base.{edifact}
-use Rattle.cut.specs.Bytes.{bytesOf, begins}
+use Rattle.bytewise.specs.Bytes.{bytesOf, begins}
 use Rattle.cut.specs.Segments.{ends, frees, join, segmentsFrom}
-use Rattle.cut.specs.Messages.{tagOf, body, messagesIn, messages}
-use Rattle.cut.specs.Fronts.{movedMessage, whole, has, Tail}
+use Rattle.messages.specs.Messages.{tagOf, body, messagesIn, messages}
+use Rattle.messages.specs.Fronts.{movedMessage}
+use Rattle.cut.specs.Fronts.{whole, has, Tail}
 use Rattle.cut.proofs.Demand3.{whole-nine}
-use Rattle.guide.specs.Judging.{accepts, refuses}
+use Rattle.guide.specs.Answers.{accepts, refuses}
 use Rattle.verdict.specs.Moves.{movedVerdict}
 use Rattle.schaumtruhe.specs.Calls.{verdictAt, pricedAt, rowAt}
 use Rattle.schaumtruhe.specs.Demand3.{Kept, FromFirst}
 use Rattle.schaumtruhe.specs.declared.pricing.Priced.the-variants as priced
 use Rattle.schaumtruhe.proofs.Demand3.{demand3-any, demand3-whole}
-use Rattle.schaumtruhe.proofs.Demand3Tails.{
+use Rattle.schaumtruhe.proofs.keeping.Tails.{
   refusedTwice,
   incomplete,
   unfinished,

@@ -6,11 +6,11 @@ use mathlib.Core.List.{List}
 use lib.IntN.{ℤ}
 use denote.Ref.{RefT, now, ptr}
 use Rattle.cut.specs.Base.{edifact}
-use Rattle.cut.specs.Calls.{nextMessage}
-use Rattle.cut.specs.declared.message.Found.{Found}
+use Rattle.messages.specs.Calls.{nextMessage}
+use Rattle.messages.specs.declared.found.Found.{Found}
 use Rattle.element.specs.declared.components.Span.{Span}
-use Rattle.price.specs.PriceCalls.{IsPart}
-use Rattle.price.proofs.PriceFace.{one-part}
+use Rattle.price.specs.Calls.{IsPart}
+use Rattle.price.proofs.Face.{one-part}
 use Rattle.verdict.specs.Answers.{declared}
 use Rattle.verdict.specs.declared.answers.Verdict.{Verdict}
 use Rattle.schaumtruhe.specs.Calls.{surveyOf, verdictAt, pricedAt, rowAt, articleRefusal, articleAt}
@@ -44,5 +44,6 @@ module _ (d : List ℕ) where
 -- article
 pub one-article
     : (d r t : RefT (List ℕ)) (at j : ℕ) → IsPart d r (articleAt edifact (now d) at j .start) (articleAt edifact (now d) at j .end)
-    → IsPart d t (articleAt edifact (now d) at j .start) (articleAt edifact (now d) at j .end) → (now r ≡ now t) × (ptr r .0 ≡ ptr t .0) × (ptr r .1 ≡ ptr t .1)
+    → IsPart d t (articleAt edifact (now d) at j .start) (articleAt edifact (now d) at j .end)
+    → (now r ≡ now t) × (ptr r .0 ≡ ptr t .0) × (ptr r .1 ≡ ptr t .1)
 one-article d r t at j p q = one-part d r t _ _ p q

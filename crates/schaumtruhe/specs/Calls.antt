@@ -1,22 +1,21 @@
 -- What each public call answers, for every delivery, place and number, in document 01's order of refusals: 1, 2, 31, 30, 32.
 use Prim.Native.Nat.{ℕ, zero, suc}
-use mathlib.Core.Bool.{Bool, true, false}
+use mathlib.Core.Bool.{Bool, true, false, cond}
 use mathlib.Core.List.{List, [], _∷_, _++_}
 use lib.Dec.{eqb, ltb}
 use lib.IntN.{ℤ}
 use lib.ListN.{length, drop}
 use Rattle.cut.specs.declared.service.Syntax.{Syntax}
 use Rattle.cut.specs.Admission.{admissionOf}
-use Rattle.cut.specs.Messages.{Message, startOf, messages, outside}
+use Rattle.messages.specs.Messages.{Message, startOf, messages, outside}
 use Rattle.element.specs.declared.components.Span.{Span}
 use Rattle.guide.specs.Accepted.{segmentsOf}
 use Rattle.guide.specs.Choices.{pickℕ}
-use Rattle.guide.specs.Judging.{Verdict, accepts, refuses}
-use Rattle.guide.specs.Sheet.{pickList}
-use Rattle.verdict.specs.Named.{namedOf}
-use Rattle.price.specs.PriceCalls.{filledOf, rowAfter, firstArticle}
-use Rattle.price.specs.PriceList.{pricesOf}
-use Rattle.price.specs.PriceNumbers.{Listed}
+use Rattle.guide.specs.Answers.{Verdict, accepts, refuses}
+use Rattle.verdict.specs.Verdicts.{namedOf}
+use Rattle.price.specs.Calls.{filledOf, rowAfter, firstArticle}
+use Rattle.price.specs.Listing.{pricesOf}
+use Rattle.price.specs.Numbers.{Listed}
 use Rattle.price.specs.declared.filling.Filled.{Filled}
 use Rattle.schaumtruhe.specs.declared.pricing.Priced.{Priced}
 use Rattle.schaumtruhe.specs.declared.pricing.Priced.the-variants as priced
@@ -26,7 +25,7 @@ use Rattle.schaumtruhe.specs.declared.surveys.Surveyed.the-variants as s
 -- the message among some that begins at a place, if one does
 unfoldable pub beginningAt : ℕ → List Message → List Message
 beginningAt at [] = []
-beginningAt at (m ∷ ms) = pickList (eqb at (startOf m)) (m ∷ []) (beginningAt at ms)
+beginningAt at (m ∷ ms) = cond (eqb at (startOf m)) (m ∷ []) (beginningAt at ms)
 
 -- "1, 2 and 30 to 32 give 0 for the last three"
 abbrev pub nowhere : ℕ → Verdict
@@ -138,7 +137,7 @@ module _ (y : Syntax) where
   unfoldable pub articleAt : List ℕ → ℕ → ℕ → Span
   articleAt d at k = articleUnless (articleRefusal d at k) (articleBy (sheetAt d at) k)
 
--- document 01's numbers for each case: "a refused prices call gives 0 written and 0 of total"
+-- document 01's numbers for each case; a refusal has 0 in place of the counts
 unfoldable pub pricedNumbers : Priced → List ℕ
 pricedNumbers (priced.Written w t) = 0 ∷ w ∷ t ∷ []
 pricedNumbers (priced.Refused n) = n ∷ 0 ∷ 0 ∷ []

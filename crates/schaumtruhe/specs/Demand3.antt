@@ -8,12 +8,13 @@ use mathlib.Core.Logic.{_⊎_}
 use lib.IntN.{ℤ}
 use lib.ListN.{length, take, drop}
 use Rattle.cut.specs.declared.service.Syntax.{Syntax}
-use Rattle.cut.specs.declared.message.Found.the-variants as found
-use Rattle.cut.specs.Bytes.{part}
+use Rattle.messages.specs.declared.found.Found.the-variants as found
+use Rattle.bytewise.specs.Bytes.{part}
 use Rattle.cut.specs.Admission.{admissionOf, segments}
-use Rattle.cut.specs.Messages.{Message, startOf, closeOf, messages}
-use Rattle.cut.specs.Calls.{nextMessage}
-use Rattle.cut.specs.Fronts.{moved, movedMessage, whole, meet, begunIn}
+use Rattle.messages.specs.Messages.{Message, startOf, closeOf, messages}
+use Rattle.messages.specs.Calls.{nextMessage}
+use Rattle.cut.specs.Fronts.{moved, whole, meet}
+use Rattle.messages.specs.Fronts.{movedMessage, begunIn}
 use Rattle.element.specs.declared.components.Span.{Span}
 use Rattle.verdict.specs.Moves.{movedVerdict}
 use Rattle.schaumtruhe.specs.Calls.{judged, verdictAt, pricedAt, rowAt, articleRefusal, articleAt}
@@ -79,6 +80,10 @@ pub record AtMostFirst (y : Syntax) (front tail : List ℕ) : Type 0 where
 
 -- demand 3, whole: what it says of a front and a tail; `whole`: the front is empty, is just UNA, or ends where a segment ends
 pub record Demand3 (y : Syntax) (front tail : List ℕ) : Type 0 where
+  -- the front is admitted by itself
+  pub front-admitted : admissionOf y front ≡ 0
+  -- "Each message stands by itself": those of the longer delivery
+  pub each-alone : (m : Message) → List·Memᴰ m (messages y (front ++ tail)) → Alone y (front ++ tail) m
   pub from-second : FromSecond y front tail
   pub from-first : whole (segments y front) ≡ true → FromFirst y front tail
   pub at-most-first : AtMostFirst y front tail

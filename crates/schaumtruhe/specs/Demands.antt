@@ -6,13 +6,13 @@ use mathlib.Core.Bool.{true, false}
 use mathlib.Core.List.{List, List·Memᴰ}
 use lib.ListN.{length}
 use Rattle.cut.specs.declared.service.Syntax.{Syntax}
-use Rattle.cut.specs.Bytes.{begins}
+use Rattle.bytewise.specs.Bytes.{begins}
 use Rattle.cut.specs.Admission.{limit, UNA, nine}
-use Rattle.cut.specs.Messages.{Message, startOf, closeOf, messages}
+use Rattle.messages.specs.Messages.{Message, startOf, closeOf, messages}
 use Rattle.guide.specs.Accepted.{segmentsOf, Accepted}
 use Rattle.guide.specs.Refusal.{Refusal}
 use Rattle.verdict.specs.Named.{guideNamed, pagesNamed}
-use Rattle.price.specs.PriceSheet.{pricesInTree}
+use Rattle.price.specs.Sheet.{pricesInTree}
 
 -- 1, "delivery longer than the limit"
 abbrev pub TooLong : List ℕ → Type 0

@@ -1,4 +1,4 @@
 pub mod Calls
-pub mod Workers
 pub mod Demands
 pub mod Demand3
+pub mod workers

@@ -6,9 +6,9 @@ use element::Span;
 use price::fill;
 ghost use mathlib.Core.Path.{_≡_};
 ghost use lib.ListN.{length};
-ghost use Rattle.price.specs.PriceCalls.{pricesIn};
+ghost use Rattle.price.specs.Calls.{pricesIn};
 ghost use Rattle.schaumtruhe.specs.Calls.{articleRefusal, articleAt};
-ghost use Rattle.schaumtruhe.specs.Workers.{refusalBy};
+ghost use Rattle.schaumtruhe.specs.workers.Answers.{refusalBy};
 
 // How many prices a message has.
 fn total(y: Syntax, d: &[u8], start: usize, end: usize) -> usize

@@ -26,7 +26,7 @@ pub(crate) fn verdict_at(y: Syntax, d: &[u8], at: usize) -> Verdict
     if refusal != 0 {
         return refused(refusal);
     }
-    if !cut::message_begins(y, d, at) {
+    if !messages::message_begins(y, d, at) {
         return refused(31);
     }
     let j = judged(y, d, at);

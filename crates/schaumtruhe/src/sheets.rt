@@ -4,7 +4,7 @@ use verdict::Verdict;
 use verdict::judged;
 ghost use mathlib.Core.Path.{_≡_};
 ghost use Rattle.schaumtruhe.specs.Calls.{sheetAt};
-ghost use Rattle.schaumtruhe.specs.Workers.{standingOf, standingBy};
+ghost use Rattle.schaumtruhe.specs.workers.Answers.{standingOf, standingBy};
 
 // The message's start and end; or 1, 2, 31 or 30.
 pub enum Standing {
@@ -29,7 +29,7 @@ pub(crate) fn sheet_at(y: Syntax, d: &[u8], at: usize) -> Standing
     if refusal != 0 {
         return Standing::Refused { number: refusal };
     }
-    if !cut::message_begins(y, d, at) {
+    if !messages::message_begins(y, d, at) {
         return Standing::Refused { number: 31 };
     }
     let j = judged(y, d, at);

@@ -1,18 +1,17 @@
 // The whole delivery: messages found, accepted, and segments outside.
-use cut::Outer;
 use cut::Syntax;
-use cut::outer_at;
+use messages::Outer;
+use messages::outer_at;
 use verdict::Verdict;
 use verdict::judged;
 ghost use Prim.Native.Nat.{_<_};
-ghost use mathlib.Core.Bool.{false};
 ghost use mathlib.Core.Path.{_≡_};
-ghost use lib.ListN.{length, drop};
-ghost use Rattle.cut.specs.Held.{headOuter};
-ghost use Rattle.cut.specs.Segments.{segmentsFrom};
-ghost use Rattle.cut.specs.declared.outer.Outer.the-variants as outer;
+ghost use lib.ListN.{length};
+ghost use Rattle.messages.specs.Held.{headOuter};
+ghost use Rattle.cut.specs.Segments.{segmentsAt};
+ghost use Rattle.messages.specs.declared.outer.Outer.the-variants as outer;
 ghost use Rattle.schaumtruhe.specs.Calls.{surveyOf};
-ghost use Rattle.schaumtruhe.specs.Workers.{oneIf, Stepped};
+ghost use Rattle.schaumtruhe.specs.workers.Answers.{oneIf, Stepped};
 
 // The counts; or 1 or 2.
 pub enum Surveyed {
@@ -45,7 +44,7 @@ fn one_if(v: Verdict) -> usize
 
 // The message that begins at `at`.
 fn message_step(y: Syntax, d: &[u8], at: usize) -> Counts
-    requires { ⌜ headOuter (segmentsFrom y at false (drop at (now d))) ≡ outer.Message ⌝ }
+    requires { ⌜ headOuter (segmentsAt y (now d) at) ≡ outer.Message ⌝ }
     ensures { λ r. ⌜ Stepped y (now (d .entry)) at r ⌝ }
 {
     let j = judged(y, d, at);

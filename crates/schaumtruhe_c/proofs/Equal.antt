@@ -4,15 +4,17 @@ use mathlib.Core.Path.{_≡_, sym, _∙_}
 use mathlib.Core.List.{List}
 use lib.IntN.{ℤ}
 use Rattle.cut.specs.Base.{edifact}
-use Rattle.cut.specs.Calls.{nextMessage}
+use Rattle.messages.specs.Calls.{nextMessage}
+use Rattle.held.specs.Reading.{nextFrom}
 use Rattle.verdict.specs.Answers.{declared}
 use Rattle.schaumtruhe.specs.Calls.{surveyOf, verdictAt, pricedAt, rowAt, articleRefusal, articleAt}
-use Rattle.schaumtruhe_c.specs.Answers.{totalsOf, nextOf, judgedOf, pricesOf, articleOf}
+use Rattle.schaumtruhe_c.specs.Answers.{totalsOf, nextOf, judgedOf, pricesOf, articleOf, segmentOf}
 use Rattle.schaumtruhe_c.specs.declared.answers.Totals.{Totals}
 use Rattle.schaumtruhe_c.specs.declared.answers.Next.{Next}
 use Rattle.schaumtruhe_c.specs.declared.answers.Judged.{Judged}
 use Rattle.schaumtruhe_c.specs.declared.answers.Prices.{Prices}
 use Rattle.schaumtruhe_c.specs.declared.answers.Article.{Article}
+use Rattle.schaumtruhe_c.specs.declared.answers.Segment.{Segment}
 
 module _ (d : List ℕ) where
   pub one-totals : (r t : Totals) → r ≡ totalsOf (surveyOf edifact d) → t ≡ totalsOf (surveyOf edifact d) → r ≡ t
@@ -25,6 +27,9 @@ module _ (d : List ℕ) where
     pub one-judged
         : (r t : Judged) → r ≡ judgedOf (declared (verdictAt edifact d at)) → t ≡ judgedOf (declared (verdictAt edifact d at)) → r ≡ t
     one-judged r t h k = h ∙ sym k
+
+    pub one-segment : (r t : Segment) → r ≡ segmentOf (nextFrom d at) → t ≡ segmentOf (nextFrom d at) → r ≡ t
+    one-segment r t h k = h ∙ sym k
 
     module _ (j : ℕ) where
       pub one-prices

@@ -1,10 +1,15 @@
--- The fields of each answer are document 01's numbers, in its order; an article asked in vain has two zeros, and any other lies in the delivery.
-use Prim.Native.Nat.{ℕ, suc, _+_, _≤_}
+-- The fields of each answer are document 01's numbers, in its order; an article asked in vain has two zeros, and any other lies in the delivery, as
+-- a segment does.
+use Prim.Native.Nat.{ℕ, suc, _+_, _≤_, _<_}
 use mathlib.Core.Path.{_≡_, refl, ap}
 use mathlib.Core.List.{List, [], _∷_}
 use native.Mathlib.Omega.{arith}
 use lib.ListN.{length}
 use Rattle.cut.specs.Base.{edifact}
+use Rattle.cut.specs.declared.scan.Cut.{Cut}
+use Rattle.cut.specs.declared.scan.Cut.the-variants as cut
+use Rattle.held.specs.Reading.{nextFrom}
+use Rattle.held.proofs.Walking.{next-in-delivery}
 use Rattle.verdict.specs.Answers.{numbersOf}
 use Rattle.verdict.specs.declared.answers.Verdict.{Verdict}
 use Rattle.verdict.specs.declared.answers.Verdict.the-variants as verdict
@@ -13,8 +18,9 @@ use Rattle.schaumtruhe.specs.declared.pricing.Priced.{Priced}
 use Rattle.schaumtruhe.specs.declared.pricing.Priced.the-variants as priced
 use Rattle.schaumtruhe.specs.declared.surveys.Surveyed.{Surveyed}
 use Rattle.schaumtruhe.specs.declared.surveys.Surveyed.the-variants as surveyed
-use Rattle.schaumtruhe.proofs.ArticlesAt.{article-within}
-use Rattle.schaumtruhe_c.specs.Answers.{totalsOf, totalsNumbers, judgedOf, judgedNumbers, pricesOf, pricesNumbers, articleOf, articleNumbers}
+use Rattle.schaumtruhe.proofs.ArticlePlaces.{article-within}
+use Rattle.schaumtruhe_c.specs.declared.answers.Segment.{Segment}
+use Rattle.schaumtruhe_c.specs.Answers.{totalsOf, totalsNumbers, judgedOf, judgedNumbers, pricesOf, pricesNumbers, articleOf, articleNumbers, segmentOf}
 
 pub totals-numbers : (s : Surveyed) → totalsNumbers (totalsOf s) ≡ surveyNumbers s
 unfolding totalsOf totalsNumbers surveyNumbers
@@ -31,6 +37,23 @@ unfolding pricesOf pricesNumbers pricedNumbers
 prices-numbers (priced.Written w t) = refl
 prices-numbers (priced.Refused n) = refl
 
+-- what `schaumtruhe_segment_at` answers
+abbrev pub segmentFrom : List ℕ → ℕ → Segment
+segmentFrom d at = segmentOf (nextFrom d at)
+
+-- a segment that was found is not empty, and lies in the delivery, at the place asked or later
+pub segment-in-delivery
+    : (d : List ℕ) (at : ℕ) → segmentFrom d at .found ≡ 1
+    → (at ≤ segmentFrom d at .start) × ((segmentFrom d at .start < segmentFrom d at .end) × (segmentFrom d at .end ≤ length d))
+unfolding segmentOf
+segment-in-delivery d at = go (nextFrom d at) refl
+  where
+    go
+        : (c : Cut) → nextFrom d at ≡ c → segmentOf c .found ≡ 1
+        → (at ≤ segmentOf c .start) × ((segmentOf c .start < segmentOf c .end) × (segmentOf c .end ≤ length d))
+    go (cut.Segment s e p) h f = next-in-delivery d at s e p h
+    go cut.Nothing h f = absurd (omega (arith, f))
+
 module _ (d : List ℕ) (at k : ℕ) where
   -- a refused article: its number and two zeros
   pub article-refused
@@ -42,7 +65,8 @@ module _ (d : List ℕ) (at k : ℕ) where
 
   -- what makes a slice of the delivery from place and length safe
   pub article-in-delivery
-      : articleOf (articleRefusal edifact d at k) (articleAt edifact d at k) .place + articleOf (articleRefusal edifact d at k) (articleAt edifact d at k) .length
+      : articleOf (articleRefusal edifact d at k) (articleAt edifact d at k) .place
+      + articleOf (articleRefusal edifact d at k) (articleAt edifact d at k) .length
       ≤ length d
   unfolding articleOf
   article-in-delivery = omega (arith, article-within edifact d at k .0, article-within edifact d at k .1)

@@ -1,8 +1,11 @@
 -- Each answer as a struct of numbers: first 0 or document 01's refusal number, then what the call hands out, or 0.
 use Prim.Native.Nat.{ℕ, _-_}
+use mathlib.Core.Bool.{cond}
 use mathlib.Core.List.{List, [], _∷_}
-use Rattle.cut.specs.declared.message.Found.{Found}
-use Rattle.cut.specs.declared.message.Found.the-variants as found
+use Rattle.cut.specs.declared.scan.Cut.{Cut}
+use Rattle.cut.specs.declared.scan.Cut.the-variants as cut
+use Rattle.messages.specs.declared.found.Found.{Found}
+use Rattle.messages.specs.declared.found.Found.the-variants as found
 use Rattle.element.specs.declared.components.Span.{Span}
 use Rattle.verdict.specs.declared.answers.Verdict.{Verdict}
 use Rattle.verdict.specs.declared.answers.Verdict.the-variants as verdict
@@ -15,6 +18,7 @@ use Rattle.schaumtruhe_c.specs.declared.answers.Next.{Next}
 use Rattle.schaumtruhe_c.specs.declared.answers.Judged.{Judged}
 use Rattle.schaumtruhe_c.specs.declared.answers.Prices.{Prices}
 use Rattle.schaumtruhe_c.specs.declared.answers.Article.{Article}
+use Rattle.schaumtruhe_c.specs.declared.answers.Segment.{Segment}
 
 -- "messages found, accepted, and segments outside"
 unfoldable pub totalsOf : Surveyed → Totals
@@ -39,6 +43,11 @@ pricesOf (priced.Refused n) = record { number = n; written = 0; total = 0 }
 -- "The article of a price, as that part of the delivery itself": its place and length there
 unfoldable pub articleOf : ℕ → Span → Article
 articleOf n s = record { number = n; place = s .start; length = s .end - s .start }
+
+-- "the next segment's start, end and whether it is a piece, or none"
+unfoldable pub segmentOf : Cut → Segment
+segmentOf (cut.Segment s e p) = record { found = 1; start = s; end = e; piece = cond p 1 0 }
+segmentOf cut.Nothing = record { found = 0; start = 0; end = 0; piece = 0 }
 
 -- the numbers of an answer in the order of its fields
 unfoldable pub totalsNumbers : Totals → List ℕ

@@ -1,10 +1,12 @@
 // Each answer as numbers: first 0 or document 01's refusal number; what a refusal does not give is 0.
-use cut::Found;
+use cut::Cut;
+use messages::Found;
 use schaumtruhe::Priced;
 use schaumtruhe::Surveyed;
 use verdict::Verdict;
+ghost use mathlib.Core.Bool.{cond};
 ghost use mathlib.Core.Path.{_≡_};
-ghost use Rattle.schaumtruhe_c.specs.Answers.{totalsOf, nextOf, judgedOf, pricesOf};
+ghost use Rattle.schaumtruhe_c.specs.Answers.{totalsOf, nextOf, judgedOf, pricesOf, segmentOf};
 
 // The whole delivery: messages found, accepted, and segments outside.
 #[repr(C)]
@@ -46,6 +48,15 @@ pub struct Article {
     pub number: u32,
     pub place: usize,
     pub length: usize,
+}
+
+// 1 and a segment's first byte, the byte after its last, and 1 if it is a piece, else 0; or 0.
+#[repr(C)]
+pub struct Segment {
+    pub found: u32,
+    pub start: usize,
+    pub end: usize,
+    pub piece: u32,
 }
 
 pub(crate) fn totals_of(s: Surveyed) -> Totals
@@ -125,6 +136,31 @@ pub(crate) fn prices_of(p: Priced) -> Prices
             number,
             written: 0,
             total: 0,
+        },
+    }
+}
+
+fn flag(b: bool) -> u32
+    ensures { λ r. ⌜ r ≡ cond b 1 0 ⌝ }
+{
+    if b { 1 } else { 0 }
+}
+
+pub(crate) fn segment_of(c: Cut) -> Segment
+    ensures { λ r. ⌜ r ≡ segmentOf c ⌝ }
+{
+    match c {
+        Cut::Segment { start, end, piece } => Segment {
+            found: 1,
+            start,
+            end,
+            piece: flag(piece),
+        },
+        Cut::Nothing => Segment {
+            found: 0,
+            start: 0,
+            end: 0,
+            piece: 0,
         },
     }
 }

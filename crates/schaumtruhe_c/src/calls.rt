@@ -4,7 +4,9 @@ use crate::answers::Article;
 use crate::answers::Judged;
 use crate::answers::Next;
 use crate::answers::Prices;
+use crate::answers::Segment;
 use crate::answers::Totals;
+use held::step_from;
 use schaumtruhe::article_at;
 use schaumtruhe::article_refusal;
 use schaumtruhe::judge_at;
@@ -13,10 +15,11 @@ use schaumtruhe::prices;
 use schaumtruhe::survey;
 ghost use mathlib.Core.Path.{_≡_};
 ghost use Rattle.cut.specs.Base.{edifact};
-ghost use Rattle.cut.specs.Calls.{nextMessage};
+ghost use Rattle.messages.specs.Calls.{nextMessage};
+ghost use Rattle.held.specs.Reading.{nextFrom};
 ghost use Rattle.verdict.specs.Answers.{declared};
 ghost use Rattle.schaumtruhe.specs.Calls.{surveyOf, verdictAt, pricedAt, rowAt, articleRefusal, articleAt};
-ghost use Rattle.schaumtruhe_c.specs.Answers.{totalsOf, nextOf, judgedOf, pricesOf, articleOf};
+ghost use Rattle.schaumtruhe_c.specs.Answers.{totalsOf, nextOf, judgedOf, pricesOf, articleOf, segmentOf};
 
 // The whole delivery; or 1 or 2.
 #[no_mangle]
@@ -63,4 +66,12 @@ pub extern "C" fn schaumtruhe_article(d: &[u8], at: usize, k: usize) -> Article
         place: s.start,
         length: s.end - s.start,
     }
+}
+
+// One step of the segment reader from a place: the next segment, or none; none in a delivery that is not admitted.
+#[no_mangle]
+pub extern "C" fn schaumtruhe_segment_at(d: &[u8], at: usize) -> Segment
+    ensures { λ r. ⌜ r ≡ segmentOf (nextFrom (now (d .entry)) at) ⌝ }
+{
+    answers::segment_of(step_from(d, at))
 }

@@ -19,19 +19,20 @@ use Rattle.value.specs.declared.formats.Format.{Format}
 use Rattle.value.specs.declared.formats.Format.the-variants.{AnUpTo, An, NUpTo, N}
 use Rattle.value.specs.Format.{fitsFormat}
 use Rattle.value.specs.Numeral.{some, digitsAhead, behindDigits, unsigned, minus, whole, fraction, digits, isNumber, digitCount, decimal}
-use Rattle.value.specs.Number.{signed, pickNumber, numberOf}
-use Rattle.value.specs.Inner.{pickNumeral, countedAs, numeralBy, unsignedOf, numeralOf, digitsOf}
-use Rattle.value.proofs.Digitwise.{and-both, onto-is, decimal-append}
+use Rattle.value.specs.Number.{signed, numberOf}
+use Rattle.value.specs.workers.Scans.{countedAs, numeralBy, unsignedOf, numeralOf, digitsOf}
+use Rattle.bytewise.proofs.Booleans.{and-both}
+use Rattle.value.proofs.Digitwise.{onto-is, decimal-append}
 use Rattle.value.proofs.Numerals.{decimal-below}
 
 pub numeral-is
     : (y : Syntax) (s : List ℕ)
-    → numeralOf y s ≡ pickNumeral (isNumber y s) (countedAs (minus s) (decimal (digits s)) (length (digits s)) (length (fraction s))) Other
+    → numeralOf y s ≡ cond (isNumber y s) (countedAs (minus s) (decimal (digits s)) (length (digits s)) (length (fraction s))) Other
 unfolding numeralOf unsignedOf numeralBy isNumber digits whole fraction
 numeral-is y s = refl
 
 -- formats: a number has at least one digit, so no digits are those of no number
-counted-by : (m : Bool) (v n k : ℕ) (long b : Bool) → digitsOf (pickNumeral b (pickNumeral long (Long n) (Short m v n k)) Other) ≡ cond b n 0
+counted-by : (m : Bool) (v n k : ℕ) (long b : Bool) → digitsOf (cond b (cond long (Long n) (Short m v n k)) Other) ≡ cond b n 0
 counted-by m v n k true true = refl
 counted-by m v n k false true = refl
 counted-by m v n k long false = refl
@@ -97,7 +98,7 @@ amountIn (Long n) = Nothing
 amountIn Other = Nothing
 
 amount-by : (m : Bool) (v n k : ℕ) (long b : Bool) → ltb 15 n ≡ long
-    → amountIn (pickNumeral b (pickNumeral long (Long n) (Short m v n k)) Other) ≡ pickNumber (b && leb n 15) (Amount (signed m v) k) Nothing
+    → amountIn (cond b (cond long (Long n) (Short m v n k)) Other) ≡ cond (b && leb n 15) (Amount (signed m v) k) Nothing
 amount-by m v n k true true e = rw (lt-leb n 15 (ltb-true 15 n e))
 amount-by m v n k false true e = rw (le-leb n 15 (ltb-false 15 n e))
 amount-by m v n k long false e = refl
@@ -144,8 +145,8 @@ both-below s t =
     (omega arith)
 
 small : (m : Bool) (v n k : ℕ) (long b : Bool) → v < 10 ^ n → k ≤ n → ltb 15 n ≡ long
-    → (valueIn (pickNumeral b (pickNumeral long (Long n) (Short m v n k)) Other) < 10 ^ 15)
-    × (decimalsIn (pickNumeral b (pickNumeral long (Long n) (Short m v n k)) Other) ≤ 15)
+    → (valueIn (cond b (cond long (Long n) (Short m v n k)) Other) < 10 ^ 15)
+    × (decimalsIn (cond b (cond long (Long n) (Short m v n k)) Other) ≤ 15)
 small m v n k true true h l e = omega arith
 small m v n k false true h l e =
     let f : n ≤ 15 = ltb-false 15 n e in
@@ -163,7 +164,8 @@ fraction-within s = rw (length-append (whole s) (fraction s)) (omega arith)
 pub short-bounds : (y : Syntax) (s : List ℕ) {m : Bool} {v n k : ℕ} → numeralOf y s ≡ Short m v n k → (v < 10 ^ 15) × (k ≤ 15)
 short-bounds y s e =
     let q = sym (numeral-is y s) ∙ e in
-    let b = small (minus s) (decimal (digits s)) (length (digits s)) (length (fraction s)) (ltb 15 (length (digits s))) (isNumber y s) (digits-below s) (fraction-within s) refl in
+    let b = small (minus s) (decimal (digits s)) (length (digits s)) (length (fraction s)) (ltb 15 (length (digits s))) (isNumber y s) (digits-below s)
+    (fraction-within s) refl in
     let v = ap valueIn q in
     let k = ap decimalsIn q in
     omega arith

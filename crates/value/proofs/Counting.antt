@@ -11,10 +11,10 @@ use borrow.Author.Tests.{lt-leb, le-leb, eq-eqb, ne-eqb}
 use Rattle.cut.specs.declared.service.Syntax.{Syntax}
 use Rattle.value.specs.declared.numeral.Run.{Run}
 use Rattle.value.specs.declared.counts.Count.the-variants.{Is, Nothing}
-use Rattle.element.specs.Plain.{decoded}
+use Rattle.plain.specs.Plain.{decoded}
 use Rattle.value.specs.Numeral.{isDigit, some, none, digitsAhead, behindDigits, decimal}
 use Rattle.value.specs.Digits.{padded, isCount, countOf}
-use Rattle.value.specs.Inner.{DigitRun}
+use Rattle.value.specs.workers.Scans.{DigitRun}
 
 -- where nothing stands behind the digits, they are the whole
 alone : (x : ℕ) (xs : List ℕ) (b : Bool) → isDigit x ≡ b → behindDigits (x ∷ xs) ≡ [] → (behindDigits xs ≡ [] → digitsAhead xs ≡ xs)

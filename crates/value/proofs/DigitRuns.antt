@@ -1,4 +1,5 @@
--- A number that is read as it stands: where its digits end, by one byte or by eight; and how many digits that makes, with the mark among them or not, and the sign.
+-- A number that is read as it stands: where its digits end, by one byte or by eight; and how many digits that makes, with the mark among them or not, and
+-- the sign.
 use Prim.Native.Nat.{ℕ, zero, suc, _+_, _-_, _≤_, _<_, min}
 use mathlib.Core.Bool.{Bool, true, false, not, cond, and-false}
 use mathlib.Core.Path.{_≡_, refl, sym, ap, _∙_}
@@ -10,16 +11,16 @@ use lib.ListN.{length, getD, length-append}
 use lib.Dec.{ltb, eqb, eqb→eq}
 use lib.Bits.{bitAnd, bitOr, bitXor, and-le-r}
 use borrow.Author.Tests.{eq-eqb, ne-eqb, eqb-true, eqb-false, not-true, not-false}
-use Rattle.cut.specs.Bytes.{part}
-use Rattle.cut.specs.Every.{every}
-use Rattle.cut.specs.Eights.{onFrom, eightAt, flag, flags, Flagged, firstByte}
+use Rattle.bytewise.specs.Bytes.{part}
+use Rattle.bytewise.specs.Every.{every}
+use Rattle.bytewise.specs.Eights.{onFrom, eightAt, flag, flags, Flagged, firstByte}
 use Rattle.cut.specs.declared.service.Syntax.{Syntax}
-use Rattle.cut.proofs.Every.{every-at}
-use Rattle.cut.proofs.Bytewise.{Eight, eight-and, eight-or, eight-xor, eight-add, eight-each, low, high, flags-of, flags-none, flagged-there, first-of}
-use Rattle.cut.proofs.Parts.{part-none, part-next}
-use Rattle.element.proofs.Limits.{limited}
+use Rattle.bytewise.proofs.Every.{every-at}
+use Rattle.bytewise.proofs.Bytewise.{Eight, eight-and, eight-or, eight-xor, eight-add, eight-each, low, high, flags-of, flags-none, flagged-there, first-of}
+use Rattle.bytewise.proofs.Parts.{part-none, part-next}
+use Rattle.bytewise.proofs.Limits.{limited}
 use Rattle.value.specs.Numeral.{isDigit, some, none, digitsAhead, behindDigits, isTail, digitCount}
-use Rattle.value.specs.Inner.{DigitsEnd, behindSign, countedAs, numeralBy, unsignedOf, digitsOf}
+use Rattle.value.specs.workers.Scans.{DigitsEnd, behindSign, countedAs, numeralBy, unsignedOf, digitsOf}
 use Rattle.value.proofs.Digitwise.{ahead-more, ahead-stop, ahead-none, behind-more, behind-stop, behind-none}
 use Rattle.value.proofs.Numerals.{some-row, no-whole, whole-alone, tail-bad, tail-good, no-byte, with-minus, without-minus}
 use Rattle.value.proofs.Answers.{digits-number}
@@ -176,7 +177,8 @@ module _ (d : List ℕ) (e : ℕ) (h : e ≤ length d) where
         let t = digit-run (r - i) i (omega arith) (λ k m n. q .digits k m (omega arith) (omega arith)) in
         let z : i + (r - i) ≡ r = omega arith in
         let p = part-next d r e b h in
-        let u : (length (digitsAhead (part i e d)) ≡ r - i + length (digitsAhead (part r e d))) × (behindDigits (part i e d) ≡ behindDigits (part r e d)) = rw z at t in
+        let u : (length (digitsAhead (part i e d)) ≡ r - i + length (digitsAhead (part r e d))) × (behindDigits (part i e d) ≡ behindDigits (part r e d)) =
+        rw z at t in
         (omega (arith, u .0, ap length (ahead-stop p (q .other b))), u .1 ∙ behind-stop p (q .other b))
 
 -- the answers, for the bytes from i up to e behind a minus or not; p is where the digits end that begin at i

@@ -1,6 +1,6 @@
 -- Laws of the digits with which bytes begin, one digit at a time, and of their value.
 use Prim.Native.Nat.{ℕ, _+_, _-_, _*_, _^_, _≤_}
-use mathlib.Core.Bool.{Bool, true, false, _&&_, false≢true}
+use mathlib.Core.Bool.{true, false}
 use mathlib.Core.Path.{_≡_, refl, sym}
 use mathlib.Core.List.{List, [], _∷_, _++_}
 use native.Mathlib.Nat.{add-mul, mul-assoc, add-assoc, pow-succ'}
@@ -9,12 +9,8 @@ use lib.ListN.{length, length-append}
 use lib.Dec.{leb}
 use lib.Pow.{pow-add}
 use borrow.Author.Tests.{leb-true}
+use Rattle.bytewise.proofs.Booleans.{and-both}
 use Rattle.value.specs.Numeral.{isDigit, digitsAhead, behindDigits, decimal}
-
--- both halves of a conjunction
-pub and-both : (a b : Bool) → a && b ≡ true → (a ≡ true) × (b ≡ true)
-and-both true b h = (refl, h)
-and-both false b h = absurd (false≢true h)
 
 pub digit-range : (x : ℕ) → isDigit x ≡ true → (48 ≤ x) × (x ≤ 57)
 unfolding isDigit

@@ -12,7 +12,8 @@ use Rattle.cut.specs.declared.service.Syntax.{Syntax}
 use Rattle.value.specs.declared.prices.Number.the-variants.{Amount}
 use Rattle.value.specs.Numeral.{some, none, isDigit, digitsAhead, behindDigits, minus, unsigned, whole, fraction, digits, isTail, isNumber, decimal}
 use Rattle.value.specs.Number.{signed, numberOf}
-use Rattle.value.proofs.Digitwise.{and-both, digit-range, ahead-more, ahead-stop, behind-more, behind-stop}
+use Rattle.bytewise.proofs.Booleans.{and-both}
+use Rattle.value.proofs.Digitwise.{digit-range, ahead-more, ahead-stop, behind-more, behind-stop}
 use Rattle.value.proofs.Counting.{digits-alone}
 
 -- the parts of a number, put together: sign, whole digits, and the mark where digits stand behind it

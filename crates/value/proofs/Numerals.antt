@@ -12,9 +12,9 @@ use Rattle.cut.specs.declared.service.Syntax.{Syntax}
 use Rattle.value.specs.declared.numeral.Run.{Run}
 use Rattle.value.specs.declared.numeral.Numeral.{Numeral}
 use Rattle.value.specs.declared.numeral.Numeral.the-variants.{Short, Long, Other}
-use Rattle.element.specs.Plain.{decoded}
+use Rattle.plain.specs.Plain.{decoded}
 use Rattle.value.specs.Numeral.{some, none, isDigit, digitsAhead, behindDigits, minus, unsigned, isTail, decimal}
-use Rattle.value.specs.Inner.{DigitRun, countedAs, numeralBy, unsignedOf, numeralOf}
+use Rattle.value.specs.workers.Scans.{DigitRun, countedAs, numeralBy, unsignedOf, numeralOf}
 use Rattle.value.proofs.Digitwise.{digit-range, ahead-more, ahead-stop, onto, onto-is, decimal-append}
 
 -- a row of no bytes, a row of some

@@ -10,11 +10,23 @@ use lib.ListN.{length, getD}
 use lib.Dec.{lit<}
 use Rattle.cut.specs.declared.service.Syntax.{Syntax}
 use Rattle.value.specs.declared.numeral.Run.{Run}
-use Rattle.element.specs.Plain.{decoded}
+use Rattle.plain.specs.Plain.{decoded}
 use Rattle.value.specs.Numeral.{isDigit, digitsAhead, behindDigits}
-use Rattle.element.proofs.Decoding.{Literal}
-use Rattle.value.specs.Inner.{Pushed, DigitRun}
-use Rattle.value.proofs.Digitwise.{digit-range, ahead-more, behind-more, ahead-stop, behind-stop, ahead-none, behind-none, onto, onto-none, onto-is, onto-digit}
+use Rattle.plain.proofs.Decoding.{Literal}
+use Rattle.value.specs.workers.Scans.{Pushed, DigitRun}
+use Rattle.value.proofs.Digitwise.{
+  digit-range,
+  ahead-more,
+  behind-more,
+  ahead-stop,
+  behind-stop,
+  ahead-none,
+  behind-none,
+  onto,
+  onto-none,
+  onto-is,
+  onto-digit,
+}
 
 -- a number below a power of ten, with a digit behind it
 pub digit-more : (v c n : ℕ) → v < 10 ^ n → c ≤ 9 → v * 10 + c < 10 ^ (n + 1)

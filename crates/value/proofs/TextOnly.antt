@@ -1,6 +1,6 @@
 -- A count is spelled in one way only: digits alone, without leading zeros, are the decimal text of their value.
 use Prim.Native.Nat.{ℕ, zero, suc, _+_, _-_, _*_, _/_, _%_, _≤_, _<_}
-use mathlib.Core.Bool.{Bool, true, false, not, _&&_, false≢true}
+use mathlib.Core.Bool.{Bool, true, false, not, _&&_, false≢true, cond}
 use mathlib.Core.Path.{_≡_, refl, sym, ap, ap₂, _∙_}
 use mathlib.Core.List.{List, [], _∷_, _++_}
 use native.Mathlib.Nat.{mul-le-mul, pow-le-pow-right}
@@ -11,9 +11,10 @@ use lib.Dec.{leb, lit<}
 use borrow.Author.Tests.{eqb-false, leb-true, not-true}
 use Rattle.value.specs.declared.counts.Count.the-variants.{Is, Nothing}
 use Rattle.value.specs.Numeral.{some, none, isDigit, behindDigits, decimal}
-use Rattle.value.specs.Digits.{padded, isCount, countOf, pickCount}
+use Rattle.value.specs.Digits.{padded, isCount, countOf}
 use Rattle.value.specs.Text.{digitsIn}
-use Rattle.value.proofs.Digitwise.{and-both, digit-range, decimal-nothing, onto, decimal-append}
+use Rattle.bytewise.proofs.Booleans.{and-both}
+use Rattle.value.proofs.Digitwise.{digit-range, decimal-nothing, onto, decimal-append}
 use Rattle.value.proofs.Texts.{digit-one, digit-last}
 use Rattle.value.proofs.Grammar.{allDigits, ahead-digits, none-row}
 use Rattle.value.proofs.Counting.{digits-alone}
@@ -114,7 +115,7 @@ pub count-spelled : (s : List ℕ) (n : ℕ) → countOf s ≡ Is n → s ≡ di
 unfolding countOf isCount
 count-spelled s n h = go (some s && (none (behindDigits s) && not (padded s)) && leb (length s) 15) refl h
   where
-    go : (b : Bool) → some s && (none (behindDigits s) && not (padded s)) && leb (length s) 15 ≡ b → pickCount b (Is (decimal s)) Nothing ≡ Is n → s ≡ digitsIn 20 n
+    go : (b : Bool) → some s && (none (behindDigits s) && not (padded s)) && leb (length s) 15 ≡ b → cond b (Is (decimal s)) Nothing ≡ Is n → s ≡ digitsIn 20 n
     go true e h =
         let v : decimal s ≡ n = cc in
         let p = and-both (some s && (none (behindDigits s) && not (padded s))) (leb (length s) 15) e in

@@ -16,7 +16,8 @@ use Rattle.value.specs.Numeral.{some, none, isDigit, decimal}
 use Rattle.value.specs.Number.{signed, numberOf}
 use Rattle.value.specs.Digits.{padded, isCount, countOf}
 use Rattle.value.specs.Text.{digitsIn, textOf}
-use Rattle.value.proofs.Digitwise.{and-both, decimal-nothing, onto, decimal-append}
+use Rattle.bytewise.proofs.Booleans.{and-both}
+use Rattle.value.proofs.Digitwise.{decimal-nothing, onto, decimal-append}
 use Rattle.value.proofs.Counting.{padded-other}
 use Rattle.value.proofs.Texts.{digit-one, digit-last, digits-few}
 use Rattle.value.proofs.Grammar.{sign, point, spelled, allDigits, Spelling, Apart, digits-whole, number-exact}

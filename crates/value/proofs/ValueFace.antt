@@ -19,7 +19,7 @@ use Rattle.value.specs.Numeral.{minus, fraction, digits, isNumber, decim
 use Rattle.value.specs.Format.{fitsFormat}
 use Rattle.value.specs.Number.{signed, numberOf}
 use Rattle.value.specs.Text.{textOf}
-use Rattle.value.proofs.Digitwise.{and-both}
+use Rattle.bytewise.proofs.Booleans.{and-both}
 use Rattle.value.proofs.Texts.{digits-few}
 -- the grammar of numbers both ways, and that the number of a price is exact
 pub use Rattle.value.proofs.Grammar.{spelled, Spelling, Parts, Apart, number-spelled, spelled-number, number-exact}

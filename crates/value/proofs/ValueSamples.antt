@@ -6,7 +6,7 @@ use lib.IntN.{pos, negsuc}
 use Rattle.cut.specs.declared.service.Syntax.{Syntax}
 use Rattle.cut.specs.Segments.{frees}
 use Rattle.value.specs.declared.prices.Number.the-variants.{Amount}
-use Rattle.element.specs.Plain.{plain, unlessMark}
+use Rattle.plain.specs.Plain.{plain, unlessMark}
 use Rattle.value.specs.Numeral.{some, none, isDigit, digitsAhead, behindDigits, minus, unsigned, whole, fraction, digits, isTail, isNumber, decimal}
 use Rattle.value.specs.Number.{numberOf}
 use Rattle.value.specs.Text.{digitsIn, textOf}

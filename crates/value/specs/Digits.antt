@@ -1,16 +1,12 @@
 -- Counts. Document 01, 'Message rules': "Counts and position numbers are digits alone, without leading zeros".
 use Prim.Native.Nat.{ℕ}
-use mathlib.Core.Bool.{Bool, true, false, not, _&&_}
+use mathlib.Core.Bool.{Bool, true, false, not, _&&_, cond}
 use mathlib.Core.List.{List, [], _∷_}
 use lib.ListN.{length}
 use lib.Dec.{leb, eqb}
 use Rattle.value.specs.declared.counts.Count.{Count}
 use Rattle.value.specs.declared.counts.Count.the-variants.{Is, Nothing}
 use Rattle.value.specs.Numeral.{some, none, behindDigits, decimal}
-
-abbrev pub pickCount : Bool → Count → Count → Count
-pickCount true a b = a
-pickCount false a b = b
 
 -- a leading zero is one with another byte behind it: `0` by itself has none
 unfoldable pub padded : List ℕ → Bool
@@ -24,4 +20,4 @@ isCount s = some s && (none (behindDigits s) && not (padded s))
 
 -- their value, up to fifteen digits
 unfoldable pub countOf : List ℕ → Count
-countOf s = pickCount (isCount s && leb (length s) 15) (Is (decimal s)) Nothing
+countOf s = cond (isCount s && leb (length s) 15) (Is (decimal s)) Nothing

@@ -1,6 +1,6 @@
 pub mod Digits
 pub mod Format
-pub mod Inner
+pub mod workers
 pub mod Number
 pub mod Numeral
 pub mod Text

@@ -7,11 +7,6 @@ use lib.ListN.{length, drop}
 use lib.Dec.{eqb, leb}
 use Rattle.cut.specs.declared.service.Syntax.{Syntax}
 
--- the first row if the test holds, else the second
-abbrev pub pickBytes : Bool → List ℕ → List ℕ → List ℕ
-pickBytes true s t = s
-pickBytes false s t = t
-
 -- whether a row has any byte, whether it has none
 unfoldable pub some : List ℕ → Bool
 some [] = false
@@ -28,12 +23,12 @@ isDigit x = leb 48 x && leb x 57
 -- the digits with which the bytes begin
 unfoldable pub digitsAhead : List ℕ → List ℕ
 digitsAhead [] = []
-digitsAhead (x ∷ xs) = pickBytes (isDigit x) (x ∷ digitsAhead xs) []
+digitsAhead (x ∷ xs) = cond (isDigit x) (x ∷ digitsAhead xs) []
 
 -- what stands behind these digits
 unfoldable pub behindDigits : List ℕ → List ℕ
 behindDigits [] = []
-behindDigits (x ∷ xs) = pickBytes (isDigit x) (behindDigits xs) (x ∷ xs)
+behindDigits (x ∷ xs) = cond (isDigit x) (behindDigits xs) (x ∷ xs)
 
 -- "an optional `-`": whether the bytes begin with it
 unfoldable pub minus : List ℕ → Bool
@@ -43,7 +38,7 @@ minus (x ∷ xs) = eqb x 45
 -- the bytes without their sign
 unfoldable pub unsigned : List ℕ → List ℕ
 unsigned [] = []
-unsigned (x ∷ xs) = pickBytes (eqb x 45) xs (x ∷ xs)
+unsigned (x ∷ xs) = cond (eqb x 45) xs (x ∷ xs)
 
 -- "digits": those before the mark
 unfoldable pub whole : List ℕ → List ℕ

@@ -1,10 +1,10 @@
 // Counts and position numbers: digits alone, without leading zeros.
 use crate::numeral::digits_from;
+use bytewise::limit_of;
 use cut::Syntax;
-use element::limit_of;
-use element::literal;
+use plain::literal;
 ghost use mathlib.Core.Path.{_≡_};
-ghost use Rattle.element.specs.Plain.{decoded};
+ghost use Rattle.plain.specs.Plain.{decoded};
 ghost use Rattle.value.specs.Digits.{countOf};
 
 // A count, or nothing where the bytes are none, or have more than fifteen digits.

@@ -1,15 +1,15 @@
 // How many digits a number has that is read as it stands: no byte of it is taken for a release mark.
 use crate::numeral::is_digit;
+use bytewise::limit_of;
 use cut::Syntax;
-use element::limit_of;
 ghost use Prim.Native.Nat.{_≤_, _<_};
 ghost use mathlib.Core.Bool.{not};
 ghost use mathlib.Core.Path.{_≡_};
 ghost use lib.ListN.{length};
-ghost use Rattle.cut.specs.Bytes.{part};
-ghost use Rattle.cut.specs.Eights.{Flagged};
+ghost use Rattle.bytewise.specs.Bytes.{part};
+ghost use Rattle.bytewise.specs.Eights.{Flagged};
 ghost use Rattle.value.specs.Numeral.{isDigit, digitCount};
-ghost use Rattle.value.specs.Inner.{DigitsEnd, behindSign};
+ghost use Rattle.value.specs.workers.Scans.{DigitsEnd, behindSign};
 
 // Which of eight bytes are no digit: a byte without its high bit is 58 or more, or less than 48, or has that bit. No sum reaches the next byte.
 fn others_in(w: u64) -> u64
@@ -50,9 +50,9 @@ fn digits_end(d: &[u8], from: usize, e: usize) -> usize
         if last < i {
             return single_digits_end(d, i, e);
         }
-        let m = others_in(cut::eight_at(d, i));
+        let m = others_in(bytewise::eight_at(d, i));
         if m != 0 {
-            return i + cut::first_of(m);
+            return i + bytewise::first_of(m);
         }
         i += 8;
     }

@@ -2,13 +2,13 @@
 use crate::numeral::Numeral;
 use crate::numeral::numeral_of;
 use cut::Syntax;
-use element::plain_length;
+use plain::plain_length;
 ghost use mathlib.Core.Bool.{_&&_};
 ghost use mathlib.Core.Path.{_≡_};
 ghost use lib.Dec.{leb, eqb};
-ghost use Rattle.element.specs.Plain.{decoded};
+ghost use Rattle.plain.specs.Plain.{decoded};
 ghost use Rattle.value.specs.Format.{fitsFormat};
-ghost use Rattle.value.specs.Inner.{digitsOf, numeralOf};
+ghost use Rattle.value.specs.workers.Scans.{digitsOf, numeralOf};
 
 // an..k, ank, n..k and nk.
 pub enum Format {

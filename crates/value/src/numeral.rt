@@ -1,14 +1,14 @@
 // A number as it is written: sign, digits, mark, digits. One pass, shared by formats, prices and counts.
+use bytewise::limit_of;
 use cut::Syntax;
-use element::limit_of;
-use element::literal;
+use plain::literal;
 ghost use Prim.Native.Nat.{_≤_, _<_, _^_};
 ghost use mathlib.Core.Bool.{true};
 ghost use mathlib.Core.Path.{_≡_};
 ghost use lib.ListN.{length};
-ghost use Rattle.element.specs.Plain.{decoded};
+ghost use Rattle.plain.specs.Plain.{decoded};
 ghost use Rattle.value.specs.Numeral.{isDigit};
-ghost use Rattle.value.specs.Inner.{Pushed, DigitRun, numeralOf, unsignedOf, countedAs};
+ghost use Rattle.value.specs.workers.Scans.{Pushed, DigitRun, numeralOf, unsignedOf, countedAs};
 
 // Digits from a place on: how many, their value, and the place of the first byte that is none.
 pub(crate) struct Run {

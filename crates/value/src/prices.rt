@@ -4,7 +4,7 @@ use crate::numeral::numeral_of;
 use cut::Syntax;
 ghost use Prim.Native.Nat.{_<_, _^_};
 ghost use mathlib.Core.Path.{_≡_};
-ghost use Rattle.element.specs.Plain.{decoded};
+ghost use Rattle.plain.specs.Plain.{decoded};
 ghost use Rattle.value.specs.Number.{signed, numberOf};
 
 // 168.06 is 16806 and 2; what is no number, or has more than fifteen digits, has no value here.

@@ -1,15 +1,14 @@
 -- Demand 2 for a message: it is accepted exactly if it is `Accepted`, with the count of its segments and the byte after it. For every table
 -- that passes the tests, with any pages.
-use Prim.Native.Nat.{ℕ, suc}
-use mathlib.Core.Path.{_≡_, refl, sym, _∙_, ap}
-use mathlib.Core.Bool.{Bool, true, false, true≢false}
+use Prim.Native.Nat.{ℕ}
+use mathlib.Core.Path.{_≡_, refl, sym, _∙_}
+use mathlib.Core.Bool.{Bool, true, false, true≢false, cond}
 use mathlib.Core.Logic.{_↔_}
-use mathlib.Core.List.{List, _∷_}
-use native.Mathlib.Omega.{arith}
-use lib.ListN.{length, getD}
+use mathlib.Core.List.{List}
+use lib.ListN.{length}
 use Rattle.cut.specs.declared.service.Syntax.{Syntax}
 use Rattle.cut.specs.Segments.{Segment}
-use Rattle.cut.specs.Messages.{Message, closeOf}
+use Rattle.messages.specs.Messages.{Message, closeOf}
 use Rattle.guide.specs.Nodes.{Guide}
 use Rattle.guide.specs.Pricat.{pricat20d, pricat20c}
 use Rattle.guide.specs.Page.{Page}
@@ -18,26 +17,23 @@ use Rattle.guide.specs.Pages20c.{pageOf20c}
 use Rattle.guide.specs.Pages20d.{pageOf}
 use Rattle.guide.specs.declared.edition.Edition.{Edition}
 use Rattle.guide.specs.declared.edition.Edition.the-variants.{D, C}
-use Rattle.guide.specs.Tree.{assigned}
-use Rattle.guide.specs.Checks.{Passes}
-use Rattle.guide.specs.Frames.{Framed}
-use Rattle.guide.specs.Heads.{Foremost}
+use Rattle.guide.specs.workers.Checks.{Passes}
+use Rattle.guide.specs.workers.Frames.{Framed}
+use Rattle.guide.specs.workers.Heads.{Foremost}
 use Rattle.guide.specs.Accepted.{segmentsOf, Proper, Accepted}
-use Rattle.guide.specs.Refusal.{Repeats, Refused, Refusal, for-fault, for-agreement}
-use Rattle.guide.specs.Judging.{Verdict, accepts, refuses, pickVerdict, judged}
+use Rattle.guide.specs.Answers.{Verdict, accepts, refuses}
+use Rattle.guide.specs.workers.Judging.{judged}
 use Rattle.guide.proofs.Editions.{pricat20d-passes, pricat20c-passes}
-use Rattle.guide.proofs.Framing.{pricat20d-framed, pricat20c-framed}
+use Rattle.guide.proofs.tables.Framing.{pricat20d-framed, pricat20c-framed}
 use Rattle.guide.proofs.Heading.{pricat20d-foremost, pricat20c-foremost}
-use Rattle.guide.proofs.FaultlessParts.{nodesIn}
-use Rattle.guide.proofs.Verdicts.{accepts-refuses}
+use Rattle.guide.proofs.judging.Verdicts.{accepts-refuses}
 use Rattle.guide.proofs.JudgedProper.{accepts-iff}
-use Rattle.guide.proofs.JudgedRefused.{refuses-iff}
-use Rattle.agree.specs.declared.agree_first.Agreeing.{Agreeing}
-use Rattle.agree.specs.declared.agree_first.Agreeing.the-variants.{At, Nothing}
-use Rattle.agree.proofs.AgreeRefusal.{searched, accepted-iff, repeats-iff, repeats-found, repeated-node}
-use Rattle.verdict.specs.Named.{editionOf, guideNamed, pagesNamed, namedOf}
-use Rattle.verdict.specs.Verdicts.{nodesOf, nodeOf, forIntervals, unlessAgreeing, settled, verdictFrom, verdictOf}
-use Rattle.verdict.proofs.Intervals.{nodes-tree, compared-iff}
+use Rattle.agree.specs.declared.first.Agreeing.{Agreeing}
+use Rattle.agree.specs.declared.first.Agreeing.the-variants.{At, Nothing}
+use Rattle.agree.proofs.Refusal.{searched, accepted-iff}
+use Rattle.verdict.specs.Named.{editionOf, guideNamed, pagesNamed}
+use Rattle.verdict.specs.Verdicts.{namedOf, nodesOf, forIntervals, unlessAgreeing, settled, verdictFrom, verdictOf}
+use Rattle.verdict.proofs.Intervals.{compared-iff}
 
 module _
     (y : Syntax) (g : Guide) (pages : ℕ → Page) (u : ℕ) (p : Passes g u) (h : ℕ) (q : Framed g h u) (f : Foremost g) (m : Message)
@@ -79,7 +75,7 @@ module _
         v = accepts-iff y g pages u p h q m n e .0 j
 
         go
-            : (b : Bool) → free ≡ b → pickVerdict b (accepts n e) (unlessAgreeing y g ss (searched y m) (accepts n e)) ≡ accepts k o
+            : (b : Bool) → free ≡ b → cond b (accepts n e) (unlessAgreeing y g ss (searched y m) (accepts n e)) ≡ accepts k o
             → Stands k o
         go true b x =
             let c = compared-iff y g u p ss (v .0 .sheet) in
@@ -97,7 +93,7 @@ module _
         let j = accepts-iff y g pages u p h q m n e .1 (x .0 .proper, x .1, x .2) in
         rw j (go free refl)
       where
-        go : (b : Bool) → free ≡ b → pickVerdict b (accepts n e) (unlessAgreeing y g ss (searched y m) (accepts n e)) ≡ accepts n e
+        go : (b : Bool) → free ≡ b → cond b (accepts n e) (unlessAgreeing y g ss (searched y m) (accepts n e)) ≡ accepts n e
         go true b = refl
         go false b =
             let c = compared-iff y g u p ss (x .0 .proper .sheet) .0 b in

@@ -2,8 +2,8 @@
 use mathlib.Core.Path.{_≡_, sym, subst}
 use mathlib.Core.List.{List, [], _∷_, List·Memᴰ, List·Memᴰ·not-nil, List·Memᴰ·cases-cons}
 use mathlib.Core.Logic.{_⊎_, inl, inr}
-use Rattle.cut.specs.Messages.{Message}
-use Rattle.cut.proofs.Members.{Each}
+use Rattle.messages.specs.Messages.{Message}
+use Rattle.messages.proofs.Members.{Each}
 
 -- what holds of each holds of a member
 pub each-member : (P : Message → Type 0) (m : Message) (ms : List Message) → Each P ms → List·Memᴰ m ms → P m

@@ -1,25 +1,25 @@
 -- Where BGM has Z04: what the nodes that placing gives say of it, and what the tree says.
 use Prim.Native.Nat.{ℕ}
-use mathlib.Core.Path.{_≡_, refl, sym, _∙_, ap, ap₂}
+use mathlib.Core.Path.{_≡_, refl, sym, _∙_, ap₂}
 use mathlib.Core.Bool.{Bool, true, false, _&&_, _||_, true≢false}
 use mathlib.Core.Logic.{_↔_}
-use mathlib.Core.List.{List, [], _∷_, _++_, map}
+use mathlib.Core.List.{List, [], _∷_, _++_}
 use Rattle.cut.specs.declared.service.Syntax.{Syntax}
-use Rattle.cut.specs.Bytes.{bytesOf}
+use Rattle.bytewise.specs.Bytes.{bytesOf}
 use Rattle.cut.specs.Segments.{Segment}
-use Rattle.element.specs.Plain.{same}
+use Rattle.plain.specs.Plain.{same}
 use Rattle.element.proofs.ComponentFace.{same-refl, same-true}
 use Rattle.guide.specs.Nodes.{Guide, capacity}
 use Rattle.guide.specs.Content.{text}
 use Rattle.guide.specs.Tree.{Given, assigned, Whole}
-use Rattle.guide.specs.Checks.{Passes}
+use Rattle.guide.specs.workers.Checks.{Passes}
 use Rattle.guide.specs.Sheet.{onlyIf, isTag, withTag}
 use Rattle.guide.specs.Accepted.{Each, seen, Compared}
-use Rattle.guide.proofs.Growing.{assigned-segments}
-use Rattle.guide.proofs.Ending.{whole-begins}
+use Rattle.guide.proofs.placing.Growing.{assigned-segments}
+use Rattle.guide.proofs.placing.Ending.{whole-begins}
 use Rattle.guide.proofs.Fitting.{given-assigned}
-use Rattle.guide.proofs.Faultless.{segmentsIn}
-use Rattle.guide.proofs.FaultlessParts.{nodesIn}
+use Rattle.guide.proofs.judging.Faultless.{segmentsIn}
+use Rattle.guide.proofs.judging.FaultlessParts.{nodesIn}
 use Rattle.verdict.specs.Verdicts.{nodesOf, forIntervals}
 
 module _ (y : Syntax) (g : Guide) where

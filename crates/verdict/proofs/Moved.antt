@@ -6,24 +6,21 @@ use mathlib.Core.List.{List, [], _∷_, _++_, map}
 use native.Mathlib.Nat.{add-zero, add-assoc}
 use lib.ListN.{length}
 use Rattle.cut.specs.declared.service.Syntax.{Syntax}
-use Rattle.cut.specs.Bytes.{bytesOf, begins}
+use Rattle.bytewise.specs.Bytes.{bytesOf, begins}
 use Rattle.cut.specs.Segments.{Segment, endOf, segmentsFrom}
-use Rattle.cut.specs.Messages.{Message, startOf}
-use Rattle.cut.specs.Fronts.{moved, movedMessage}
+use Rattle.messages.specs.Messages.{Message, startOf}
+use Rattle.cut.specs.Fronts.{moved}
+use Rattle.messages.specs.Fronts.{movedMessage}
 use Rattle.cut.proofs.Appended.{segments-moved}
-use Rattle.guide.specs.Answers.{Answer, placed, refused}
+use Rattle.guide.specs.Answers.{Answer, placed, refused, Verdict, accepts, refuses}
 use Rattle.guide.specs.Nodes.{View, Guide}
 use Rattle.guide.specs.Views.{viewOf}
 use Rattle.guide.specs.Page.{Page}
-use Rattle.guide.specs.Placing.{place}
+use Rattle.guide.specs.workers.Placing.{place}
 use Rattle.guide.specs.Sheet.{isTag}
 use Rattle.guide.specs.Accepted.{seen, segmentsOf}
-use Rattle.guide.specs.Judging.{
+use Rattle.guide.specs.workers.Judging.{
   Memory,
-  Verdict,
-  accepts,
-  refuses,
-  pickVerdict,
   fresh,
   bytesFault,
   endFault,
@@ -37,20 +34,20 @@ use Rattle.guide.specs.Judging.{
   judgeFrom,
 }
 use Rattle.agree.specs.Agreement.{Heading}
-use Rattle.agree.specs.AgreePositions.{Listed, nextIf, behindIf, headingFrom, positionsFrom, positionsOf, agreesAny, firstAfter, firstAgreeing}
-use Rattle.agree.specs.declared.agree_first.Agreeing.{Agreeing}
-use Rattle.agree.specs.declared.agree_first.Agreeing.the-variants.{At, Nothing}
-use Rattle.verdict.specs.Named.{editionOf, guideNamed, pagesNamed, namedOf}
-use Rattle.verdict.specs.Verdicts.{nodesOf, nodeOf, forIntervals, unlessAgreeing, settled, verdictFrom, verdictOf}
+use Rattle.agree.specs.Positions.{Listed, nextIf, behindIf, headingFrom, positionsFrom, positionsOf, agreesAny, firstAfter, firstAgreeing}
+use Rattle.agree.specs.declared.first.Agreeing.{Agreeing}
+use Rattle.agree.specs.declared.first.Agreeing.the-variants.{At, Nothing}
+use Rattle.verdict.specs.Named.{editionOf, guideNamed, pagesNamed}
+use Rattle.verdict.specs.Verdicts.{namedOf, nodesOf, nodeOf, forIntervals, unlessAgreeing, settled, verdictFrom, verdictOf}
 use Rattle.verdict.specs.Moves.{movedVerdict}
 
-pick-moved : (k : ℕ) (b : Bool) (v w : Verdict) → pickVerdict b (movedVerdict k v) (movedVerdict k w) ≡ movedVerdict k (pickVerdict b v w)
+pick-moved : (k : ℕ) (b : Bool) (v w : Verdict) → cond b (movedVerdict k v) (movedVerdict k w) ≡ movedVerdict k (cond b v w)
 pick-moved k true v w = refl
 pick-moved k false v w = refl
 
 -- judging looks at a segment's bytes and at whether it is a piece
 module _ (y : Syntax) (g : Guide) (pages : ℕ → Page) (k : ℕ) where
-  bytes-moved : (s : Segment) → bytesFault y g pages (moved k s) ≡ bytesFault y g pages s
+  bytes-moved : (s : Segment) → bytesFault y (moved k s) ≡ bytesFault y s
   unfolding bytesFault
   bytes-moved s = refl
 

@@ -1,7 +1,7 @@
 -- The verdict as the declared enum has it, and document 01's numbers for each case.
 use Prim.Native.Nat.{ℕ}
 use mathlib.Core.List.{List, [], _∷_}
-use Rattle.guide.specs.Judging.{accepts, refuses, Verdict as Judged}
+use Rattle.guide.specs.Answers.{accepts, refuses, Verdict as Judged}
 use Rattle.verdict.specs.declared.answers.Judged.{Judged as JudgedAt}
 use Rattle.verdict.specs.declared.answers.Verdict.{Verdict}
 use Rattle.verdict.specs.declared.answers.Verdict.the-variants.{Accepted, Refused}

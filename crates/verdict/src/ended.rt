@@ -11,13 +11,13 @@ ghost use mathlib.Core.Bool.{false};
 ghost use mathlib.Core.Path.{_≡_};
 ghost use Rattle.verdict.specs.declared.answers.Verdict.the-variants.{Accepted};
 ghost use Rattle.verdict.specs.declared.ended.Conclusion.the-variants.{Told};
-ghost use Rattle.verdict.specs.Workers.{NoneAgrees, EndedAs};
+ghost use Rattle.verdict.specs.workers.Ends.{NoneAgrees, EndedAs};
 
-// The verdict of a message whose segments have no fault; or 23, of which only the node is open: the segment and the place of the first position that agrees
+// The verdict of a message whose segments have no fault; or 23, of which a second walk names segment and node: the place of the first position that agrees
 // with an earlier one.
 pub enum Conclusion {
     Told(Verdict),
-    Agrees { segment: usize, place: usize },
+    Agrees { place: usize },
 }
 
 fn accepted(n: usize, at: usize) -> Conclusion
@@ -44,9 +44,10 @@ pub(crate) fn ended(
     ensures { λ r. ⌜ EndedAs edition y (now (d .entry)) start kept n at r ⌝ }
 {
     if !has_tag(edition, kept.last, b'U', b'N', b'T') {
+        let segment = n + 1;
         return Conclusion::Told(Verdict::Refused {
             number: 24,
-            segment: n + 1,
+            segment,
             place: at,
             node: 0,
         });
@@ -58,7 +59,7 @@ pub(crate) fn ended(
         return accepted(n, at);
     }
     match first_agreeing(y, d, start, at) {
-        Agreeing::At { segment, place } => Conclusion::Agrees { segment, place },
+        Agreeing::At { segment: _, place } => Conclusion::Agrees { place },
         Agreeing::Nothing => accepted(n, at),
     }
 }

@@ -4,21 +4,20 @@ use crate::roles::Role;
 use cut::Syntax;
 use element::Span;
 use element::component_at;
-use element::same_plain;
 use guide::Edition;
+use plain::same_plain;
 use value::Count;
 use value::count_of;
 ghost use Prim.Native.Nat.{suc, _<_, _^_};
 ghost use mathlib.Core.Path.{_≡_};
 ghost use mathlib.Core.Bool.{false};
 ghost use mathlib.Core.List.{[]};
-ghost use Rattle.cut.specs.Bytes.{part};
+ghost use Rattle.bytewise.specs.Bytes.{part};
 ghost use Rattle.value.specs.Digits.{countOf};
 ghost use Rattle.guide.specs.Content.{text};
-ghost use Rattle.guide.specs.Judging.{is, endFault};
-ghost use Rattle.guide.specs.Editions.{guideOf, pagesOf};
+ghost use Rattle.guide.specs.workers.Judging.{is};
 ghost use Rattle.page.specs.Reading.{segmentIn};
-ghost use Rattle.verdict.specs.Workers.{spanned, noted, ruleBy};
+ghost use Rattle.verdict.specs.workers.Segments.{spanned, noted, endFaultIn, ruleBy};
 
 // Whether the component `first` is the count n.
 fn is_numbered(y: Syntax, d: &[u8], first: Span, n: usize) -> bool
@@ -44,7 +43,7 @@ fn end_fault(
     reference: Span,
 ) -> u32
     requires { ⌜ spanned y first (now d) ≡ text y (part start end (now d)) 1 0 ⌝ }
-    ensures { λ r. ⌜ r ≡ endFault y (guideOf edition) (pagesOf edition) i (spanned y reference (now (d .entry))) (segmentIn start end false (now (d .entry))) ⌝ }
+    ensures { λ r. ⌜ r ≡ endFaultIn edition y (now (d .entry)) start end i reference ⌝ }
 {
     if !is_numbered(y, d, first, i) {
         return 21;

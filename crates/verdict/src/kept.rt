@@ -1,18 +1,17 @@
 // What is kept of a message's segments from one to the next, beside the counts of placing.
 use crate::roles::Role;
 use crate::segment::Found;
-use agree::note_article;
 use cut::Syntax;
 use element::Span;
-use element::is_code;
+use plain::is_code;
+use sieve::note_article;
 ghost use Prim.Native.Nat.{suc, _<_, _^_};
 ghost use mathlib.Core.Path.{_≡_};
-ghost use mathlib.Core.Bool.{cond, _||_};
-ghost use Rattle.cut.specs.Bytes.{bytesOf};
-ghost use Rattle.element.specs.Plain.{same};
-ghost use Rattle.agree.specs.AgreeArticles.{articlePrint};
-ghost use Rattle.agree.specs.AgreeCame.{cameIn, noteIn};
-ghost use Rattle.verdict.specs.Workers.{spanned, keptFirst, unasked, cameAfter, keptAfter};
+ghost use mathlib.Core.Bool.{true, false, _||_};
+ghost use Rattle.bytewise.specs.Bytes.{bytesOf};
+ghost use Rattle.plain.specs.Plain.{same};
+ghost use Rattle.verdict.specs.workers.Kept.{keptFirst, keptAfter, Undoubted, UndoubtedBy};
+ghost use Rattle.verdict.specs.workers.Segments.{spanned};
 
 // The last node, how many positions there were, where the reference in UNH stands, whether BGM has the code Z04, and whether there is a doubt that no
 // two positions agree: an article may have come twice.
@@ -64,8 +63,7 @@ fn intervals_after(y: Syntax, d: &[u8], first: Span, intervals: bool) -> bool
 // Whether there is a doubt after a LIN with the article `third`, which is noted in the table of those that came. Where positions are not compared, or
 // there is a doubt already, no article is looked at: the answer is that of `agree` then, or is not asked for.
 fn doubt_after(y: Syntax, d: &[u8], third: Span, kept: Kept, came: &mut [u64; 256]) -> bool
-    ensures { λ r. ⌜ r ≡ unasked kept || cameIn (now (came .entry)) (articlePrint (spanned y third (now (d .entry)))) ⌝ }
-    ensures { λ _. ⌜ now (came .exit) ≡ cond (unasked kept) (now (came .entry)) (noteIn (now (came .entry)) (articlePrint (spanned y third (now (d .entry))))) ⌝ }
+    ensures { λ r. ⌜ (r ≡ false → Undoubted true (kept .doubt) (now (came .entry)) (now (came .exit)) (spanned y third (now (d .entry)))) ⌝ }
 {
     if kept.intervals {
         return true;
@@ -81,8 +79,8 @@ fn doubt_after(y: Syntax, d: &[u8], third: Span, kept: Kept, came: &mut [u64; 25
 // What is kept after a segment that is placed; `came` is the table of the articles that came.
 pub(crate) fn keep(y: Syntax, d: &[u8], found: Found, kept: Kept, came: &mut [u64; 256]) -> Kept
     requires { ⌜ suc (kept .positions) < 2 ^ 64 ⌝ }
-    ensures { λ r. ⌜ r ≡ keptAfter y (now (d .entry)) (now (came .entry)) found kept ⌝ }
-    ensures { λ _. ⌜ now (came .exit) ≡ cameAfter y (now (d .entry)) (now (came .entry)) found kept ⌝ }
+    ensures { λ r. ⌜ r ≡ keptAfter y (now (d .entry)) found kept (r .doubt) ⌝ }
+    ensures { λ r. ⌜ (r .doubt ≡ false → UndoubtedBy y (now (d .entry)) found kept (now (came .entry)) (now (came .exit))) ⌝ }
 {
     let role = found.role;
     let last = found.node;

@@ -10,27 +10,25 @@ use crate::kept::begun;
 use crate::kept::keep;
 use crate::segment::Answered;
 use crate::segment::segment_answer;
-use cut::Head;
 use cut::Syntax;
-use cut::head_at;
-use cut::message_end;
 use guide::Edition;
 use judge::number_of;
+use messages::Head;
+use messages::head_at;
+use messages::message_end;
 ghost use Prim.Native.Nat.{_≤_};
-ghost use mathlib.Core.Bool.{false};
 ghost use mathlib.Core.Path.{_≡_};
-ghost use lib.ListN.{length, drop};
-ghost use Rattle.cut.specs.Held.{unless, held};
-ghost use Rattle.cut.specs.Messages.{lastEnd, body};
-ghost use Rattle.cut.specs.Segments.{segmentsFrom, segmentsAt};
+ghost use lib.ListN.{length};
+ghost use Rattle.messages.specs.Held.{unless};
+ghost use Rattle.cut.specs.Segments.{lastEnd, segmentsAt};
+ghost use Rattle.messages.specs.Messages.{body};
 ghost use Rattle.guide.specs.Nodes.{numberOf};
-ghost use Rattle.guide.specs.Judging.{refuses, fresh};
-ghost use Rattle.guide.specs.Editions.{guideOf, pagesOf};
+ghost use Rattle.guide.specs.Answers.{refuses};
+ghost use Rattle.guide.specs.Editions.{guideOf};
 ghost use Rattle.verdict.specs.Answers.{declared, judgedAs};
-ghost use Rattle.verdict.specs.Named.{verdictNamed};
-ghost use Rattle.verdict.specs.Until.{judgeUntil};
-ghost use Rattle.verdict.specs.Verdicts.{verdictFrom};
-ghost use Rattle.verdict.specs.Workers.{closedBy, toldBy, toldAgain, Closable};
+ghost use Rattle.verdict.specs.Named.{heldAt};
+ghost use Rattle.verdict.specs.Verdicts.{verdictNamed};
+ghost use Rattle.verdict.specs.workers.Ends.{closedBy, toldBy, toldAgain, Closable, judgedAt, untilAt};
 ghost use Rattle.verdict.specs.declared.message.Walked.the-variants.{Refused};
 
 // What comes of a message's segments: if one is refused, the answer for the message; or else what is kept of them, how many there are, and where they
@@ -46,7 +44,7 @@ fn with_end(verdict: Verdict, end: usize) -> Judged
     Judged { verdict, end }
 }
 
-// A segment's refusal: the node of its row is named by its number in the guide.
+// The refusal of a segment: the node of its row is named by its number in the guide.
 fn refused(edition: Edition, number: u32, segment: usize, place: usize, row: usize) -> Verdict
     ensures { λ r. ⌜ r ≡ declared (refuses number segment place (numberOf (guideOf edition) row)) ⌝ }
 {
@@ -70,24 +68,18 @@ fn close_of(y: Syntax, d: &[u8], end: usize, last: bool) -> usize
 }
 
 // The walk ends at a segment that has no fault, and names its node.
-fn stopped(segment: usize, place: usize, node: usize, end: usize) -> Walked
-    ensures { λ r. ⌜ r ≡ Refused (judgedAs (declared (refuses 23 segment place node)) end) ⌝ }
+fn stopped(edition: Edition, segment: usize, place: usize, row: usize, end: usize) -> Walked
+    ensures { λ r. ⌜ r ≡ Refused (judgedAs (declared (refuses 23 segment place (numberOf (guideOf edition) row))) end) ⌝ }
 {
-    let verdict = Verdict::Refused {
-        number: 23,
-        segment,
-        place,
-        node,
-    };
-    Walked::Refused(with_end(verdict, end))
+    Walked::Refused(with_end(refused(edition, 23, segment, place, row), end))
 }
 
 // The segments of the message that begins at `start`, one after the other; at one that begins at `stop` and has no fault it ends with 23. It returns before
 // positions are compared: that takes a table of its own, and the compiler lays it over `came`.
 fn walk(y: Syntax, edition: Edition, d: &[u8], start: usize, stop: usize) -> Walked
-    ensures { λ r. ⌜ (length (now (d .entry)) ≤ stop → closedBy edition y (now (d .entry)) start r ≡ judgedAs (declared (verdictFrom y (guideOf edition) (pagesOf edition) start (held (segmentsAt y (now (d .entry)) start)))) (lastEnd start (held (segmentsAt y (now (d .entry)) start)))) ⌝ }
+    ensures { λ r. ⌜ (length (now (d .entry)) ≤ stop → closedBy edition y (now (d .entry)) start r ≡ judgedAt edition y (now (d .entry)) start) ⌝ }
     ensures { λ r. ⌜ Closable edition y (now (d .entry)) start r ⌝ }
-    ensures { λ r. ⌜ toldBy edition r ≡ declared (judgeUntil y (guideOf edition) (pagesOf edition) stop 0 start fresh (held (segmentsAt y (now (d .entry)) start))) ⌝ }
+    ensures { λ r. ⌜ toldBy edition r ≡ declared (untilAt edition y (now (d .entry)) start stop) ⌝ }
 {
     let mut counts = [0u32; 96];
     let mut came = [0u64; 256];
@@ -104,7 +96,7 @@ fn walk(y: Syntax, edition: Edition, d: &[u8], start: usize, stop: usize) -> Wal
         let end = match answer {
             Answered::Fits(found, end) => {
                 if at == stop {
-                    return stopped(n + 1, at, found.node, end);
+                    return stopped(edition, n + 1, at, found.node, end);
                 }
                 kept = keep(y, d, found, kept, &mut came);
                 end
@@ -134,11 +126,11 @@ fn told_by(told: Judged, again: bool, close: usize) -> Judged
     told
 }
 
-// The verdict and the end of the message that the segment at `start` begins, by the guide of an edition. No segment begins at the end of `d`, so the first walk
-// goes through. Where a position agrees with an earlier one, a second walk up to it names its node. Both are one call, and `place` has no other, so that
-// the compiler makes it part of the walk.
+// The verdict and the end of the message that the segment at `start` begins, by the guide of an edition. No segment begins at the end of `d`, so the
+// first walk goes through. Where a position agrees with an earlier one, a second walk up to it names its node. Both are one call, and `place` has no other,
+// so that the compiler makes it part of the walk.
 fn judged_by(y: Syntax, edition: Edition, d: &[u8], start: usize) -> Judged
-    ensures { λ r. ⌜ r ≡ judgedAs (declared (verdictFrom y (guideOf edition) (pagesOf edition) start (held (segmentsAt y (now (d .entry)) start)))) (lastEnd start (held (segmentsAt y (now (d .entry)) start))) ⌝ }
+    ensures { λ r. ⌜ r ≡ judgedAt edition y (now (d .entry)) start ⌝ }
 {
     let mut stop = d.len();
     let mut close = start;
@@ -152,7 +144,7 @@ fn judged_by(y: Syntax, edition: Edition, d: &[u8], start: usize) -> Judged
                 Conclusion::Told(verdict) => {
                     return with_end(verdict, at);
                 }
-                Conclusion::Agrees { segment: _, place } => {
+                Conclusion::Agrees { place } => {
                     stop = place;
                     close = at;
                 }
@@ -164,7 +156,7 @@ fn judged_by(y: Syntax, edition: Edition, d: &[u8], start: usize) -> Judged
 
 // The verdict and the end of the message that the segment at `start` begins, by the guide named in UNH.
 pub fn judged(y: Syntax, d: &[u8], start: usize) -> Judged
-    ensures { λ r. ⌜ r ≡ judgedAs (declared (verdictNamed y start (held (segmentsFrom y start false (drop start (now (d .entry))))))) (lastEnd start (held (segmentsFrom y start false (drop start (now (d .entry)))))) ⌝ }
+    ensures { λ r. ⌜ r ≡ judgedAs (declared (verdictNamed y start (heldAt y (now (d .entry)) start))) (lastEnd start (heldAt y (now (d .entry)) start)) ⌝ }
 {
     judged_by(y, edition_at(y, d, start), d, start)
 }

@@ -2,7 +2,7 @@
 use guide::Edition;
 ghost use mathlib.Core.Path.{_≡_};
 ghost use Rattle.guide.specs.declared.edition.Edition.the-variants.{D, C};
-ghost use Rattle.verdict.specs.Workers.{roleOf};
+ghost use Rattle.verdict.specs.workers.Segments.{roleOf};
 
 // By the tag of its node: LIN is numbered, UNT has the count and the reference of UNH, and BGM says whether positions are compared.
 pub enum Role {

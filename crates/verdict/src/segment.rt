@@ -13,16 +13,12 @@ use judge::place;
 use page::bytes_fault;
 use page::read;
 ghost use Prim.Native.Nat.{suc, _<_, _^_};
-ghost use mathlib.Core.List.{[]};
 ghost use mathlib.Core.Path.{_≡_};
 ghost use lib.Dec.{ltb};
-ghost use Rattle.cut.specs.Calls.{segmentAt};
-ghost use Rattle.guide.specs.Answers.{placed, refused};
+ghost use Rattle.guide.specs.Answers.{refused};
 ghost use Rattle.guide.specs.Choices.{pickℕ};
-ghost use Rattle.guide.specs.Judging.{thenContent};
-ghost use Rattle.guide.specs.Editions.{guideOf, pagesOf};
 ghost use Rattle.verdict.specs.declared.segment.Answered.the-variants.{Refused};
-ghost use Rattle.verdict.specs.Workers.{noted, cutAnswer, placedAnswer, CountedOn};
+ghost use Rattle.verdict.specs.workers.Segments.{answerAt, contentAnswer, placedAnswer, CountedOn};
 
 // A segment that is placed: its node, what that is to the rules of a message, and where the first component behind the tag stands and the first of
 // element 3.
@@ -54,7 +50,7 @@ fn content_answer(
     kept: Kept,
 ) -> Answered
     requires { ⌜ suc (kept .positions) < 2 ^ 64 ⌝ }
-    ensures { λ r. ⌜ r ≡ cutAnswer edition y (now (d .entry)) start (λ s. thenContent y (guideOf edition) (pagesOf edition) i (noted y kept [] (now (d .entry))) s (placed n)) (segmentAt y (now (d .entry)) start) ⌝ }
+    ensures { λ r. ⌜ r ≡ answerAt edition y (now (d .entry)) start (contentAnswer edition y (now (d .entry)) i kept n) ⌝ }
 {
     let page = read(y, edition, n, d, start);
     let number = page.number;
@@ -104,7 +100,7 @@ fn page_refused(number: u32, n: usize, end: usize) -> Answered
 
 // The segment that begins at `at`, which placing refuses: 12, 10 and 11 come before that.
 fn misplaced(y: Syntax, edition: Edition, d: &[u8], at: usize, number: u32, node: usize) -> Answered
-    ensures { λ r. ⌜ r ≡ cutAnswer edition y (now (d .entry)) at (λ _. refused number node) (segmentAt y (now (d .entry)) at) ⌝ }
+    ensures { λ r. ⌜ r ≡ answerAt edition y (now (d .entry)) at (λ _. refused number node) ⌝ }
 {
     let s = segment_at(y, d, at);
     let Cut::Segment {
@@ -119,7 +115,7 @@ fn misplaced(y: Syntax, edition: Edition, d: &[u8], at: usize, number: u32, node
             end: at,
         };
     };
-    let fault = bytes_fault(y, edition, d, at, end, piece);
+    let fault = bytes_fault(y, d, at, end, piece);
     if fault != 0 {
         return Answered::Refused {
             number: fault,
@@ -142,7 +138,7 @@ pub(crate) fn segment_answer(
     counts: &mut [u32; 96],
 ) -> Answered
     requires { ⌜ suc (kept .positions) < 2 ^ 64 ⌝ }
-    ensures { λ r. ⌜ r ≡ cutAnswer edition y (now (d .entry)) start (placedAnswer edition y (now (d .entry)) i kept (now (counts .entry))) (segmentAt y (now (d .entry)) start) ⌝ }
+    ensures { λ r. ⌜ r ≡ answerAt edition y (now (d .entry)) start (placedAnswer edition y (now (d .entry)) i kept (now (counts .entry))) ⌝ }
     ensures { λ r. ⌜ CountedOn edition r (now (counts .entry)) (now (counts .exit)) ⌝ }
 {
     let answer = place(y, edition, d, start, d.len(), kept.last, counts);

@@ -6,11 +6,11 @@ use mathlib.Core.List.{List}
 use native.Mathlib.Omega.{arith}
 use lib.Bits.{bitAnd}
 use lib.ListN.{length, getD}
-use Rattle.cut.specs.Bytes.{part}
+use Rattle.bytewise.specs.Bytes.{part}
 use Rattle.cut.specs.declared.service.Syntax.{Syntax}
-use Rattle.cut.proofs.Bytewise.{FirstOf}
+use Rattle.bytewise.proofs.Bytewise.{FirstOf}
 use Rattle.element.specs.Elements.{endingOf, stays, component}
-use Rattle.element.specs.Scans.{waiting, Scanned, Sought}
+use Rattle.element.specs.workers.Scans.{waiting, Scanned, Sought}
 use Rattle.element.specs.Services.{isService, Service}
 use Rattle.element.specs.declared.ahead.Scan.{Scan}
 use Rattle.element.proofs.ahead.Flags.{scan-none, flag-onward, flag-first, flag-behind}

@@ -8,11 +8,11 @@ use lib.Bits.{bitAnd}
 use lib.ListN.{getD}
 use lib.Dec.{leb}
 use borrow.Author.Tests.{le-leb, lt-leb, leb-true, leb-false}
-use Rattle.cut.specs.Eights.{number, onFrom, flag, flags}
-use Rattle.cut.proofs.Bytewise.{FirstOf, flags-none}
-use Rattle.cut.proofs.Clearing.{first-cleared}
-use Rattle.element.specs.Scans.{waiting, Tested, Foremost}
-use Rattle.element.proofs.cursor.Standing.{both}
+use Rattle.bytewise.specs.Eights.{number, onFrom, flag, flags}
+use Rattle.bytewise.proofs.Bytewise.{FirstOf, flags-none}
+use Rattle.bytewise.proofs.Clearing.{first-cleared}
+use Rattle.element.specs.workers.Scans.{waiting, Tested, Foremost}
+use Rattle.bytewise.proofs.Booleans.{and-both}
 
 -- ---- flags
 
@@ -72,7 +72,7 @@ module _ (t : ℕ → Bool) (d : List ℕ) (bound a : ℕ) where
     module _ (j : ℕ) (f : FirstOf 8 (waiting t d a n) j) where
       pub scan-flag : a + 8 ≤ n + j
       unfolding waiting
-      scan-flag = leb-true (a + 8) (n + j) (both _ _ (f .passes) .0)
+      scan-flag = leb-true (a + 8) (n + j) (and-both _ _ (f .passes) .0)
 
       module _ (h : m ≡ 0 → ⊥) (end : ℕ) (e : end ≡ n + j - 8) where
         placed : n + j ≡ end + 8

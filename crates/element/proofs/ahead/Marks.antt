@@ -6,16 +6,16 @@ use mathlib.Core.List.{List, _∷_}
 use native.Mathlib.Omega.{arith}
 use borrow.Author.Tests.{eq-eqb}
 use lib.ListN.{length, getD}
-use Rattle.cut.specs.Bytes.{part}
+use Rattle.bytewise.specs.Bytes.{part}
 use Rattle.cut.specs.Segments.{frees}
 use Rattle.cut.specs.declared.service.Syntax.{Syntax}
-use Rattle.cut.proofs.Parts.{part-next}
+use Rattle.bytewise.proofs.Parts.{part-next}
 use Rattle.element.specs.Components.{extentOf}
 use Rattle.element.specs.Elements.{endingOf, stays, releases, before, splitFrom, component}
-use Rattle.element.specs.Plain.{plain}
+use Rattle.plain.specs.Plain.{plain}
 use Rattle.element.specs.Services.{Service}
-use Rattle.element.proofs.Decoding.{plain-released}
-use Rattle.element.proofs.cursor.Standing.{both}
+use Rattle.plain.proofs.Decoding.{plain-released}
+use Rattle.bytewise.proofs.Booleans.{and-both}
 use Rattle.element.proofs.scan.Endings.{stays-nothing}
 use Rattle.element.proofs.scan.Extents.{Reached, reached-service}
 use Rattle.element.proofs.scan.Scanning.{first-component}
@@ -29,7 +29,7 @@ module _ (y : Syntax) (x : ℕ) where
   module _ (f : releases y false x ≡ true) where
     pub mark-both : (stays (endingOf y false x) ≡ true) × (frees y false x ≡ true)
     unfolding releases
-    mark-both = both _ _ f
+    mark-both = and-both _ _ f
 
     mark-first : (xs : List ℕ) → splitFrom y false (x ∷ xs) .bytes ≡ x ∷ splitFrom y true xs .bytes
     unfolding splitFrom before
@@ -40,7 +40,8 @@ module _ (y : Syntax) (x : ℕ) where
   released-first xs = refl
 
 -- the first service character from the place a on is a mark, and a byte stands behind it
-module _ (y : Syntax) (d : List ℕ) (a limit mark : ℕ) (fits : limit ≤ length d) (s : Service y d a limit mark) (h : mark + 2 ≤ limit) (f : releases y false (getD d mark 0) ≡ true) where
+module _ (y : Syntax) (d : List ℕ) (a limit mark : ℕ) (fits : limit ≤ length d) (s : Service y d a limit mark) (h : mark + 2 ≤ limit)
+    (f : releases y false (getD d mark 0) ≡ true) where
   reached : Reached y d a limit limit mark
   reached = reached-service y d a limit limit (omega arith) mark s (omega arith)
 
@@ -64,5 +65,6 @@ module _ (y : Syntax) (d : List ℕ) (a limit mark : ℕ) (fits : limit ≤ leng
   pub mark-counts : mark + 1 - a + extentOf y d (mark + 2) limit .length ≡ extentOf y d a limit .length
   unfolding extentOf
   mark-counts =
-      let p = ap (λ (b : List ℕ). length (plain y false b)) left-mark ∙ ap length (plain-released y _ _ (component y (part (mark + 2) limit d) 0 0) (mark-both y _ f .1)) in
+      let p = ap (λ (b : List ℕ). length (plain y false b)) left-mark
+      ∙ ap length (plain-released y _ _ (component y (part (mark + 2) limit d) 0 0) (mark-both y _ f .1)) in
       omega (arith, s .passed .onward, reached .counts)

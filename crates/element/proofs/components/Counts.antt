@@ -6,7 +6,20 @@ use mathlib.Core.List.{List, [], _∷_}
 use native.Mathlib.Omega.{arith}
 use lib.ListN.{length, length-append}
 use Rattle.cut.specs.declared.service.Syntax.{Syntax}
-use Rattle.element.specs.Elements.{Ending, ends-segment, ends-element, ends-component, ends-nothing, endingOf, releases, Split, listed, before, splitFrom, elements}
+use Rattle.element.specs.Elements.{
+  Ending,
+  ends-segment,
+  ends-element,
+  ends-component,
+  ends-nothing,
+  endingOf,
+  releases,
+  Split,
+  listed,
+  before,
+  splitFrom,
+  elements,
+}
 use Rattle.element.specs.Components.{inElement, inElements, width, components}
 
 -- the components of all elements, counted

@@ -6,7 +6,20 @@ use mathlib.Core.List.{List, [], _∷_, _++_, map}
 use borrow.Author.Tests.{eqb-true}
 use lib.Dec.{eqb}
 use Rattle.cut.specs.declared.service.Syntax.{Syntax}
-use Rattle.element.specs.Elements.{Ending, ends-segment, ends-element, ends-component, ends-nothing, endingOf, releases, Split, listed, before, splitFrom, elements}
+use Rattle.element.specs.Elements.{
+  Ending,
+  ends-segment,
+  ends-element,
+  ends-component,
+  ends-nothing,
+  endingOf,
+  releases,
+  Split,
+  listed,
+  before,
+  splitFrom,
+  elements,
+}
 
 -- lists of bytes, with the byte x between two
 unfoldable pub joinBy : ℕ → List (List ℕ) → List ℕ

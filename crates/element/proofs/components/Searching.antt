@@ -8,7 +8,7 @@ use borrow.Author.Tests.{ne-eqb}
 use lib.ListN.{length}
 use lib.Dec.{eqb}
 use Rattle.cut.specs.declared.service.Syntax.{Syntax}
-use Rattle.cut.proofs.Parts.{length-part}
+use Rattle.bytewise.proofs.Parts.{length-part}
 use Rattle.element.specs.Components.{Component, inElement, inElements, width, spanIn, componentAt}
 use Rattle.element.specs.Cursors.{restFrom, standing, rest, opening}
 use Rattle.element.specs.declared.cursor.Cursor.{Cursor}
@@ -17,7 +17,8 @@ use Rattle.element.proofs.cursor.Visits.{Visited}
 use Rattle.element.proofs.cursor.Opening.{rest-new}
 
 -- a step leaves fewer components
-pub step-less : (y : Syntax) (d : List ℕ) (k : Cursor) (e c a b : ℕ) (next : Cursor) → Visited y d k e c a b next → length (rest y d next) < length (rest y d k)
+pub step-less
+    : (y : Syntax) (d : List ℕ) (k : Cursor) (e c a b : ℕ) (next : Cursor) → Visited y d k e c a b next → length (rest y d next) < length (rest y d k)
 step-less y d k e c a b next v =
     let l = ap length (v .list) in
     omega arith
@@ -38,7 +39,8 @@ module _ (a e c : ℕ) where
       span-other e0 0 p bs _ n ∙ span-later (e0 + 1) (p + width bs) es (omega arith)
 
 module _ (y : Syntax) (d : List ℕ) (start element component : ℕ) where
-  pub search-begins : (end : ℕ) (k : Cursor) → k ≡ opening d start end → spanIn start element component (rest y d k) ≡ componentAt y d start end element component
+  pub search-begins
+      : (end : ℕ) (k : Cursor) → k ≡ opening d start end → spanIn start element component (rest y d k) ≡ componentAt y d start end element component
   unfolding componentAt
   search-begins end k h = rw (rest-new y d start end k h)
 
@@ -47,11 +49,13 @@ module _ (y : Syntax) (d : List ℕ) (start element component : ℕ) where
   search-out k h = rw h
 
   -- a cursor that stands in an element behind it
-  pub search-later : (k : Cursor) → standing d k ≡ true → element < k .element → spanIn start element component (rest y d k) ≡ record { start = start; end = start }
+  pub search-later
+      : (k : Cursor) → standing d k ≡ true → element < k .element → spanIn start element component (rest y d k) ≡ record { start = start; end = start }
   unfolding restFrom
   search-later k s h =
       let n : k .element ≡ element → ⊥ = λ q. omega arith in
-      rw (rest-standing y d k s) (span-other start element component (k .element) (k .component) (k .place) _ _ n ∙ span-later start element component (k .element + 1) _ _ (omega arith))
+      rw (rest-standing y d k s)
+      (span-other start element component (k .element) (k .component) (k .place) _ _ n ∙ span-later start element component (k .element + 1) _ _ (omega arith))
 
   module _ (k : Cursor) (e c a b : ℕ) (next : Cursor) (v : Visited y d k e c a b next) where
     pub search-found : eqb e element && eqb c component ≡ true → spanIn start element component (rest y d k) ≡ record { start = a; end = b }

@@ -6,9 +6,9 @@ use mathlib.Core.List.{List, [], _∷_}
 use native.Mathlib.Omega.{arith}
 use lib.ListN.{length}
 use lib.Dec.{eqb}
-use Rattle.cut.specs.Bytes.{part}
+use Rattle.bytewise.specs.Bytes.{part}
 use Rattle.cut.specs.declared.service.Syntax.{Syntax}
-use Rattle.cut.proofs.Parts.{part-none}
+use Rattle.bytewise.proofs.Parts.{part-none}
 use Rattle.element.specs.Elements.{component}
 use Rattle.element.specs.Components.{Component, components, spanIn, componentAt}
 use Rattle.element.specs.declared.components.Span.{Span}

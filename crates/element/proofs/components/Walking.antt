@@ -7,14 +7,14 @@ use native.Mathlib.Omega.{arith}
 use borrow.Author.Tests.{lt-ltb, le-ltb, ltb-true, ltb-false, eqb-true, eqb-false}
 use lib.ListN.{length, getD, drop}
 use lib.Dec.{eqb, ltb}
-use Rattle.cut.specs.Bytes.{part}
+use Rattle.bytewise.specs.Bytes.{part}
 use Rattle.cut.specs.declared.service.Syntax.{Syntax}
 use Rattle.element.specs.Elements.{component}
 use Rattle.element.specs.Components.{spanIn, componentAt}
 use Rattle.element.specs.Cursors.{rest, done, cursorAt, opening, Stopped}
 use Rattle.element.specs.declared.components.Span.{Span}
 use Rattle.element.specs.declared.cursor.Cursor.{Cursor}
-use Rattle.element.proofs.Limits.{limited}
+use Rattle.bytewise.proofs.Limits.{limited}
 use Rattle.element.proofs.cursor.Standing.{Stands, standing-of, rest-done}
 use Rattle.element.proofs.cursor.Onward.{nextBy, after-none, after-segment, after-element, after-component, step-at}
 use Rattle.element.proofs.cursor.Visits.{Visited, visited}

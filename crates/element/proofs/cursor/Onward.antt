@@ -5,7 +5,7 @@ use mathlib.Core.Bool.{false, true≢false}
 use mathlib.Core.List.{List, _∷_}
 use native.Mathlib.Omega.{arith}
 use lib.ListN.{length, getD, drop}
-use Rattle.cut.specs.Bytes.{part}
+use Rattle.bytewise.specs.Bytes.{part}
 use Rattle.cut.specs.declared.service.Syntax.{Syntax}
 use Rattle.element.specs.Elements.{Ending, ends-segment, ends-element, ends-component, ends-nothing, endingOf, stays, Split, before, splitFrom}
 use Rattle.element.specs.Components.{Component, inElement}
@@ -13,7 +13,7 @@ use Rattle.element.specs.Cursors.{restFrom, rest, done, cursorAt, visitO
 use Rattle.element.specs.declared.cursor.Cursor.{Cursor}
 use Rattle.element.specs.declared.cursor.Visit.the-variants.{At}
 use Rattle.element.proofs.scan.Endings.{ending-segment, ending-element, ending-left}
-use Rattle.element.proofs.Limits.{limited}
+use Rattle.bytewise.proofs.Limits.{limited}
 use Rattle.element.proofs.scan.Splits.{Last, Stop}
 use Rattle.element.proofs.cursor.Standing.{stands, standing-of, rest-standing, cursor-rest, rest-done}
 use Rattle.element.proofs.cursor.Steps.{first, rest-last, rest-element, rest-component}
@@ -62,7 +62,8 @@ module _ (y : Syntax) (d : List ℕ) (k : Cursor) (stop limit : ℕ) (q : Stoppe
 
   onward-done : Last S → Onward y d k stop done
   unfolding cursorAt
-  onward-done l = record { list = rest-here ∙ rest-last (k .element) (k .component) (k .place) S l ∙ rw (first-here, rest-done y d); back = rw (rest-done y d) }
+  onward-done l =
+      record { list = rest-here ∙ rest-last (k .element) (k .component) (k .place) S l ∙ rw (first-here, rest-done y d); back = rw (rest-done y d) }
 
   -- the numbers of the next component are not past its place
   onward-at
@@ -71,7 +72,8 @@ module _ (y : Syntax) (d : List ℕ) (k : Cursor) (stop limit : ℕ) (q : Stoppe
       → Onward y d k stop (record { element = e; component = c; place = stop + 1; end = k .end })
   onward-at e c he hc h l =
       let w = q .within in
-      let s = standing-of d (record { element = e; component = c; place = stop + 1; end = k .end }) (record { place = omega arith; element = he; component = hc }) in
+      let s = standing-of d (record { element = e; component = c; place = stop + 1; end = k .end })
+      (record { place = omega arith; element = he; component = hc }) in
       record { list = rest-here ∙ l ∙ rw (← stopped-at .ends, first-here, rest-standing y d _ s); back = cursor-rest y d _ s }
 
   stopped : stop < limit → Stop y S (getD d stop 0) (part (stop + 1) (k .end) d)

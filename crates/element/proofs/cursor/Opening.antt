@@ -7,14 +7,14 @@ use native.Mathlib.Decide.{decLt}
 use native.Mathlib.Omega.{arith}
 use borrow.Author.Tests.{lt-ltb, le-ltb}
 use lib.ListN.{length}
-use Rattle.cut.specs.Bytes.{part}
+use Rattle.bytewise.specs.Bytes.{part}
 use Rattle.cut.specs.declared.service.Syntax.{Syntax}
-use Rattle.cut.proofs.Parts.{part-none, length-part}
+use Rattle.bytewise.proofs.Parts.{part-none, length-part}
 use Rattle.element.specs.Elements.{splitFrom, elements}
 use Rattle.element.specs.Components.{inElements, components}
 use Rattle.element.specs.Cursors.{restFrom, rest, opening}
 use Rattle.element.specs.declared.cursor.Cursor.{Cursor}
-use Rattle.element.proofs.Limits.{limited}
+use Rattle.bytewise.proofs.Limits.{limited}
 use Rattle.element.proofs.cursor.Standing.{standing-of, rest-standing, rest-done}
 
 pub components-some : (y : Syntax) (p : ℕ) (s : List ℕ) → 0 < length s → components y p s ≡ restFrom 0 0 p (splitFrom y false s)

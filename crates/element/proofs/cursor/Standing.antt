@@ -7,17 +7,14 @@ use native.Mathlib.Omega.{arith}
 use borrow.Author.Tests.{leb-true, le-leb, lt-leb}
 use lib.ListN.{length}
 use lib.Dec.{leb}
-use Rattle.cut.specs.Bytes.{part}
+use Rattle.bytewise.proofs.Booleans.{and-both}
+use Rattle.bytewise.specs.Bytes.{part}
 use Rattle.cut.specs.declared.service.Syntax.{Syntax}
 use Rattle.element.specs.Elements.{splitFrom}
 use Rattle.element.specs.Components.{inElement}
 use Rattle.element.specs.Cursors.{restFrom, standing, rest, done, cursorAt, visitOf, stepOf}
 use Rattle.element.specs.declared.cursor.Cursor.{Cursor}
 use Rattle.element.specs.declared.cursor.Visit.the-variants.{Nothing}
-
-pub both : (a b : Bool) → a && b ≡ true → (a ≡ true) × (b ≡ true)
-both true b h = (refl, h)
-both false b h = absurd (false≢true h)
 
 -- the tests of `standing` as orders
 pub record Stands (d : List ℕ) (k : Cursor) : Type 0 where
@@ -28,8 +25,8 @@ pub record Stands (d : List ℕ) (k : Cursor) : Type 0 where
 pub stands : (d : List ℕ) (k : Cursor) → standing d k ≡ true → Stands d k
 unfolding standing
 stands d k h =
-    let p = both _ _ h in
-    let q = both _ _ (p .1) in
+    let p = and-both _ _ h in
+    let q = and-both _ _ (p .1) in
     record { place = leb-true _ _ (p .0); element = leb-true _ _ (q .0); component = leb-true _ _ (q .1) }
 
 pub standing-of : (d : List ℕ) (k : Cursor) → Stands d k → standing d k ≡ true
@@ -63,7 +60,8 @@ module _ (y : Syntax) (d : List ℕ) (k : Cursor) where
 
   pub past-component : k .place < k .component → stepOf y d k ≡ Nothing
   unfolding standing
-  past-component h = step-none (rw (lt-leb (k .component) (k .place) h, and-false (leb (k .element) (k .place))) (and-false (leb (k .place) (min (k .end) (length d)))))
+  past-component h =
+      step-none (rw (lt-leb (k .component) (k .place) h, and-false (leb (k .element) (k .place))) (and-false (leb (k .place) (min (k .end) (length d)))))
 
 -- nothing is left to the cursor that is done
 pub rest-done : (y : Syntax) (d : List ℕ) → rest y d done ≡ []

@@ -18,7 +18,8 @@ module _ (e c p : ℕ) (s : Split) where
   unfolding restFrom inElement inElements width
   rest-last q = rw (q .components, q .elements)
 
-  pub rest-element : (t : Split) → s .components ≡ [] → s .elements ≡ listed t → restFrom e c p s ≡ first e c p s ∷ restFrom (e + 1) 0 (p + length (s .bytes) + 1) t
+  pub rest-element
+      : (t : Split) → s .components ≡ [] → s .elements ≡ listed t → restFrom e c p s ≡ first e c p s ∷ restFrom (e + 1) 0 (p + length (s .bytes) + 1) t
   unfolding restFrom inElement inElements width
   rest-element t q r =
       let z : p + (length (s .bytes) + 1 + 0) ≡ p + length (s .bytes) + 1 = omega arith in
@@ -29,5 +30,6 @@ module _ (e c p : ℕ) (s : Split) where
       → restFrom e c p s ≡ first e c p s ∷ restFrom e (c + 1) (p + length (s .bytes) + 1) t
   unfolding restFrom inElement inElements width
   rest-component t q r =
-      let z : p + (length (s .bytes) + 1 + (length (t .bytes) + 1 + width (t .components))) ≡ p + length (s .bytes) + 1 + (length (t .bytes) + 1 + width (t .components)) = omega arith in
+      let z : p + (length (s .bytes) + 1 + (length (t .bytes) + 1 + width (t .components)))
+      ≡ p + length (s .bytes) + 1 + (length (t .bytes) + 1 + width (t .components)) = omega arith in
       rw (q, r, z)

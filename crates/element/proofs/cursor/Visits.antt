@@ -6,7 +6,7 @@ use mathlib.Core.List.{List, [], _∷_}
 use native.Mathlib.Decide.{decLe}
 use native.Mathlib.Omega.{arith}
 use lib.ListN.{length, getD, drop}
-use Rattle.cut.specs.Bytes.{part}
+use Rattle.bytewise.specs.Bytes.{part}
 use Rattle.cut.specs.declared.service.Syntax.{Syntax}
 use Rattle.element.specs.Elements.{endingOf, component}
 use Rattle.element.specs.Cursors.{standing, rest, cursorAt, stepOf, Stopped}

@@ -6,16 +6,16 @@ use mathlib.Core.List.{List, [], _∷_}
 use native.Mathlib.Nat.{add-zero}
 use native.Mathlib.Omega.{arith}
 use lib.ListN.{length, getD}
-use Rattle.cut.specs.Bytes.{part}
+use Rattle.bytewise.specs.Bytes.{part}
 use Rattle.cut.specs.declared.service.Syntax.{Syntax}
-use Rattle.cut.proofs.Parts.{part-none, part-next}
+use Rattle.bytewise.proofs.Parts.{part-none, part-next}
 use Rattle.element.specs.declared.scan.Extent.{Extent}
 use Rattle.element.specs.Elements.{endingOf, stays, releases, before, splitFrom, component}
 use Rattle.element.specs.Components.{extentOf}
-use Rattle.element.specs.Plain.{plain, decoded}
+use Rattle.plain.specs.Plain.{plain, decoded}
 use Rattle.element.specs.Services.{Service}
-use Rattle.element.proofs.Decoding.{plain-byte, unmarked}
-use Rattle.element.proofs.Limits.{limited}
+use Rattle.plain.proofs.Decoding.{plain-byte, unmarked}
+use Rattle.bytewise.proofs.Limits.{limited}
 use Rattle.element.proofs.scan.Endings.{stays-nothing}
 use Rattle.element.proofs.scan.Scanning.{first-component, bytes-none}
 use Rattle.element.proofs.scan.Services.{plain-stays, plain-no-mark, service-ends}
@@ -72,7 +72,8 @@ module _ (y : Syntax) (d : List ℕ) (from end limit : ℕ) where
         reached-next : Reached (i + 1)
         reached-next =
             let l = ap length left-next in
-            let p = ap (λ (b : List ℕ). length (plain y false b)) left-next ∙ ap length (plain-byte y (getD d i 0) (left (i + 1)) (unmarked y (getD d i 0) n)) in
+            let p = ap (λ (b : List ℕ). length (plain y false b)) left-next
+            ∙ ap length (plain-byte y (getD d i 0) (left (i + 1)) (unmarked y (getD d i 0) n)) in
             record { within = r .within; passed = omega (arith, r .passed); ends = omega (arith, r .ends); counts = omega (arith, r .passed, r .counts) }
 
       -- from a release mark on, where it ends at the place stop
@@ -83,12 +84,13 @@ module _ (y : Syntax) (d : List ℕ) (from end limit : ℕ) where
         pub mark-within : stop ≤ length d
         mark-within = omega (arith, here .within, r .within)
 
-        pub reached-mark : (n : ℕ) → n ≡ i - from + length (decoded y i stop d) → record { end = stop; length = n } ≡ extentOf y d from end
+        pub reached-mark : (k : ℕ) → k ≡ length (decoded y i stop d) → record { end = stop; length = i - from + k } ≡ extentOf y d from end
         unfolding extentOf decoded
-        reached-mark n c =
+        reached-mark k c =
             let b = first-component y (part i limit d) ∙ here .bytes in
             let a : stop ≡ from + length whole = s ∙ r .ends in
-            let m : n ≡ length (plain y false whole) = c ∙ ap (λ (l : List ℕ). i - from + length (plain y false l)) (sym b) ∙ r .counts in
+            let m : i - from + k ≡ length (plain y false whole) =
+            ap (λ (n : ℕ). i - from + n) c ∙ ap (λ (l : List ℕ). i - from + length (plain y false l)) (sym b) ∙ r .counts in
             λ j. record { end = a j; length = m j }
 
   -- where the first byte that ends something or is the release character stands at r, if one does before limit

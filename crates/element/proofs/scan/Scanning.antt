@@ -6,12 +6,26 @@ use mathlib.Core.List.{List, [], _∷_}
 use native.Mathlib.Nat.{add-zero}
 use native.Mathlib.Omega.{arith}
 use lib.ListN.{length, getD}
-use Rattle.cut.specs.Bytes.{part}
+use Rattle.bytewise.specs.Bytes.{part}
 use Rattle.cut.specs.Segments.{frees}
 use Rattle.cut.specs.declared.service.Syntax.{Syntax}
-use Rattle.cut.proofs.Parts.{part-none, part-next}
+use Rattle.bytewise.proofs.Parts.{part-none, part-next}
 use Rattle.element.proofs.scan.Endings.{stays-nothing}
-use Rattle.element.specs.Elements.{Ending, ends-segment, ends-element, ends-component, ends-nothing, endingOf, stays, releases, Split, before, splitFrom, elements, component}
+use Rattle.element.specs.Elements.{
+  Ending,
+  ends-segment,
+  ends-element,
+  ends-component,
+  ends-nothing,
+  endingOf,
+  stays,
+  releases,
+  Split,
+  before,
+  splitFrom,
+  elements,
+  component,
+}
 
 -- the end of the component whose byte at i is released or not, as r says, in the part of d up to e
 unfoldable pub endFrom : Syntax → List ℕ → ℕ → Bool → ℕ → ℕ

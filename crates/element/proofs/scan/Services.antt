@@ -8,9 +8,9 @@ use borrow.Author.Tests.{eq-eqb, ne-eqb, eqb-false, leb-true, leb-false}
 use lib.ListN.{getD}
 use lib.Dec.{eqb, leb}
 use lib.Bits.{bitOr}
-use Rattle.cut.specs.Eights.{onFrom, flags}
+use Rattle.bytewise.specs.Eights.{onFrom, flags}
 use Rattle.cut.specs.declared.service.Syntax.{Syntax}
-use Rattle.cut.proofs.Bytewise.{FirstOf, flags-none, flags-or}
+use Rattle.bytewise.proofs.Bytewise.{FirstOf, flags-none, flags-or}
 use Rattle.element.specs.Elements.{ends-segment, ends-element, ends-component, ends-nothing, endingOf, stays}
 use Rattle.element.specs.Services.{isService, Passed, Service}
 

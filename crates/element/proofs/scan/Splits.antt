@@ -10,7 +10,9 @@ use Rattle.element.specs.Elements.{Ending, ends-segment, ends-element, e
 use Rattle.element.proofs.scan.Endings.{stays-nothing}
 use Rattle.element.proofs.scan.Scanning.{bytes-none}
 
-take-before : (g : Ending) (x : ℕ) (s : Split) (xs : List ℕ) → s .bytes ≡ take (length (s .bytes)) xs → before g x s .bytes ≡ take (length (before g x s .bytes)) (x ∷ xs)
+take-before
+    : (g : Ending) (x : ℕ) (s : Split) (xs : List ℕ) → s .bytes ≡ take (length (s .bytes)) xs → before g x s .bytes
+    ≡ take (length (before g x s .bytes)) (x ∷ xs)
 unfolding before
 take-before ends-segment x s xs h = refl
 take-before ends-element x s xs h = refl
@@ -89,7 +91,8 @@ module _ (y : Syntax) (r : Bool) (x : ℕ) (xs : List ℕ) where
 
   stop-by
       : (b : Bool) (n : ℕ) → stays (endingOf y r x) ≡ b → length (splitFrom y r (x ∷ xs) .bytes) ≡ n → n < suc (length xs)
-      → ((m : ℕ) → length (splitFrom y (releases y r x) xs .bytes) ≡ m → m < length xs → Stop y (splitFrom y (releases y r x) xs) (getD xs m 0) (drop (suc m) xs))
+      → ((m : ℕ) → length (splitFrom y (releases y r x) xs .bytes) ≡ m → m < length xs
+      → Stop y (splitFrom y (releases y r x) xs) (getD xs m 0) (drop (suc m) xs))
       → Stop y (splitFrom y r (x ∷ xs)) (getD (x ∷ xs) n 0) (drop (suc n) (x ∷ xs))
   stop-by false zero f e h ih = stop-unreleased y r x xs f
   stop-by false (suc n) f e h ih =

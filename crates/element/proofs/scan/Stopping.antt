@@ -5,11 +5,11 @@ use mathlib.Core.Bool.{false}
 use mathlib.Core.List.{List}
 use native.Mathlib.Omega.{arith}
 use lib.ListN.{length, getD}
-use Rattle.cut.specs.Bytes.{part}
+use Rattle.bytewise.specs.Bytes.{part}
 use Rattle.cut.specs.declared.service.Syntax.{Syntax}
-use Rattle.cut.proofs.Parts.{part-at, length-part}
+use Rattle.bytewise.proofs.Parts.{part-at, length-part}
 use Rattle.element.specs.Elements.{Split, splitFrom, component}
-use Rattle.element.proofs.Limits.{drop-part, take-part}
+use Rattle.bytewise.proofs.Limits.{drop-part, take-part}
 use Rattle.element.proofs.scan.Scanning.{first-component}
 use Rattle.element.proofs.scan.Splits.{first-take, first-fits, Last, last-all, Stop, stop-at}
 

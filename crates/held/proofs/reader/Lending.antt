@@ -1,5 +1,6 @@
 -- A reader in a local is lent to `step` and comes back moved on: what a walk by hand cites that makes a reader and steps it.
--- For the call a lifetime ν is made within the delivery's κ, since `step` asks that the delivery outlives the loan. After the call ν is ended, and the local is the caller's again.
+-- For the call a lifetime ν is made within the delivery's κ, since `step` asks that the delivery outlives the loan. After the call ν is ended, and
+-- the local is the caller's again.
 use mathlib.Core.Path.{_≡_, subst}
 use Prim.Native.Nat.{ℕ}
 use mathlib.Core.List.{List, [], _∷_}
@@ -15,7 +16,8 @@ use prog.Wp.{Heap}
 use ghost.Atoms.{Atoms, sem}
 use contract.BorrowLft.{meet-⊑-right}
 use contract.Monad.{Fun, fact, fact-use}
-use types.Kit.{Given, Item, mean, ‵, raw, given, _⊛_, ⋆, some, later, _$_, _∵_, !, qed, move, keep, use1, use2, use3, split, split3, join, pick, learn, fsplit, fjoin, fpick, fpack, frame, await, updating, now as at-once, show, check, done}
+use types.Kit.{Given, Item, mean, ‵, raw, given, _⊛_, ⋆, some, later, _$_, _∵_, !, qed, move, keep, use1, use2, use3, split, split3, join, pick, learn}
+use types.Kit.{fsplit, fjoin, fpick, fpack, frame, await, updating, now as at-once, show, check, done}
 use types.SemTy.{Body}
 use types.Tokens.{lft-new}
 use borrow.Within.Token.{Rest, within-token, within-end}
@@ -39,7 +41,7 @@ use Rattle.held.proofs.reader.Reader.Laws as T′
 use Rattle.held.proofs.reader.step as step
 
 -- `Reader<'a>`, as `step`'s signature has it
-abbrev α : Lft → NamedLft
+abbrev pub α : Lft → NamedLft
 α κ = record { mir = named 1; lft = κ }
 
 abbrev pub R : Lft → RattleType
@@ -67,10 +69,12 @@ module _ {M : Type 1} (𝓤 : URA M) (H : Heap 𝓤) (A : Atoms 𝓤) (W : Given
   unfolding partOf
   unlaid =
       qed W (‵ (lies κ l h) ∷ []) ∵ fpick ! (λ vs. fsplit ! $
-      spelt ! (R κ) (Is (R κ)) (shows 𝓤 H A (R κ)) (LL.vals (T.the-type (α κ)) (T′.the-laws (α κ))) (LL.tells (T.the-type (α κ)) (T′.the-laws (α κ))) fullShare h vs l 0 $
+      spelt ! (R κ) (Is (R κ)) (shows 𝓤 H A (R κ)) (LL.vals (T.the-type (α κ)) (T′.the-laws (α κ))) (LL.tells (T.the-type (α κ)) (T′.the-laws (α κ)))
+      fullShare h vs l 0 $
       use1 W (‵ (fat fullShare (T′.mir erased) l 0 (T′.lowered h))) (W .laws .raw-at fullShare (T′.mir erased) l 0 (T′.lowered h)) $ keep ! (0 ∷ []) $ done !)
 
-module _ {M : Type 1} (𝓤 : URA M) (H : Heap 𝓤) (A : Atoms 𝓤) (W : Given 𝓤 H A) (at-mem : Memory → SProp 𝓤) (run : Routine → Fun 𝓤) (κ : Lft) (q : Share) (l : ℕ) (h : Reader) where
+module _ {M : Type 1} (𝓤 : URA M) (H : Heap 𝓤) (A : Atoms 𝓤) (W : Given 𝓤 H A) (at-mem : Memory → SProp 𝓤) (run : Routine → Fun 𝓤) (κ : Lft) (q : Share)
+    (l : ℕ) (h : Reader) where
   -- the reference that is passed, under the name γ
   abbrev passed : GName → RefT Reader
   passed γ = record { ptr = (l, 0); name = γ; now = h }
@@ -84,9 +88,12 @@ module _ {M : Type 1} (𝓤 : URA M) (H : Heap 𝓤) (A : Atoms 𝓤) (W : Given
 
   -- what the triple of `step` binds outside: half of the delivery's token goes into the loan's, the other half is passed for the delivery
   abbrev pub to-step : ℕ × GName → Stepped 𝓤 H A at-mem run .Ghost
-  to-step k = (((k .0 ∷ κ, (κ, tt)), (PosShare·left q, (PosShare·right q, tt)), (meet-⊑-right (k .0 ∷ []) κ, tt), (passed (k .1), tt), (vptr l 0 ∷ [], tt)), tt)
+  to-step k =
+      (((k .0 ∷ κ, (κ, tt)), (PosShare·left q, (PosShare·right q, tt)), (meet-⊑-right (k .0 ∷ []) κ, tt), (passed (k .1), tt), (vptr l 0 ∷ [], tt)), tt)
 
-  goes : (ν : ℕ) (γ : GName) → ent 𝓤 (⋆ 𝓤 H A (‵ (flft (ν ∷ κ) (PosShare·left q)) ∷ ‵ (flft κ (PosShare·right q)) ∷ ‵ (own ν γ) ∷ [])) (Stepped 𝓤 H A at-mem run .pre (to-step (ν, γ)))
+  goes : (ν : ℕ) (γ : GName)
+      → ent 𝓤 (⋆ 𝓤 H A (‵ (flft (ν ∷ κ) (PosShare·left q)) ∷ ‵ (flft κ (PosShare·right q)) ∷ ‵ (own ν γ) ∷ []))
+      (Stepped 𝓤 H A at-mem run .pre (to-step (ν, γ)))
   goes ν γ =
       qed W (‵ (flft (ν ∷ κ) (PosShare·left q)) ∷ ‵ (flft κ (PosShare·right q)) ∷ ‵ (own ν γ) ∷ []) ∵
       nothing ! $ move ! (3 ∷ 0 ∷ []) $ fjoin ! $ nothing ! $ move ! (3 ∷ 0 ∷ []) $ join ! $ move ! (2 ∷ 0 ∷ []) $ join ! $ join ! $ frame ! $ done !
@@ -101,34 +108,42 @@ module _ {M : Type 1} (𝓤 : URA M) (H : Heap 𝓤) (A : Atoms 𝓤) (W : Given
       use1 W (later (some (λ (γ : GName). ‵ (own ν γ) ⊛ ‵ (rest ν γ)))) (lends-ref 𝓤 H A W (R κ) (named 0) (ν ∷ κ) h l 0) $ await ! tt $ pick ! (λ γ. split ! $
       -- [the reference; the lender's part; ν's token; the delivery's]
       move ! (3 ∷ []) $ split ! $ use1 W (‵ (flft κ (PosShare·left q)) ⊛ ‵ (flft κ (PosShare·right q))) (W .lfts .lft-split κ q) $ split ! $
-      move ! (5 ∷ 0 ∷ []) $ use2 W (‵ (flft (ν ∷ κ) (PosShare·left q)) ⊛ raw (Rest 𝓤 H A W ν (PosShare·left q))) (within-token 𝓤 H A W ν κ (PosShare·left q)) $ split ! $
+      move ! (5 ∷ 0 ∷ []) $
+      use2 W (‵ (flft (ν ∷ κ) (PosShare·left q)) ⊛ raw (Rest 𝓤 H A W ν (PosShare·left q))) (within-token 𝓤 H A W ν κ (PosShare·left q)) $ split ! $
       -- [the loan's token; the way back; half of the delivery's; true; the reference; the lender's part]
-      at-once ! $ show ! (λ (k : ℕ × GName). mean 𝓤 H A (Going k)) (ν, γ) $ move ! (0 ∷ 2 ∷ 4 ∷ []) $ use3 W (raw (Stepped 𝓤 H A at-mem run .pre (to-step (ν, γ)))) (goes ν γ) $ keep ! (0 ∷ 1 ∷ 3 ∷ []) $ done !))
+      at-once ! $ show ! (λ (k : ℕ × GName). mean 𝓤 H A (Going k)) (ν, γ) $ move ! (0 ∷ 2 ∷ 4 ∷ []) $
+      use3 W (raw (Stepped 𝓤 H A at-mem run .pre (to-step (ν, γ)))) (goes ν γ) $ keep ! (0 ∷ 1 ∷ 3 ∷ []) $ done !))
 
   -- what the promise of `step` says: the answer, and the last value of what was lent
   told : (ν : ℕ) (γ : GName) (c : Cut)
-      → ent 𝓤 (ensured 𝓤 H A step.ended (step.clauses 𝓤 H A at-mem run) (ν ∷ κ, (κ, tt)) (passed γ, tt) tt c) (guard 𝓤 (c ≡ answerOf h) (A .res γ (R κ .coded .code (movedOn h))))
+      → ent 𝓤 (ensured 𝓤 H A step.ended (step.clauses 𝓤 H A at-mem run) (ν ∷ κ, (κ, tt)) (passed γ, tt) tt c)
+      (guard 𝓤 (c ≡ answerOf h) (A .res γ (R κ .coded .code (movedOn h))))
   told ν γ c = exE 𝓤 _ (λ ws.
       let L : SProp 𝓤 = sem 𝓤 H A (lasts step.ended (ν ∷ κ, (κ, tt)) (passed γ, tt) ws) in
       let E : SProp 𝓤 = fact 𝓤 ((c ≡ answerOf h) × (ws .0 ≡ movedOn h)) in
       fact-use 𝓤 ((c ≡ answerOf h) × (ws .0 ≡ movedOn h)) (snd∗ 𝓤 L E) (λ e.
       subst (λ (z : Reader). ent 𝓤 (sep 𝓤 L E) (guard 𝓤 (c ≡ answerOf h) (A .res γ (R κ .coded .code z)))) (e .1)
-      (via 𝓤 L (fst∗ 𝓤 L E) (via 𝓤 _ (fst∗ 𝓤 (A .res γ (R κ .coded .code (ws .0))) (sem 𝓤 H A ftrue)) (guardI 𝓤 (c ≡ answerOf h) (A .res γ (R κ .coded .code (ws .0))) (e .0))))))
+      (via 𝓤 L (fst∗ 𝓤 L E)
+      (via 𝓤 _ (fst∗ 𝓤 (A .res γ (R κ .coded .code (ws .0))) (sem 𝓤 H A ftrue)) (guardI 𝓤 (c ≡ answerOf h) (A .res γ (R κ .coded .code (ws .0))) (e .0))))))
 
   -- after the call: the answer c with the machine value u, the reader moved on in its local, and the delivery's token whole
   abbrev pub Coming : Val → Cut → Item 𝓤
   Coming u c = given (c ≡ answerOf h) (‵ (S.the-row .own c (u ∷ [])) ⊛ ‵ (lies κ l (movedOn h)) ⊛ (‵ (flft κ q) ⊛ ‵ ftrue))
 
   pub comes : (k : ℕ × GName) (u : Val)
-      → ent 𝓤 (⋆ 𝓤 H A (raw (Stepped 𝓤 H A at-mem run .post (to-step k) u) ∷ raw (Rest 𝓤 H A W (k .0) (PosShare·left q)) ∷ ‵ (rest (k .0) (k .1)) ∷ [])) (H .⇛ (ex 𝓤 (λ (c : Cut). mean 𝓤 H A (Coming u c))))
+      → ent 𝓤 (⋆ 𝓤 H A (raw (Stepped 𝓤 H A at-mem run .post (to-step k) u) ∷ raw (Rest 𝓤 H A W (k .0) (PosShare·left q)) ∷ ‵ (rest (k .0) (k .1)) ∷ []))
+      (H .⇛ (ex 𝓤 (λ (c : Cut). mean 𝓤 H A (Coming u c))))
   comes k u =
       let ν = k .0 in
       let γ = k .1 in
       qed W (raw (Stepped 𝓤 H A at-mem run .post (to-step k) u) ∷ raw (Rest 𝓤 H A W ν (PosShare·left q)) ∷ ‵ (rest ν γ) ∷ []) ∵ updating ! $
-      use1 W (later (some (λ (c : Cut). ((‵ (flft (ν ∷ κ) (PosShare·left q)) ⊛ ‵ (flft κ (PosShare·right q)) ⊛ ‵ ftrue) ⊛ ‵ (S.the-row .own c (u ∷ []))) ⊛ raw (ensured 𝓤 H A step.ended (step.clauses 𝓤 H A at-mem run) (ν ∷ κ, (κ, tt)) (passed γ, tt) tt c)))) (id⊢ 𝓤 _) $ await ! tt $ pick ! (λ c.
-      split ! $ move ! (1 ∷ []) $ use1 W (given (c ≡ answerOf h) (‵ (fres γ (R κ .coded .code (movedOn h))))) (told ν γ c) $ learn ! (λ e. move ! (1 ∷ []) $ split ! $ split3 ! $
+      use1 W (later (some (λ (c : Cut). ((‵ (flft (ν ∷ κ) (PosShare·left q)) ⊛ ‵ (flft κ (PosShare·right q)) ⊛ ‵ ftrue) ⊛ ‵ (S.the-row .own c (u ∷ []))) ⊛ raw
+      (ensured 𝓤 H A step.ended (step.clauses 𝓤 H A at-mem run) (ν ∷ κ, (κ, tt)) (passed γ, tt) tt c)))) (id⊢ 𝓤 _) $ await ! tt $ pick ! (λ c.
+      split ! $ move ! (1 ∷ []) $ use1 W (given (c ≡ answerOf h) (‵ (fres γ (R κ .coded .code (movedOn h))))) (told ν γ c) $
+      learn ! (λ e. move ! (1 ∷ []) $ split ! $ split3 ! $
       -- [the loan's token; half of the delivery's; true; the answer; the last value; the way back; the lender's part]
-      move ! (0 ∷ 5 ∷ []) $ use2 W (later (‵ (fdead (ν ∷ κ)) ⊛ ‵ (flft κ (PosShare·left q)))) (within-end 𝓤 H A W ν κ (PosShare·left q)) $ await ! tt $ split ! $
+      move ! (0 ∷ 5 ∷ []) $ use2 W (later (‵ (fdead (ν ∷ κ)) ⊛ ‵ (flft κ (PosShare·left q)))) (within-end 𝓤 H A W ν κ (PosShare·left q)) $ await ! tt $
+      split ! $
       move ! (1 ∷ 2 ∷ []) $ use2 W (‵ (flft κ q)) (W .lfts .lft-join κ q) $
       -- [the delivery's token; the loan is over; true; the answer; the last value; the lender's part]
       move ! (1 ∷ 5 ∷ 4 ∷ []) $ use3 W (later (‵ (lies κ l (movedOn h)))) (ref-back 𝓤 H A W (R κ) (ν ∷ κ) γ (movedOn h) l 0) $ await ! tt $

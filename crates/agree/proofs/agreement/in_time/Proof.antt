@@ -1,6 +1,6 @@
 -- `agree::agreement::in_time` meets its contract.
 use borrow.Author.Tests.{eq-eqb, ne-eqb}
-use Rattle.agree.specs.AgreeInner.{inTime}
+use Rattle.agree.specs.workers.Visits.{inTime}
 use Rattle.agree.proofs.agreement.in_time.Statement.{statement}
 use Rattle.agree.proofs.agreement.in_time.Tie as tie
 

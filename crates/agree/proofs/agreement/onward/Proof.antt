@@ -1,6 +1,6 @@
 -- `agree::agreement::onward` meets its contract.
 use mathlib.Core.Path.{sym, _∙_}
-use Rattle.agree.specs.AgreeInner.{onwardBy}
+use Rattle.agree.specs.workers.Visits.{onwardBy}
 use borrow.Author.Needs.{needs}
 use Rattle.agree.proofs.agreement.onward.Statement.{statement}
 use Rattle.agree.proofs.agreement.onward.Tie as tie

@@ -2,9 +2,9 @@
 use mathlib.Core.Path.{_≡_, sym, _∙_}
 use borrow.Author.Tests.{not-true, not-false}
 use borrow.Author.Needs.{needs}
-use Rattle.cut.specs.Bytes.{part}
+use Rattle.bytewise.specs.Bytes.{part}
 use Rattle.agree.specs.Agreement.{agreeBut}
-use Rattle.agree.proofs.AgreeWalk.{walked, left, walk-begins, walk-ended, walk-differs, walk-on, walk-less}
+use Rattle.agree.proofs.agreement.Walk.{walked, left, walk-begins, walk-ended, walk-differs, walk-on, walk-less}
 use Rattle.agree.proofs.agreement.segments_agree.Statement.{statement}
 use Rattle.agree.proofs.agreement.segments_agree.Tie as tie
 
@@ -63,13 +63,16 @@ onward-requires-2 c κs = search needs
 
 loop-less : tie.Need-loop-less Inv-loop μ-loop
 loop-less c =
-    walk-less _ _ _ _ _ _ (sym (c .before .before .before .before .before .before .before .both-ended .ensures) ∙ c .before .before .before .before .before .before .if1 .left) (c .before .onward .ensures) (c .onward2 .ensures)
+    walk-less _ _ _ _ _ _ (sym (c .before .before .before .before .before .before .before .both-ended .ensures)
+    ∙ c .before .before .before .before .before .before .if1 .left) (c .before .onward .ensures) (c .onward2 .ensures)
 
 loop-again : tie.Need-loop-again Inv-loop μ-loop
 loop-again c =
     sym
-    (walk-on _ _ _ _ _ (sym (c .before .before .before .before .before .before .before .both-ended .ensures) ∙ c .before .before .before .before .before .before .if1 .left) _ _ _ _ _
-    (c .before .before .before .before .before .shown .ensures) (c .before .before .before .before .shown2 .ensures) (c .before .before .before .same-plain .ensures) (not-false _ (c .before .before .if2 .left))
+    (walk-on _ _ _ _ _ (sym (c .before .before .before .before .before .before .before .both-ended .ensures)
+    ∙ c .before .before .before .before .before .before .if1 .left) _ _ _ _ _
+    (c .before .before .before .before .before .shown .ensures) (c .before .before .before .before .shown2 .ensures)
+    (c .before .before .before .same-plain .ensures) (not-false _ (c .before .before .if2 .left))
     (c .before .onward .ensures) (c .onward2 .ensures))
     ∙ c .before .before .before .before .before .before .before .before .loop .inv
 

@@ -1,7 +1,7 @@
 -- `agree::agreement::shown` meets its contract.
 use mathlib.Core.Path.{sym, _∙_}
 use borrow.Author.Tests.{eq-eqb, ne-eqb}
-use Rattle.agree.specs.AgreeInner.{shownBy}
+use Rattle.agree.specs.workers.Visits.{shownBy}
 use borrow.Author.Needs.{needs}
 use Rattle.agree.proofs.agreement.shown.Statement.{statement}
 use Rattle.agree.proofs.agreement.shown.Tie as tie
@@ -31,7 +31,8 @@ not-past-requires c κs = search needs
 
 returns-3 : tie.Need-returns-3
 unfolding shownBy
-returns-3 c = rw (c .before .before .before .before .u .given .1, ne-eqb _ _ (c .before .before .if1 .left), sym (c .before .not-past .ensures) ∙ c .if2 .taken)
+returns-3 c =
+    rw (c .before .before .before .before .u .given .1, ne-eqb _ _ (c .before .before .if1 .left), sym (c .before .not-past .ensures) ∙ c .if2 .taken)
 
 empty-span-requires-3 : tie.Need-empty-span-requires-3
 empty-span-requires-3 c κs = search needs
@@ -39,7 +40,11 @@ empty-span-requires-3 c κs = search needs
 returns-4 : tie.Need-returns-4
 unfolding shownBy
 returns-4 c =
-    rw (c .before .before .before .before .before .u .given .1, ne-eqb _ _ (c .before .before .before .if1 .left), sym (c .before .before .not-past .ensures) ∙ c .before .if2 .left)
+    rw (
+      c .before .before .before .before .before .u .given .1,
+      ne-eqb _ _ (c .before .before .before .if1 .left),
+      sym (c .before .before .not-past .ensures) ∙ c .before .if2 .left,
+    )
     (c .empty-span3 .ensures)
 
 pub shown-spec : {M : Type 1} → statement M

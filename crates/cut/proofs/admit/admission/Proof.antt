@@ -1,7 +1,7 @@
 -- `cut::admit::admission` meets its contract.
 use mathlib.Core.Path.{sym, _∙_}
 use borrow.Author.Tests.{not-true, not-false}
-use Rattle.cut.proofs.Admitting.{admission-long, admission-plain, admission-right, admission-wrong}
+use Rattle.cut.proofs.cutting.Admitting.{admission-long, admission-plain, admission-right, admission-wrong}
 use borrow.Author.Needs.{needs}
 use Rattle.cut.proofs.admit.admission.Statement.{statement}
 use Rattle.cut.proofs.admit.admission.Tie as tie

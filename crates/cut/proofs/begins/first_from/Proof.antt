@@ -1,6 +1,6 @@
 -- `cut::begins::first_from` meets its contract.
 use mathlib.Core.Path.{sym, _∙_}
-use Rattle.cut.proofs.Boundaries.{since-closed}
+use Rattle.cut.proofs.cutting.Boundaries.{since-closed}
 use Rattle.cut.proofs.Places.{since-opening, since-end, since-cut, since-nothing}
 use borrow.Author.Needs.{needs}
 use Rattle.cut.proofs.begins.first_from.Statement.{statement}

@@ -7,8 +7,8 @@ use borrow.Author.Needs.{needs}
 use lib.ListN.{length, drop}
 use Rattle.cut.specs.Segments.{segmentsFrom}
 use Rattle.cut.specs.Calls.{cutFrom}
-use Rattle.cut.specs.Workers.{openCut}
-use Rattle.cut.proofs.Scanning.{cut-none, cut-open, open-end, open-out, open-marked}
+use Rattle.cut.specs.workers.Scanning.{openCut}
+use Rattle.cut.proofs.cutting.Scanning.{cut-none, cut-open, open-end, open-out, open-marked}
 use Rattle.cut.proofs.scan.cut_from.Statement.{statement}
 use Rattle.cut.proofs.scan.cut_from.Tie as tie
 

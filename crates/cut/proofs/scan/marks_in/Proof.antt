@@ -1,6 +1,6 @@
 -- `cut::scan::marks_in` meets its contract: a byte is flagged if it is one of the two.
-use Rattle.cut.specs.Workers.{isMark}
-use Rattle.cut.proofs.Bytewise.{flags-or}
+use Rattle.cut.specs.workers.Scanning.{isMark}
+use Rattle.bytewise.proofs.Bytewise.{flags-or}
 use borrow.Author.Needs.{needs}
 use Rattle.cut.proofs.scan.marks_in.Statement.{statement}
 use Rattle.cut.proofs.scan.marks_in.Tie as tie

@@ -5,10 +5,10 @@ use mathlib.Core.Path.{_≡_, refl}
 use native.Mathlib.Omega.{arith}
 use borrow.Author.Needs.{needs}
 use lib.ListN.{length}
-use Rattle.cut.specs.Eights.{onFrom, flags}
-use Rattle.cut.specs.Workers.{isMark, Onward}
-use Rattle.cut.proofs.Bytewise.{flagged-there, first-of}
-use Rattle.cut.proofs.Scanning.{onward-none, onward-marked, eight-passed, eight-marked}
+use Rattle.bytewise.specs.Eights.{onFrom, flags}
+use Rattle.cut.specs.workers.Scanning.{isMark, Onward}
+use Rattle.bytewise.proofs.Bytewise.{flagged-there, first-of}
+use Rattle.cut.proofs.cutting.Scanning.{onward-none, onward-marked, eight-passed, eight-marked}
 use Rattle.cut.proofs.scan.next_mark.Statement.{statement}
 use Rattle.cut.proofs.scan.next_mark.Tie as tie
 
@@ -24,8 +24,8 @@ loop-holds c = onward-none _ _ _ _ refl (c .before .pre)
 sub-loop : tie.Need-sub-loop Inv-loop μ-loop
 sub-loop c = search needs
 
-eight-from-requires : tie.Need-eight-from-requires Inv-loop μ-loop
-eight-from-requires c κs = search needs
+eight-at-requires : tie.Need-eight-at-requires Inv-loop μ-loop
+eight-at-requires c κs = search needs
 
 marks-in-requires : tie.Need-marks-in-requires Inv-loop μ-loop
 marks-in-requires c κs = search needs
@@ -37,8 +37,9 @@ flagged
     c .marks-in .result ≡ flags (λ k. isMark (known .before .args .y) (onFrom (known .before .args .d .now) (c .before .before .before .loop .i) k))
 flagged c =
     let known = c .before .before .before .before in
-    flagged-there (known .before .args .d .now) (c .before .before .before .loop .i) _ (isMark (known .before .args .y)) _ (omega arith) (λ k. omega (arith, known .shared-slice-known .given k))
-    (c .before .eight-from .ensures) (c .marks-in .ensures)
+    flagged-there (known .before .args .d .now) (c .before .before .before .loop .i) _ (isMark (known .before .args .y)) _ (omega arith)
+    (λ k. omega (arith, known .shared-slice-known .given k))
+    (c .before .eight-at .ensures) (c .marks-in .ensures)
 
 first-of-requires : tie.Need-first-of-requires Inv-loop μ-loop
 first-of-requires c κs = search needs
@@ -51,7 +52,8 @@ add-result c =
 returns : tie.Need-returns Inv-loop μ-loop
 returns c =
     let b = c .before .before in
-    eight-marked _ _ _ _ _ (b .before .before .before .loop .inv) (omega arith) (flagged b) _ (first-of _ _ _ (flagged b) (c .before .if1 .taken) (c .first-of .ensures))
+    eight-marked _ _ _ _ _ (b .before .before .before .loop .inv) (omega arith) (flagged b) _
+    (first-of _ _ _ (flagged b) (c .before .if1 .taken) (c .first-of .ensures))
 
 add-i : tie.Need-add-i Inv-loop μ-loop
 add-i c = search needs
@@ -76,7 +78,7 @@ next-mark-spec =
     μ-loop
     loop-holds
     sub-loop
-    eight-from-requires
+    eight-at-requires
     marks-in-requires
     first-of-requires
     add-result

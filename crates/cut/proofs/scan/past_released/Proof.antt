@@ -1,7 +1,7 @@
 -- `cut::scan::past_released` meets its contract: nothing is released, or nothing is there, or the byte there is passed.
 use borrow.Author.Needs.{needs}
 use borrow.Author.Tests.{not-true, not-false}
-use Rattle.cut.proofs.Scanning.{onward-none, onward-past, onward-released}
+use Rattle.cut.proofs.cutting.Scanning.{onward-none, onward-past, onward-released}
 use Rattle.cut.proofs.scan.past_released.Statement.{statement}
 use Rattle.cut.proofs.scan.past_released.Tie as tie
 

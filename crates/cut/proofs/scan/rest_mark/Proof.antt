@@ -4,8 +4,8 @@ use mathlib.Core.Bool.{false}
 use mathlib.Core.Path.{refl}
 use borrow.Author.Needs.{needs}
 use lib.ListN.{length}
-use Rattle.cut.specs.Workers.{Onward}
-use Rattle.cut.proofs.Scanning.{onward-none, onward-plain, marked-end, marked-release, marked-out}
+use Rattle.cut.specs.workers.Scanning.{Onward}
+use Rattle.cut.proofs.cutting.Scanning.{onward-none, onward-plain, marked-end, marked-release, marked-out}
 use Rattle.cut.proofs.scan.rest_mark.Statement.{statement}
 use Rattle.cut.proofs.scan.rest_mark.Tie as tie
 

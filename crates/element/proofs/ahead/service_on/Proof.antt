@@ -5,8 +5,8 @@ use lib.ListN.{length}
 use native.Mathlib.Omega.{arith}
 use mathlib.Core.Path.{refl}
 use borrow.Author.Needs.{needs}
-use Rattle.cut.proofs.Bytewise.{FirstOf, flagged-there, first-of}
-use Rattle.element.specs.Scans.{waiting, Scanned}
+use Rattle.bytewise.proofs.Bytewise.{FirstOf, flagged-there, first-of}
+use Rattle.element.specs.workers.Scans.{waiting, Scanned}
 use Rattle.element.specs.Services.{isService}
 use Rattle.element.proofs.ahead.Flags.{scan-word, scan-flag}
 use Rattle.element.proofs.ahead.Behind.{sought-flag, sought-none}

@@ -25,7 +25,8 @@ inside c =
     let b = c .before .before in
     let f = b .before .before in
     let k =
-    walk-inside _ _ _ _ _ _ _ _ _ (f .before .loop .inv) _ (extent-end _ _ _ _ _ (f .component-from .ensures)) (sym (b .before .numbered .ensures) ∙ b .if1 .left)
+    walk-inside _ _ _ _ _ _ _ _ _ (f .before .loop .inv) _ (extent-end _ _ _ _ _ (f .component-from .ensures))
+    (sym (b .before .numbered .ensures) ∙ b .if1 .left)
     (sym (c .before .goes-on .ensures) ∙ not-false _ (c .if2 .left)) in
     (k .0, k .1)
 
@@ -41,7 +42,8 @@ numbered-requires c κs = search needs
 returns : tie.Need-returns Inv-loop μ-loop
 returns c =
     let f = c .before .before in
-    walk-found _ _ _ _ _ _ _ _ _ (f .before .loop .inv) _ (extent-end _ _ _ _ _ (f .component-from .ensures)) (sym (c .before .numbered .ensures) ∙ c .if1 .taken)
+    walk-found _ _ _ _ _ _ _ _ _ (f .before .loop .inv) _ (extent-end _ _ _ _ _ (f .component-from .ensures))
+    (sym (c .before .numbered .ensures) ∙ c .if1 .taken)
 
 goes-on-requires : tie.Need-goes-on-requires Inv-loop μ-loop
 goes-on-requires c κs = c .before .before .before .loop .inv .within

@@ -6,9 +6,9 @@ use native.Mathlib.Omega.{arith}
 use borrow.Author.Needs.{needs}
 use borrow.Author.Tests.{not-false}
 use lib.ListN.{length}
-use Rattle.cut.specs.Bytes.{part}
+use Rattle.bytewise.specs.Bytes.{part}
 use Rattle.element.specs.Elements.{component}
-use Rattle.element.specs.Scans.{Scanned}
+use Rattle.element.specs.workers.Scans.{Scanned}
 use Rattle.element.specs.declared.ahead.Scan.{Scan}
 use Rattle.element.specs.declared.components.Quick.{Quick}
 use Rattle.element.proofs.ahead.Behind.{scan-begins, sought-stop, sought-ends}
@@ -112,7 +112,8 @@ returns-6 c = λ h.
     let l = s .before in
     ap (λ (q : Quick). q .span) (c .told2 .ensures)
     ∙ count-last _ _ _ _ _ _ _ _ _ (l .loop .inv .0) _ (stops f) (t .if3 .left) (p .before .if5 .taken) (p .if6 .left)
-    (sought-ends _ _ _ _ (l .before .before .before .before .before .before .pre .1) _ (s .service-on .ensures) _ refl (t .if3 .left) (f .if4 .left)) (n .if7 .taken)
+    (sought-ends _ _ _ _ (l .before .before .before .before .before .before .pre .1) _ (s .service-on .ensures) _ refl (t .if3 .left) (f .if4 .left))
+    (n .if7 .taken)
 
 sub-c : tie.Need-sub-c Inv-loop μ-loop
 sub-c c = omega (arith, c .before .before .if6 .left)
@@ -161,8 +162,10 @@ loop-again-2 c =
     let p = n .before .before in
     let f = p .before in
     let t = f .before .before .before in
-    let s = t .before .before in
-    (count-element _ _ _ _ _ _ _ _ _ (s .before .loop .inv .0) _ (stops f) (t .if3 .left) (p .if5 .left) (n .if8 .left) (c .if9 .taken) _ _ refl (behind f), s .service-on .ensures .scanned)
+    let s = t .before .before in (
+      count-element _ _ _ _ _ _ _ _ _ (s .before .loop .inv .0) _ (stops f) (t .if3 .left) (p .if5 .left) (n .if8 .left) (c .if9 .taken) _ _ refl (behind f),
+      s .service-on .ensures .scanned,
+    )
 
 loop-less-3 : tie.Need-loop-less-3 Inv-loop μ-loop
 loop-less-3 c =
@@ -175,8 +178,10 @@ loop-again-3 c =
     let p = n .before .before in
     let f = p .before in
     let t = f .before .before .before in
-    let s = t .before .before in
-    (count-on _ _ _ _ _ _ _ _ _ (s .before .loop .inv .0) _ (stops f) (t .if3 .left) (p .if5 .left) (n .if8 .left) (c .if9 .left) _ (behind f), s .service-on .ensures .scanned)
+    let s = t .before .before in (
+      count-on _ _ _ _ _ _ _ _ _ (s .before .loop .inv .0) _ (stops f) (t .if3 .left) (p .if5 .left) (n .if8 .left) (c .if9 .left) _ (behind f),
+      s .service-on .ensures .scanned,
+    )
 
 pub quick-at-spec : {M : Type 1} → statement M
 quick-at-spec =

@@ -2,6 +2,7 @@
 -- each counts. Assumes nothing.
 use native.Mathlib.Omega.{arith}
 use borrow.Author.Needs.{needs}
+use Rattle.plain.proofs.Decoding.{count-within}
 use Rattle.element.proofs.scan.Extents.{extent-empty, extent-whole, extent-stop, reached-service, mark-within, reached-mark}
 use Rattle.element.proofs.scan.component_from.Statement.{statement}
 use Rattle.element.proofs.scan.component_from.Tie as tie
@@ -31,26 +32,32 @@ shared-slice-read-if3 c = search needs
 released-end-requires : tie.Need-released-end-requires
 released-end-requires c κs = search needs
 
-sub-length-on : tie.Need-sub-length-on
-sub-length-on c = search needs
+sub-t13 : tie.Need-sub-t13
+sub-t13 c = search needs
 
-length-on-requires : tie.Need-length-on-requires
-length-on-requires c κs =
-    let b = c .before .before .before .before in
+plain-length-requires : tie.Need-plain-length-requires
+plain-length-requires c κs = search needs
+
+add-t15 : tie.Need-add-t15
+add-t15 c =
+    let e = c .before in
+    let b = e .before .before .before .before in
     let n = b .before in
-    let m = mark-within _ _ _ _ _ _ (reached-service _ _ _ _ _ (n .before .limit-of .ensures) _ (n .next-service .ensures) (b .if1 .left)) (b .if1 .left) _ (c .released-end .ensures) in
-    (omega arith, omega arith)
+    let reached = reached-service _ _ _ _ _ (n .before .limit-of .ensures) _ (n .next-service .ensures) (b .if1 .left) in
+    let m = mark-within _ _ _ _ _ _ reached (b .if1 .left) _ (e .released-end .ensures) in
+    let k = count-within _ _ _ _ _ (c .plain-length .ensures) in
+    omega arith
 
 returns-3 : tie.Need-returns-3
 returns-3 c =
     let e = c .before in
     let b = e .before .before .before .before in
     let n = b .before in
-    reached-mark _ _ _ _ _ _ (reached-service _ _ _ _ _ (n .before .limit-of .ensures) _ (n .next-service .ensures) (b .if1 .left)) (b .if1 .left) _ (e .released-end .ensures) _
-    (c .length-on .ensures)
+    let reached = reached-service _ _ _ _ _ (n .before .limit-of .ensures) _ (n .next-service .ensures) (b .if1 .left) in
+    reached-mark _ _ _ _ _ _ reached (b .if1 .left) _ (e .released-end .ensures) _ (c .plain-length .ensures)
 
-sub-t15 : tie.Need-sub-t15
-sub-t15 c = search needs
+sub-t16 : tie.Need-sub-t16
+sub-t16 c = search needs
 
 returns-4 : tie.Need-returns-4
 returns-4 c =
@@ -69,8 +76,9 @@ component-from-spec =
     returns-2
     shared-slice-read-if3
     released-end-requires
-    sub-length-on
-    length-on-requires
+    sub-t13
+    plain-length-requires
+    add-t15
     returns-3
-    sub-t15
+    sub-t16
     returns-4)

@@ -3,8 +3,8 @@ use Prim.Native.Nat.{_-_}
 use mathlib.Core.Path.{_≡_}
 use native.Mathlib.Omega.{arith}
 use borrow.Author.Needs.{needs}
-use Rattle.cut.specs.Eights.{onFrom, flags}
-use Rattle.cut.proofs.Bytewise.{flagged-there, first-of}
+use Rattle.bytewise.specs.Eights.{onFrom, flags}
+use Rattle.bytewise.proofs.Bytewise.{flagged-there, first-of}
 use Rattle.element.specs.Services.{isService, Passed}
 use Rattle.element.proofs.scan.Services.{passed-none, passed-eight, service-on, service-past, service-eight}
 use Rattle.element.proofs.scan.next_service.Statement.{statement}

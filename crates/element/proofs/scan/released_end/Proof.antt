@@ -4,7 +4,7 @@ use mathlib.Core.Path.{_≡_, sym, _∙_}
 use borrow.Author.Needs.{needs}
 use borrow.Author.Tests.{not-true, not-false}
 use lib.ListN.{length}
-use Rattle.cut.specs.Bytes.{part}
+use Rattle.bytewise.specs.Bytes.{part}
 use Rattle.element.specs.Elements.{component}
 use Rattle.element.proofs.scan.Scanning.{endFrom, end-whole, end-past, end-here, end-next}
 use Rattle.element.proofs.scan.released_end.Statement.{statement}

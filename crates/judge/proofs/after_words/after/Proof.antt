@@ -1,7 +1,7 @@
 -- `judge::after_words::after` meets its contract: each edition has its own table. Assumes nothing.
 use borrow.Author.Needs.{needs}
 use mathlib.Core.Path.{sym, _∙_, ap}
-use Rattle.judge.specs.Sets.{afterWord}
+use Rattle.judge.specs.workers.Sets.{afterWord}
 use Rattle.guide.specs.declared.edition.Edition.{Edition}
 use Rattle.guide.specs.Editions.{guideOf}
 use Rattle.judge.proofs.after_words.after.Statement.{statement}

@@ -2,12 +2,12 @@
 -- nothing.
 use mathlib.Core.Path.{sym, ap}
 use Rattle.guide.specs.Nodes.{paired}
-use Rattle.guide.specs.Placing.{levels}
+use Rattle.guide.specs.workers.Placing.{levels}
 use Rattle.guide.specs.Pricat.{pricat20c}
 use Rattle.guide.specs.declared.edition.Edition.the-variants.{C}
-use Rattle.judge.specs.Sets.{bits, nodesThat, someLevel, followersOf, dueAfter, afterWord}
-use Rattle.judge.proofs.Tables.{differs-past}
-use Rattle.judge.proofs.Following.{after-past}
+use Rattle.judge.specs.workers.Sets.{bits, nodesThat, someLevel, followersOf, dueAfter, afterWord}
+use Rattle.judge.proofs.rows.Tables.{differs-past}
+use Rattle.judge.proofs.seeking.Following.{after-past}
 use Rattle.judge.proofs.after_words.after_20c.Statement.{statement}
 use Rattle.judge.proofs.after_words.after_20c.Tie as tie
 

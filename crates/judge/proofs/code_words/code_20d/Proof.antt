@@ -4,9 +4,9 @@ use mathlib.Core.Path.{sym, ap}
 use Prim.Native.Nat.{ℕ}
 use lib.ListN.{getD}
 use Rattle.guide.specs.Pricat.{pricat20d}
-use Rattle.judge.specs.Words.{packed}
-use Rattle.judge.specs.Rows.{codesOf}
-use Rattle.judge.proofs.Tables.{differs-past}
+use Rattle.judge.specs.workers.Words.{packed}
+use Rattle.judge.specs.workers.Rows.{codesOf}
+use Rattle.judge.proofs.rows.Tables.{differs-past}
 use Rattle.judge.proofs.code_words.code_20d.Statement.{statement}
 use Rattle.judge.proofs.code_words.code_20d.Tie as tie
 

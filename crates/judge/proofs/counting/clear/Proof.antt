@@ -2,8 +2,8 @@
 use borrow.Author.Needs.{needs}
 use native.Mathlib.Omega.{arith}
 use lib.Count.{trailing-le}
-use Rattle.judge.proofs.Members.{rest-less}
-use Rattle.judge.proofs.Counts.{Clearing, clear-begins, clear-next, clear-end}
+use Rattle.judge.proofs.sets.Members.{rest-less}
+use Rattle.judge.proofs.counting.Counts.{Clearing, clear-begins, clear-next, clear-end}
 use Rattle.judge.proofs.counting.clear.Statement.{statement}
 use Rattle.judge.proofs.counting.clear.Tie as tie
 

@@ -1,9 +1,9 @@
 -- `judge::counting::enter` meets its contract: one more of n, then its children cleared. Assumes nothing.
 use borrow.Author.Needs.{needs}
 use native.Mathlib.Omega.{arith}
-use Rattle.judge.proofs.Tables.{table-fits}
-use Rattle.judge.proofs.Sound.{sound-at}
-use Rattle.judge.proofs.Counts.{entered}
+use Rattle.judge.proofs.rows.Tables.{table-fits}
+use Rattle.judge.proofs.rows.Sound.{sound-at}
+use Rattle.judge.proofs.counting.Counts.{entered}
 use Rattle.judge.proofs.counting.enter.Statement.{statement}
 use Rattle.judge.proofs.counting.enter.Tie as tie
 
@@ -30,7 +30,8 @@ returns c =
     let asked = c .before .before in
     let start = asked .before .before in
     let a = start .args in
-    entered (a .edition) (a .n) (a .counts .now) _ (start .pre .0 .1) (sound-at (a .edition) (a .n) (start .pre .0 .0) (start .pre .0 .1) .lower) (asked .children .ensures) _ (c .clear .ensures)
+    entered (a .edition) (a .n) (a .counts .now) _ (start .pre .0 .1) (sound-at (a .edition) (a .n) (start .pre .0 .0) (start .pre .0 .1) .lower)
+    (asked .children .ensures) _ (c .clear .ensures)
 
 pub enter-spec : {M : Type 1} → statement M
 enter-spec =

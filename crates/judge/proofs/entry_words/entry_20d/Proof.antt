@@ -1,10 +1,10 @@
 -- `judge::entry_words::entry_20d` meets its contract: the number of each arm is, computed, the word of its row. Assumes nothing.
 use native.Mathlib.Omega.{arith}
 use mathlib.Core.Path.{sym, ap}
-use Rattle.guide.specs.Placing.{levels}
+use Rattle.guide.specs.workers.Placing.{levels}
 use Rattle.guide.specs.Pricat.{pricat20d}
-use Rattle.judge.specs.Sets.{bits, nodesThat, someLevel, insideOf, precedingOf, childrenOf, entryWord}
-use Rattle.judge.proofs.Tables.{differs-past}
+use Rattle.judge.specs.workers.Sets.{bits, nodesThat, someLevel, insideOf, precedingOf, childrenOf, entryWord}
+use Rattle.judge.proofs.rows.Tables.{differs-past}
 use Rattle.judge.proofs.entry_words.entry_20d.Statement.{statement}
 use Rattle.judge.proofs.entry_words.entry_20d.Tie as tie
 

@@ -1,8 +1,8 @@
 -- `judge::lacking::missing_for` meets its contract: what a level lacks, else what the levels further out lack. A parent has a lower number.
 use Prim.Native.Nat.{ℕ, _<_}
 use native.Mathlib.Omega.{arith}
-use Rattle.judge.proofs.Levels.{parent-lower}
-use Rattle.judge.proofs.Gaps.{gap-found, gap-root, gap-taking, gap-up}
+use Rattle.judge.proofs.lacking.Levels.{parent-lower}
+use Rattle.judge.proofs.lacking.Gaps.{gap-found, gap-root, gap-taking, gap-up}
 use borrow.Fn.Kinds.{In}
 use borrow.Fn.PlainCycle.{Measures, is, falls, and}
 use Rattle.judge.proofs.lacking.missing_for.Reads as missing-for

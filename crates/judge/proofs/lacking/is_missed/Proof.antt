@@ -2,8 +2,8 @@
 use borrow.Author.Needs.{needs}
 use native.Mathlib.Omega.{arith}
 use Rattle.guide.specs.Editions.{guideOf}
-use Rattle.judge.proofs.Tables.{table-fits}
-use Rattle.judge.proofs.Gaps.{missed-there, missed-wanted}
+use Rattle.judge.proofs.rows.Tables.{table-fits}
+use Rattle.judge.proofs.lacking.Gaps.{missed-there, missed-wanted}
 use Rattle.judge.proofs.lacking.is_missed.Statement.{statement}
 use Rattle.judge.proofs.lacking.is_missed.Tie as tie
 

@@ -1,18 +1,20 @@
 -- `judge::lacking::lacking_in` meets its contract. The loop's invariant is `Walking`: a walk over the required children of p. Assumes nothing.
 use borrow.Author.Needs.{needs}
 use native.Mathlib.Omega.{arith}
-use Rattle.guide.specs.Placing.{firstNode, lacking}
+use Rattle.guide.specs.workers.Placing.{firstNode, lacking}
 use Rattle.guide.specs.Editions.{guideOf}
-use Rattle.judge.specs.Rows.{dueOf, firstDue, nextDue}
-use Rattle.judge.proofs.Tables.{table-fits}
-use Rattle.judge.proofs.Links.{Walking, ahead, walk-begins, walk-out, walk-inside, walk-found, walk-next, walk-less}
-use Rattle.judge.proofs.Gaps.{due-below, lacks-only, lacks-due}
-use Rattle.judge.proofs.Partners.{pair-optional}
+use Rattle.judge.specs.workers.Rows.{dueOf, firstDue, nextDue}
+use Rattle.judge.proofs.rows.Tables.{table-fits}
+use Rattle.judge.proofs.lacking.Links.{Walking, ahead, walk-begins, walk-out, walk-inside, walk-found, walk-next, walk-less}
+use Rattle.judge.proofs.lacking.Gaps.{due-below, lacks-only, lacks-due}
+use Rattle.judge.proofs.pairs.Partners.{pair-optional}
 use Rattle.judge.proofs.lacking.lacking_in.Statement.{statement}
 use Rattle.judge.proofs.lacking.lacking_in.Tie as tie
 
 abbrev Inv-loop : tie.InvT-loop
-Inv-loop edition counts n p m₀ m = Walking (guideOf edition) (dueOf (guideOf edition)) p (lacking (guideOf edition) counts n p) (firstNode (guideOf edition) (lacking (guideOf edition) counts n p)) m
+Inv-loop edition counts n p m₀ m =
+    Walking (guideOf edition) (dueOf (guideOf edition)) p (lacking (guideOf edition) counts n p)
+    (firstNode (guideOf edition) (lacking (guideOf edition) counts n p)) m
 
 abbrev μ-loop : tie.MeasureT-loop
 μ-loop edition counts n p m₀ m = ahead (guideOf edition) m
@@ -25,7 +27,8 @@ unfolding firstDue
 loop-holds c =
     let a = c .before .args in
     let g = guideOf (a .edition) in
-    walk-begins g (dueOf g) (a .p) (lacking g (a .counts .now) (a .n) (a .p)) _ (due-below g (a .counts .now) (a .n) (a .p)) (lacks-only g (a .counts .now) (a .n) (a .p))
+    walk-begins g (dueOf g) (a .p) (lacking g (a .counts .now) (a .n) (a .p)) _ (due-below g (a .counts .now) (a .n) (a .p))
+    (lacks-only g (a .counts .now) (a .n) (a .p))
     (omega (arith, table-fits (a .edition))) (c .first-due .ensures)
 
 lacks-requires : tie.Need-lacks-requires Inv-loop μ-loop

@@ -2,7 +2,7 @@
 use borrow.Author.Needs.{needs}
 use borrow.Author.Tests.{not-true, not-false}
 use Rattle.guide.specs.Editions.{guideOf}
-use Rattle.judge.proofs.Gaps.{lacks-none, lacks-closed, lacks-earlier}
+use Rattle.judge.proofs.lacking.Gaps.{lacks-none, lacks-closed, lacks-earlier}
 use Rattle.judge.proofs.lacking.lacks.Statement.{statement}
 use Rattle.judge.proofs.lacking.lacks.Tie as tie
 

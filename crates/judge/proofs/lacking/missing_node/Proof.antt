@@ -3,12 +3,12 @@ use mathlib.Core.Path.{ap₂}
 use borrow.Author.Needs.{needs}
 use native.Mathlib.Omega.{arith}
 use lib.Bits.{bitAnd}
-use Rattle.guide.specs.Placing.{firstNode}
+use Rattle.guide.specs.workers.Placing.{firstNode}
 use Rattle.guide.specs.Editions.{guideOf}
-use Rattle.judge.specs.Workers.{missed}
-use Rattle.judge.proofs.Members.{rest-less}
-use Rattle.judge.proofs.Sought.{Sought, within, sought-out, sought-inside, sought-next}
-use Rattle.judge.proofs.Missed.{gap-begins, gap-none}
+use Rattle.judge.specs.workers.Searches.{missed}
+use Rattle.judge.proofs.sets.Members.{rest-less}
+use Rattle.judge.proofs.sets.Sought.{Sought, within, sought-out, sought-inside, sought-next}
+use Rattle.judge.proofs.lacking.Missed.{gap-begins, gap-none}
 use Rattle.judge.proofs.lacking.missing_node.Statement.{statement}
 use Rattle.judge.proofs.lacking.missing_node.Tie as tie
 
@@ -55,14 +55,16 @@ loop-again c =
     let asked = c .before .before in
     let first = asked .before in
     let loop = first .before .before in
-    sought-next (loop .loop .inv) (first .before .loop-test .taken) _ (first .first-in .ensures) _ (c .without-first .ensures) _ (asked .is-missed .ensures) (c .before .if1 .left)
+    sought-next (loop .loop .inv) (first .before .loop-test .taken) _ (first .first-in .ensures) _ (c .without-first .ensures) _ (asked .is-missed .ensures)
+    (c .before .if1 .left)
 
 returns-2 : tie.Need-returns-2 Inv-loop μ-loop
 returns-2 c =
     let asked = c .before .before in
     let s = asked .before .before in
     let a = s .args in
-    gap-none (a .edition) (a .counts .now) (a .n) (a .last) _ (ap₂ bitAnd (asked .before .due .ensures) (asked .preceding .ensures)) (s .pre .0 .0) (s .pre .0 .1) (s .pre .1)
+    gap-none (a .edition) (a .counts .now) (a .n) (a .last) _ (ap₂ bitAnd (asked .before .due .ensures) (asked .preceding .ensures)) (s .pre .0 .0)
+    (s .pre .0 .1) (s .pre .1)
     (sought-out (c .before .loop .inv) (c .loop-test .left))
 
 pub missing-node-spec : {M : Type 1} → statement M

@@ -4,12 +4,12 @@ use mathlib.Core.Path.{_≡_, sym, _∙_}
 use mathlib.Core.List.{map}
 use native.Mathlib.Omega.{arith}
 use lib.ListN.{length}
-use Rattle.cut.specs.Bytes.{part}
+use Rattle.bytewise.specs.Bytes.{part}
 use Rattle.guide.specs.Nodes.{node}
 use Rattle.guide.specs.Editions.{guideOf}
-use Rattle.judge.specs.Words.{packed, holds}
-use Rattle.judge.specs.Rows.{codesOf}
-use Rattle.judge.proofs.Codes.{codes-fit, codes-inside, search-begins, search-found, search-next, search-out}
+use Rattle.judge.specs.workers.Words.{packed, holds}
+use Rattle.judge.specs.workers.Rows.{codesOf}
+use Rattle.judge.proofs.matching.Codes.{codes-fit, codes-inside, search-begins, search-found, search-next, search-out}
 use borrow.Author.Needs.{needs}
 use Rattle.judge.proofs.matching.has_code.Statement.{statement}
 use Rattle.judge.proofs.matching.has_code.Tie as tie
@@ -48,7 +48,8 @@ returns : tie.Need-returns Inv-loop μ-loop
 returns c =
     let loop = c .before .before .before in
     let a = loop .before .before .before .args in
-    sym (search-found (codesOf (guideOf (a .edition))) (a .key) _ _ (c .before .before .loop-test .taken) (loop .loop .inv .0) (sym (c .before .code .ensures) ∙ c .if1 .taken))
+    sym (search-found (codesOf (guideOf (a .edition))) (a .key) _ _ (c .before .before .loop-test .taken) (loop .loop .inv .0)
+    (sym (c .before .code .ensures) ∙ c .if1 .taken))
     ∙ loop .loop .inv .1
 
 add-j : tie.Need-add-j Inv-loop μ-loop

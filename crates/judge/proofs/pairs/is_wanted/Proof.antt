@@ -2,7 +2,7 @@
 use borrow.Author.Needs.{needs}
 use native.Mathlib.Omega.{arith}
 use Rattle.guide.specs.Editions.{guideOf}
-use Rattle.judge.proofs.Partners.{partner-counted, wanted-alone, wanted-pair}
+use Rattle.judge.proofs.pairs.Partners.{partner-counted, wanted-alone, wanted-pair}
 use Rattle.judge.proofs.pairs.is_wanted.Statement.{statement}
 use Rattle.judge.proofs.pairs.is_wanted.Tie as tie
 

@@ -1,7 +1,7 @@
 -- `judge::pairs::number_of` meets its contract: one law for each return. Assumes nothing.
 use borrow.Author.Needs.{needs}
 use Rattle.guide.specs.Editions.{guideOf}
-use Rattle.judge.proofs.Partners.{number-alone, number-lower, number-own}
+use Rattle.judge.proofs.pairs.Partners.{number-alone, number-lower, number-own}
 use Rattle.judge.proofs.pairs.number_of.Statement.{statement}
 use Rattle.judge.proofs.pairs.number_of.Tie as tie
 

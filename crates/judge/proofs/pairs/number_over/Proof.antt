@@ -2,7 +2,7 @@
 use borrow.Author.Needs.{needs}
 use native.Mathlib.Omega.{arith}
 use Rattle.guide.specs.Editions.{guideOf}
-use Rattle.judge.proofs.Partners.{partner-counted, over-alone, over-second, over-third}
+use Rattle.judge.proofs.pairs.Partners.{partner-counted, over-alone, over-second, over-third}
 use Rattle.judge.proofs.pairs.number_over.Statement.{statement}
 use Rattle.judge.proofs.pairs.number_over.Tie as tie
 
@@ -40,7 +40,8 @@ returns-3 c =
     let pair = c .before .before in
     let asked = pair .before in
     let a = asked .before .before .args in
-    over-third (guideOf (a .edition)) (a .n) _ (asked .partner-of .ensures) (a .counts .now) _ (pair .if1 .left) (c .if2 .left) (asked .before .refusal-of .ensures)
+    over-third (guideOf (a .edition)) (a .n) _ (asked .partner-of .ensures) (a .counts .now) _ (pair .if1 .left) (c .if2 .left)
+    (asked .before .refusal-of .ensures)
 
 pub number-over-spec : {M : Type 1} → statement M
 number-over-spec =

@@ -3,7 +3,7 @@ use Prim.Native.Nat.{ℕ}
 use mathlib.Core.Path.{sym, ap}
 use Rattle.guide.specs.Nodes.{node}
 use Rattle.guide.specs.Pricat.{pricat20c}
-use Rattle.judge.proofs.Partners.{alone-20c}
+use Rattle.judge.proofs.pairs.Partners.{alone-20c}
 use Rattle.judge.proofs.pairs.partner_20c.Statement.{statement}
 use Rattle.judge.proofs.pairs.partner_20c.Tie as tie
 

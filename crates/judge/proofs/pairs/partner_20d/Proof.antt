@@ -3,7 +3,7 @@ use Prim.Native.Nat.{ℕ}
 use mathlib.Core.Path.{sym, ap}
 use Rattle.guide.specs.Nodes.{node}
 use Rattle.guide.specs.Pricat.{pricat20d}
-use Rattle.judge.proofs.Partners.{alone-20d}
+use Rattle.judge.proofs.pairs.Partners.{alone-20d}
 use Rattle.judge.proofs.pairs.partner_20d.Statement.{statement}
 use Rattle.judge.proofs.pairs.partner_20d.Tie as tie
 

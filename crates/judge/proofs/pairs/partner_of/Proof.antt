@@ -20,10 +20,12 @@ partner-20c-requires : tie.Need-partner-20c-requires
 partner-20c-requires c κs = search needs
 
 returns : tie.Need-returns
-returns c = c .partner-20d .ensures ∙ ap (λ (e : Edition). node (guideOf e) (c .before .before .before .args .n) .partner) (sym (c .before .enum-told .given .1))
+returns c =
+    c .partner-20d .ensures ∙ ap (λ (e : Edition). node (guideOf e) (c .before .before .before .args .n) .partner) (sym (c .before .enum-told .given .1))
 
 returns-2 : tie.Need-returns-2
-returns-2 c = c .partner-20c .ensures ∙ ap (λ (e : Edition). node (guideOf e) (c .before .before .before .args .n) .partner) (sym (c .before .enum-told2 .given .1))
+returns-2 c =
+    c .partner-20c .ensures ∙ ap (λ (e : Edition). node (guideOf e) (c .before .before .before .args .n) .partner) (sym (c .before .enum-told2 .given .1))
 
 pub partner-of-spec : {M : Type 1} → statement M
 partner-of-spec = tie.close (tie.spec enum-told partner-20d-requires enum-told-2 partner-20c-requires returns returns-2)

@@ -6,13 +6,13 @@ use mathlib.Core.Bool.{true}
 use native.Mathlib.Omega.{arith}
 use lib.ListN.{length, getD}
 use borrow.Author.Tests.{leb-false}
-use Rattle.cut.specs.Bytes.{part}
-use Rattle.guide.specs.Placing.{levels}
+use Rattle.bytewise.specs.Bytes.{part}
+use Rattle.guide.specs.workers.Placing.{levels}
 use Rattle.guide.specs.Views.{viewOf}
 use Rattle.guide.specs.Editions.{guideOf}
-use Rattle.judge.specs.Sets.{someLevel, followsIn}
-use Rattle.judge.proofs.Tables.{table-fits}
-use Rattle.judge.proofs.Outcomes.{found-inside, found-follows, last-inside, place-nowhere, place-over, place-lacking, place-found}
+use Rattle.judge.specs.workers.Sets.{someLevel, followsIn}
+use Rattle.judge.proofs.rows.Tables.{table-fits}
+use Rattle.judge.proofs.placing.Outcomes.{found-inside, found-follows, last-inside, place-nowhere, place-over, place-lacking, place-found}
 use Rattle.judge.proofs.placing.place.Statement.{statement}
 use Rattle.judge.proofs.placing.place.Tie as tie
 
@@ -43,7 +43,8 @@ returns : tie.Need-returns
 returns c =
     let a = c .before .before .before .args in
     let o =
-    place-nowhere (a .edition) (viewOf (a .y) (part (a .start) (a .end) (a .d .now))) (a .last) (a .counts .now) _ (c .before .node-for .ensures) (c .if1 .taken) in
+    place-nowhere (a .edition) (viewOf (a .y) (part (a .start) (a .end) (a .d .now))) (a .last) (a .counts .now) _ (c .before .node-for .ensures)
+    (c .if1 .taken) in
     (o .answer, o .counts)
 
 limit-of-requires : tie.Need-limit-of-requires
@@ -70,7 +71,8 @@ returns-2 c =
     let some = limit .before in
     let a = some .before .before .before .args in
     let o =
-    place-over (a .edition) (viewOf (a .y) (part (a .start) (a .end) (a .d .now))) (a .last) (a .counts .now) _ (some .before .node-for .ensures) (some .if1 .left)
+    place-over (a .edition) (viewOf (a .y) (part (a .start) (a .end) (a .d .now))) (a .last) (a .counts .now) _ (some .before .node-for .ensures)
+    (some .if1 .left)
     _ (limit .limit-of .ensures) _ (c .number-over .ensures) (full .if2 .taken) in
     (o .answer, o .counts)
 
@@ -81,7 +83,8 @@ returns-3 c =
     let some = limit .before in
     let a = some .before .before .before .args in
     let o =
-    place-lacking (a .edition) (viewOf (a .y) (part (a .start) (a .end) (a .d .now))) (a .last) (a .counts .now) _ (some .before .node-for .ensures) (some .if1 .left)
+    place-lacking (a .edition) (viewOf (a .y) (part (a .start) (a .end) (a .d .now))) (a .last) (a .counts .now) _ (some .before .node-for .ensures)
+    (some .if1 .left)
     _ (limit .limit-of .ensures) (room .if2 .left) _ (room .before .missing-node .ensures) (c .if3 .taken) in
     (o .answer, o .counts)
 
@@ -101,7 +104,8 @@ returns-4 c =
     let some = limit .before in
     let a = some .before .before .before .args in
     let o =
-    place-found (a .edition) (viewOf (a .y) (part (a .start) (a .end) (a .d .now))) (a .last) (a .counts .now) _ (some .before .node-for .ensures) (some .if1 .left)
+    place-found (a .edition) (viewOf (a .y) (part (a .start) (a .end) (a .d .now))) (a .last) (a .counts .now) _ (some .before .node-for .ensures)
+    (some .if1 .left)
     _ (limit .limit-of .ensures) (room .if2 .left) _ (room .before .missing-node .ensures) (none .if3 .left) _ (c .enter .ensures) in
     (o .answer, o .counts)
 

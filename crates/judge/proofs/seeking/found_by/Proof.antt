@@ -6,13 +6,13 @@ use mathlib.Core.List.{map}
 use borrow.Author.Needs.{needs}
 use native.Mathlib.Omega.{arith}
 use Rattle.guide.specs.Nodes.{node}
-use Rattle.guide.specs.Placing.{firstNode}
+use Rattle.guide.specs.workers.Placing.{firstNode}
 use Rattle.guide.specs.declared.edition.Edition.{Edition}
 use Rattle.guide.specs.Editions.{guideOf}
-use Rattle.judge.specs.Words.{packed, picks}
-use Rattle.judge.specs.Sets.{Nodes}
-use Rattle.judge.proofs.Members.{rest-less}
-use Rattle.judge.proofs.Sought.{Sought, within, sought-out, sought-inside, sought-found, sought-next}
+use Rattle.judge.specs.workers.Words.{packed, picks}
+use Rattle.judge.specs.workers.Sets.{Nodes}
+use Rattle.judge.proofs.sets.Members.{rest-less}
+use Rattle.judge.proofs.sets.Sought.{Sought, within, sought-out, sought-inside, sought-found, sought-next}
 use Rattle.judge.proofs.seeking.found_by.Statement.{statement}
 use Rattle.judge.proofs.seeking.found_by.Tie as tie
 
@@ -21,7 +21,8 @@ abbrev keyed : Edition → ℕ → ℕ → Bool
 keyed edition key n = picks (map packed (node (guideOf edition) n .selector .codes)) key
 
 abbrev Inv-loop : tie.InvT-loop
-Inv-loop edition nodes key likely₀ likely = Sought (guideOf edition) (keyed edition key) (firstNode (guideOf edition) (within nodes (keyed edition key))) likely
+Inv-loop edition nodes key likely₀ likely =
+    Sought (guideOf edition) (keyed edition key) (firstNode (guideOf edition) (within nodes (keyed edition key))) likely
 
 abbrev μ-loop : tie.MeasureT-loop
 μ-loop edition nodes key likely₀ likely = likely
@@ -55,7 +56,8 @@ loop-again c =
     let asked = c .before .before in
     let first = asked .before in
     let loop = first .before .before in
-    sought-next (loop .loop .inv) (first .before .loop-test .taken) _ (first .first-in .ensures) _ (c .without-first .ensures) _ (asked .is-chosen .ensures) (c .before .if1 .left)
+    sought-next (loop .loop .inv) (first .before .loop-test .taken) _ (first .first-in .ensures) _ (c .without-first .ensures) _ (asked .is-chosen .ensures)
+    (c .before .if1 .left)
 
 returns-2 : tie.Need-returns-2 Inv-loop μ-loop
 returns-2 c = sought-out (c .before .loop .inv) (c .loop-test .left)

@@ -8,16 +8,16 @@ use lib.ListN.{length}
 use lib.Bits.{bitAnd}
 use lib.Dec.{ltb}
 use borrow.Author.Tests.{ltb-false}
-use Rattle.cut.specs.Bytes.{part}
+use Rattle.bytewise.specs.Bytes.{part}
 use Rattle.guide.specs.Nodes.{node}
-use Rattle.guide.specs.Placing.{levels, seek}
+use Rattle.guide.specs.workers.Placing.{levels, seek}
 use Rattle.guide.specs.Views.{viewOf}
 use Rattle.guide.specs.Editions.{guideOf}
-use Rattle.judge.specs.Sets.{Nodes, followersOf, taggedOf, codedOf}
-use Rattle.judge.proofs.Matches.{chosen-any}
-use Rattle.judge.proofs.Sought.{Sought, sought-out, sought-fails, sought-found}
-use Rattle.judge.proofs.Tagged.{tag-letters}
-use Rattle.judge.proofs.Following.{hasCode, seek-begins, seek-keyed}
+use Rattle.judge.specs.workers.Sets.{Nodes, followersOf, taggedOf, codedOf}
+use Rattle.judge.proofs.matching.Matches.{chosen-any}
+use Rattle.judge.proofs.sets.Sought.{Sought, sought-out, sought-fails, sought-found}
+use Rattle.judge.proofs.tags.Tagged.{tag-letters}
+use Rattle.judge.proofs.seeking.Following.{hasCode, seek-begins, seek-keyed}
 use Rattle.judge.proofs.seeking.node_for.Statement.{statement}
 use Rattle.judge.proofs.seeking.node_for.Tie as tie
 
@@ -26,7 +26,8 @@ both
     : (c : tie.After-tagged)
     → let asked = c .before .before in
     let a = asked .before .before .args in
-    bitAnd (c .before .followers .result) (c .tagged .result) ≡ bitAnd (followersOf (guideOf (a .edition)) (a .last)) (taggedOf (guideOf (a .edition)) (asked .tag-number .result))
+    bitAnd (c .before .followers .result) (c .tagged .result)
+    ≡ bitAnd (followersOf (guideOf (a .edition)) (a .last)) (taggedOf (guideOf (a .edition)) (asked .tag-number .result))
 both c = ap₂ bitAnd (c .before .followers .ensures) (c .tagged .ensures)
 
 begun
@@ -38,7 +39,8 @@ begun
 begun c =
     let asked = c .before .before in
     let a = asked .before .before .args in
-    seek-begins (a .edition) (a .y) (a .d .now) (a .start) (a .end) (λ i. omega (arith, asked .before .shared-slice-known .given i)) _ (asked .tag-number .ensures) (a .last) _ (both c)
+    seek-begins (a .edition) (a .y) (a .d .now) (a .start) (a .end) (λ i. omega (arith, asked .before .shared-slice-known .given i)) _
+    (asked .tag-number .ensures) (a .last) _ (both c)
 
 tag-number-requires : tie.Need-tag-number-requires
 tag-number-requires c κs = search needs
@@ -66,7 +68,8 @@ returns-2 c =
     let begins = begun (some .before) in
     let a = some .before .before .before .before .before .args in
     let codes = node (guideOf (a .edition)) (c .first-in .result) .selector .codes in
-    let out = sought-fails begins (some .if1 .left) _ (c .first-in .ensures) (λ n. ltb 0 (length (node (guideOf (a .edition)) n .selector .codes))) _ (asked .coded .ensures) (c .before .if2 .taken) in
+    let out = sought-fails begins (some .if1 .left) _ (c .first-in .ensures) (λ n. ltb 0 (length (node (guideOf (a .edition)) n .selector .codes))) _
+    (asked .coded .ensures) (c .before .if2 .taken) in
     sought-found begins (some .if1 .left) _ (c .first-in .ensures) true (chosen-any codes _ (omega (arith, ltb-false 0 (length codes) out))) refl
 
 key-number-requires : tie.Need-key-number-requires
@@ -74,7 +77,8 @@ key-number-requires c κs =
     let some = c .before .before in
     let told = some .before in
     let asked = told .before .before in
-    tag-letters (asked .before .before .args .edition) (told .before .followers .result) _ _ _ (told .tagged .ensures) (asked .tag-number .ensures) (some .if1 .left)
+    tag-letters (asked .before .before .args .edition) (told .before .followers .result) _ _ _ (told .tagged .ensures) (asked .tag-number .ensures)
+    (some .if1 .left)
 
 found-by-requires : tie.Need-found-by-requires
 unfolding Nodes
@@ -86,7 +90,8 @@ returns-3 c =
     let told = read .before .before .before .before in
     let asked = told .before .before in
     let a = asked .before .before .args in
-    seek-keyed (a .edition) (a .y) (a .d .now) (a .start) (a .end) (λ i. omega (arith, asked .before .shared-slice-known .given i)) _ (asked .tag-number .ensures) (a .last) _ (both told)
+    seek-keyed (a .edition) (a .y) (a .d .now) (a .start) (a .end) (λ i. omega (arith, asked .before .shared-slice-known .given i)) _
+    (asked .tag-number .ensures) (a .last) _ (both told)
     _ _ (read .key-number .ensures) (c .found-by .ensures)
 
 pub node-for-spec : {M : Type 1} → statement M

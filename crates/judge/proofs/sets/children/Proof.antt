@@ -1,7 +1,7 @@
 -- `judge::sets::children` meets its contract: the upper half of the word. Assumes nothing.
 use borrow.Author.Needs.{needs}
-use Rattle.judge.specs.Sets.{precedingOf, childrenOf, entryWord}
-use Rattle.judge.proofs.Members.{upper-half}
+use Rattle.judge.specs.workers.Sets.{precedingOf, childrenOf, entryWord}
+use Rattle.judge.proofs.sets.Members.{upper-half}
 use Rattle.judge.proofs.sets.children.Statement.{statement}
 use Rattle.judge.proofs.sets.children.Tie as tie
 

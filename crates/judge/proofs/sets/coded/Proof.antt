@@ -1,7 +1,7 @@
 -- `judge::sets::coded` meets its contract: the set is computed from the table. Assumes nothing.
 use borrow.Author.Needs.{needs}
 use Rattle.guide.specs.Pricat.{pricat20d, pricat20c}
-use Rattle.judge.specs.Sets.{bits, nodesThat, codedOf}
+use Rattle.judge.specs.workers.Sets.{bits, nodesThat, codedOf}
 use Rattle.judge.proofs.sets.coded.Statement.{statement}
 use Rattle.judge.proofs.sets.coded.Tie as tie
 

@@ -1,7 +1,7 @@
 -- `judge::sets::due` meets its contract: the upper half of the word. Assumes nothing.
 use borrow.Author.Needs.{needs}
-use Rattle.judge.specs.Sets.{followersOf, dueAfter, afterWord}
-use Rattle.judge.proofs.Members.{upper-half}
+use Rattle.judge.specs.workers.Sets.{followersOf, dueAfter, afterWord}
+use Rattle.judge.proofs.sets.Members.{upper-half}
 use Rattle.judge.proofs.sets.due.Statement.{statement}
 use Rattle.judge.proofs.sets.due.Tie as tie
 

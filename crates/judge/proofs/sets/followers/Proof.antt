@@ -1,7 +1,7 @@
 -- `judge::sets::followers` meets its contract: the lower half of the word. Assumes nothing.
 use borrow.Author.Needs.{needs}
-use Rattle.judge.specs.Sets.{followersOf, dueAfter, afterWord}
-use Rattle.judge.proofs.Members.{lower-half}
+use Rattle.judge.specs.workers.Sets.{followersOf, dueAfter, afterWord}
+use Rattle.judge.proofs.sets.Members.{lower-half}
 use Rattle.judge.proofs.sets.followers.Statement.{statement}
 use Rattle.judge.proofs.sets.followers.Tie as tie
 

@@ -1,7 +1,7 @@
 -- `judge::sets::preceding` meets its contract: the lower half of the word. Assumes nothing.
 use borrow.Author.Needs.{needs}
-use Rattle.judge.specs.Sets.{precedingOf, childrenOf, entryWord}
-use Rattle.judge.proofs.Members.{lower-half}
+use Rattle.judge.specs.workers.Sets.{precedingOf, childrenOf, entryWord}
+use Rattle.judge.proofs.sets.Members.{lower-half}
 use Rattle.judge.proofs.sets.preceding.Statement.{statement}
 use Rattle.judge.proofs.sets.preceding.Tie as tie
 

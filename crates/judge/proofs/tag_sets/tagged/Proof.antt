@@ -1,7 +1,7 @@
 -- `judge::tag_sets::tagged` meets its contract: each edition has its own table. Assumes nothing.
 use borrow.Author.Needs.{needs}
 use mathlib.Core.Path.{sym, _∙_, ap}
-use Rattle.judge.specs.Sets.{taggedOf}
+use Rattle.judge.specs.workers.Sets.{taggedOf}
 use Rattle.guide.specs.declared.edition.Edition.{Edition}
 use Rattle.guide.specs.Editions.{guideOf}
 use Rattle.judge.proofs.tag_sets.tagged.Statement.{statement}
@@ -23,7 +23,8 @@ returns : tie.Need-returns
 returns c = c .tagged-20d .ensures ∙ ap (λ (e : Edition). taggedOf (guideOf e) (c .before .before .before .args .tag)) (sym (c .before .enum-told .given .1))
 
 returns-2 : tie.Need-returns-2
-returns-2 c = c .tagged-20c .ensures ∙ ap (λ (e : Edition). taggedOf (guideOf e) (c .before .before .before .args .tag)) (sym (c .before .enum-told2 .given .1))
+returns-2 c =
+    c .tagged-20c .ensures ∙ ap (λ (e : Edition). taggedOf (guideOf e) (c .before .before .before .args .tag)) (sym (c .before .enum-told2 .given .1))
 
 pub tagged-spec : {M : Type 1} → statement M
 tagged-spec = tie.close (tie.spec enum-told tagged-20d-requires enum-told-2 tagged-20c-requires returns returns-2)

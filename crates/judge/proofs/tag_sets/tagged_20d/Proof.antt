@@ -2,9 +2,9 @@
 use mathlib.Core.Path.{sym, ap}
 use Rattle.guide.specs.Pricat.{pricat20d}
 use Rattle.guide.specs.declared.edition.Edition.the-variants.{D}
-use Rattle.judge.specs.Words.{packed}
-use Rattle.judge.specs.Sets.{bits, nodesThat, taggedOf}
-use Rattle.judge.proofs.Tagged.{tag-other}
+use Rattle.judge.specs.workers.Words.{packed}
+use Rattle.judge.specs.workers.Sets.{bits, nodesThat, taggedOf}
+use Rattle.judge.proofs.tags.Tagged.{tag-other}
 use Rattle.judge.proofs.tag_sets.tagged_20d.Statement.{statement}
 use Rattle.judge.proofs.tag_sets.tagged_20d.Tie as tie
 

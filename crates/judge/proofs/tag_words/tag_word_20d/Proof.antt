@@ -2,9 +2,9 @@
 use native.Mathlib.Omega.{arith}
 use mathlib.Core.Path.{sym, ap}
 use Rattle.guide.specs.Pricat.{pricat20d}
-use Rattle.judge.specs.Words.{packed}
-use Rattle.judge.specs.Rows.{tagWord}
-use Rattle.judge.proofs.Tables.{differs-past}
+use Rattle.judge.specs.workers.Words.{packed}
+use Rattle.judge.specs.workers.Rows.{tagWord}
+use Rattle.judge.proofs.rows.Tables.{differs-past}
 use Rattle.judge.proofs.tag_words.tag_word_20d.Statement.{statement}
 use Rattle.judge.proofs.tag_words.tag_word_20d.Tie as tie
 

@@ -1,7 +1,7 @@
 -- `judge::tags::has_tag` meets its contract: past the table, or the two numbers are compared. Assumes nothing.
 use borrow.Author.Needs.{needs}
 use native.Mathlib.Omega.{arith}
-use Rattle.judge.proofs.Tagged.{tag-past, tag-same}
+use Rattle.judge.proofs.tags.Tagged.{tag-past, tag-same}
 use Rattle.judge.proofs.tags.has_tag.Statement.{statement}
 use Rattle.judge.proofs.tags.has_tag.Tie as tie
 
@@ -22,7 +22,8 @@ three-requires c κs = search needs
 returns-2 : tie.Need-returns-2
 returns-2 c =
     let a = c .before .before .before .before .args in
-    tag-same (a .edition) (a .n) (a .a) (a .b) (a .c) (search needs) (search needs) (search needs) (search needs) _ _ (c .before .tag-of .ensures) (c .three .ensures)
+    tag-same (a .edition) (a .n) (a .a) (a .b) (a .c) (search needs) (search needs) (search needs) (search needs) _ _ (c .before .tag-of .ensures)
+    (c .three .ensures)
 
 pub has-tag-spec : {M : Type 1} → statement M
 has-tag-spec =

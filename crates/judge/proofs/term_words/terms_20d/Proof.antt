@@ -2,10 +2,10 @@
 use native.Mathlib.Omega.{arith}
 use mathlib.Core.Path.{sym, ap}
 use Rattle.guide.specs.Nodes.{paired}
-use Rattle.guide.specs.Placing.{lowest}
+use Rattle.guide.specs.workers.Placing.{lowest}
 use Rattle.guide.specs.Pricat.{pricat20d}
-use Rattle.judge.specs.Rows.{termWord, codesOf, firstDue, nextDue}
-use Rattle.judge.proofs.Tables.{differs-past}
+use Rattle.judge.specs.workers.Rows.{termWord, codesOf, firstDue, nextDue}
+use Rattle.judge.proofs.rows.Tables.{differs-past}
 use Rattle.judge.proofs.term_words.terms_20d.Statement.{statement}
 use Rattle.judge.proofs.term_words.terms_20d.Tie as tie
 

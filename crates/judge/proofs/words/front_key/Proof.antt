@@ -7,8 +7,8 @@ use borrow.Author.Tests.{not-false}
 use Rattle.element.proofs.FrontKeys.{scale-some, scale-fits, front-key}
 use Rattle.element.proofs.UsualServices.{usual-are}
 use Rattle.guide.specs.Views.{viewOf}
-use Rattle.judge.specs.Words.{Bytes}
-use Rattle.judge.proofs.Packing.{letters-passed}
+use Rattle.judge.specs.workers.Words.{Bytes}
+use Rattle.judge.proofs.words.Packing.{letters-passed}
 use Rattle.judge.proofs.words.front_key.Statement.{statement}
 use Rattle.judge.proofs.words.front_key.Tie as tie
 
@@ -94,7 +94,8 @@ returns-7 c _ =
     let bytes : Bytes (a .d .now) = λ k. omega (arith, known .shared-slice-known .given k) in
     let u = usual-are (a .y) (sym (usual .before .has-usual-services .ensures) ∙ not-false _ (usual .if3 .left)) in
     front-key (a .y) (a .d .now) (a .start) (a .end) (limited .limit-of .result) (limited .limit-of .ensures) room bytes
-    (letters-passed (a .d .now) (a .start) (a .end) _ (limited .limit-of .ensures) (omega (arith, room)) bytes (known .before .pre) (a .y) (u .0) (u .1) (u .2) (u .3))
+    (letters-passed (a .d .now) (a .start) (a .end) _ (limited .limit-of .ensures) (omega (arith, room)) bytes (known .before .pre) (a .y) (u .0) (u .1)
+    (u .2) (u .3))
     (separated .if4 .left) (λ z. omega (arith, z, u .0, u .1)) _ _ _ (behind .before .before .eight-at .ensures)
     (behind .before .services-in .ensures) (behind .first-of .ensures) (last .if5 .left) (c .if6 .left) _ refl
 

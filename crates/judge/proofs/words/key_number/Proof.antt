@@ -1,6 +1,6 @@
 -- `judge::words::key_number` meets its contract: the word that eight bytes tell, or that of the component's place. Assumes nothing.
 use borrow.Author.Needs.{needs}
-use Rattle.judge.proofs.Packing.{key-word}
+use Rattle.judge.proofs.words.Packing.{key-word}
 use Rattle.judge.proofs.words.key_number.Statement.{statement}
 use Rattle.judge.proofs.words.key_number.Tie as tie
 

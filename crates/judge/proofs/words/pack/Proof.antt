@@ -2,7 +2,7 @@
 use borrow.Author.Needs.{needs}
 use native.Mathlib.Omega.{arith}
 use mathlib.Core.Path.{_∙_}
-use Rattle.judge.proofs.Packing.{pack-none, pack-one, pack-two, pack-three}
+use Rattle.judge.proofs.words.Packing.{pack-none, pack-one, pack-two, pack-three}
 use Rattle.judge.proofs.words.pack.Statement.{statement}
 use Rattle.judge.proofs.words.pack.Tie as tie
 

@@ -1,6 +1,6 @@
 -- `judge::words::tag_number` meets its contract: no bytes, fewer than three, three. Assumes nothing.
 use borrow.Author.Needs.{needs}
-use Rattle.judge.proofs.Packing.{tag-none, tag-short, tag-three}
+use Rattle.judge.proofs.words.Packing.{tag-none, tag-short, tag-three}
 use Rattle.judge.proofs.words.tag_number.Statement.{statement}
 use Rattle.judge.proofs.words.tag_number.Tie as tie
 

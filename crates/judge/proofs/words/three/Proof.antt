@@ -1,6 +1,6 @@
 -- `judge::words::three` meets its contract: the three bytes as digits. Assumes nothing.
 use borrow.Author.Needs.{needs}
-use Rattle.judge.specs.Words.{packed}
+use Rattle.judge.specs.workers.Words.{packed}
 use Rattle.judge.proofs.words.three.Statement.{statement}
 use Rattle.judge.proofs.words.three.Tie as tie
 

@@ -1,7 +1,7 @@
 -- `page::cells::cell` meets its contract: each arm is a cell of the table.
-use Rattle.page.specs.Cells.{cellTable, cellOf}
-use Rattle.page.proofs.PageTables.{past-all}
-use Rattle.page.proofs.CellArms.{cell-arm}
+use Rattle.page.specs.workers.Cells.{cellTable, cellOf}
+use Rattle.page.proofs.words.Tables.{past-all}
+use Rattle.page.proofs.cells.Arms.{cell-arm}
 use Rattle.page.proofs.cells.cell.Statement.{statement}
 use Rattle.page.proofs.cells.cell.Tie as tie
 

@@ -1,6 +1,6 @@
 -- `page::cells::first_20c` meets its contract: each arm is a word of the table.
 use Rattle.guide.specs.Pricat.{pricat20c}
-use Rattle.page.proofs.CellArms.{first-arm-20c, first-none}
+use Rattle.page.proofs.cells.Arms.{first-arm-20c, first-none}
 use Rattle.page.proofs.cells.first_20c.Statement.{statement}
 use Rattle.page.proofs.cells.first_20c.Tie as tie
 

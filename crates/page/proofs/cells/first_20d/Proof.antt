@@ -1,6 +1,6 @@
 -- `page::cells::first_20d` meets its contract: each arm is a word of the table.
 use Rattle.guide.specs.Pricat.{pricat20d}
-use Rattle.page.proofs.CellArms.{first-arm-20d, first-none}
+use Rattle.page.proofs.cells.Arms.{first-arm-20d, first-none}
 use Rattle.page.proofs.cells.first_20d.Statement.{statement}
 use Rattle.page.proofs.cells.first_20d.Tie as tie
 

@@ -4,7 +4,7 @@ use borrow.Author.Needs.{needs}
 use Rattle.guide.specs.Nodes.{node}
 use Rattle.guide.specs.declared.edition.Edition.{Edition}
 use Rattle.guide.specs.Editions.{guideOf, pagesOf}
-use Rattle.page.specs.Cells.{FirstWord}
+use Rattle.page.specs.workers.Cells.{FirstWord}
 use Rattle.page.proofs.cells.first_cell.Statement.{statement}
 use Rattle.page.proofs.cells.first_cell.Tie as tie
 
@@ -22,12 +22,14 @@ first-20c-requires c κs = search needs
 
 returns : tie.Need-returns
 returns c =
-    subst (λ (e : Edition). let n = c .before .before .before .args .n in FirstWord (node (guideOf e) n .tag) (pagesOf e n) (c .first-20d .result)) (sym (c .before .enum-told .given .1))
+    subst (λ (e : Edition). let n = c .before .before .before .args .n in FirstWord (node (guideOf e) n .tag) (pagesOf e n) (c .first-20d .result))
+    (sym (c .before .enum-told .given .1))
     (c .first-20d .ensures)
 
 returns-2 : tie.Need-returns-2
 returns-2 c =
-    subst (λ (e : Edition). let n = c .before .before .before .args .n in FirstWord (node (guideOf e) n .tag) (pagesOf e n) (c .first-20c .result)) (sym (c .before .enum-told2 .given .1))
+    subst (λ (e : Edition). let n = c .before .before .before .args .n in FirstWord (node (guideOf e) n .tag) (pagesOf e n) (c .first-20c .result))
+    (sym (c .before .enum-told2 .given .1))
     (c .first-20c .ensures)
 
 pub first-cell-spec : {M : Type 1} → statement M

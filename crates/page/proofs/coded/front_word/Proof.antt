@@ -3,7 +3,7 @@ use Prim.Native.Nat.{_-_}
 use native.Mathlib.Omega.{arith}
 use borrow.Author.Needs.{needs}
 use lib.Bits.{and-le-r}
-use Rattle.page.proofs.KeyWords.{front-key}
+use Rattle.page.proofs.coded.KeyWords.{front-key}
 use Rattle.page.proofs.coded.front_word.Statement.{statement}
 use Rattle.page.proofs.coded.front_word.Tie as tie
 
@@ -22,7 +22,8 @@ add-result c = omega (arith, and-le-r (c .eight-at .result) (c .before .above .r
 returns : tie.Need-returns
 returns c =
     let known = c .before .before in
-    front-key _ _ _ (known .before .pre .0) (known .before .pre .1) (λ k. omega (arith, known .shared-slice-known .given k)) _ _ (c .eight-at .ensures) (c .before .above .ensures .0)
+    front-key _ _ _ (known .before .pre .0) (known .before .pre .1) (λ k. omega (arith, known .shared-slice-known .given k)) _ _ (c .eight-at .ensures)
+    (c .before .above .ensures .0)
 
 pub front-word-spec : {M : Type 1} → statement M
 front-word-spec =

@@ -4,10 +4,10 @@ use mathlib.Core.Bool.{_||_}
 use mathlib.Core.Path.{_≡_, refl, sym, _∙_}
 use mathlib.Core.List.{[]}
 use native.Mathlib.Omega.{arith}
-use Rattle.page.specs.PageColumns.{allCodes}
-use Rattle.page.specs.PageKeys.{keyAmong}
-use Rattle.page.specs.PageWords.{span}
-use Rattle.page.proofs.KeyCodes.{search-end, search-next}
+use Rattle.page.specs.workers.Columns.{allCodes}
+use Rattle.page.specs.workers.Keys.{keyAmong}
+use Rattle.page.specs.workers.Words.{span}
+use Rattle.page.proofs.coded.KeyCodes.{search-end, search-next}
 use borrow.Author.Needs.{needs}
 use Rattle.page.proofs.coded.has_code.Statement.{statement}
 use Rattle.page.proofs.coded.has_code.Tie as tie

@@ -2,8 +2,8 @@
 use mathlib.Core.Path.{sym, ap, _∙_}
 use native.Mathlib.Omega.{arith}
 use borrow.Author.Needs.{needs}
-use Rattle.element.specs.Words.{wordOf}
-use Rattle.page.proofs.KeyWords.{key-long, unreleased}
+use Rattle.plain.specs.Words.{wordOf}
+use Rattle.page.proofs.coded.KeyWords.{key-long, unreleased}
 use Rattle.page.proofs.coded.key_of.Statement.{statement}
 use Rattle.page.proofs.coded.key_of.Tie as tie
 

@@ -1,7 +1,7 @@
 -- `page::examining::examined` meets its contract: by the node's word, for a part with or without a byte.
 use native.Mathlib.Omega.{arith}
 use borrow.Author.Needs.{needs}
-use Rattle.page.proofs.PageResults.{own-word, examined-none, examined-some}
+use Rattle.page.proofs.places.Results.{own-word, examined-none, examined-some}
 use Rattle.page.proofs.examining.examined.Statement.{statement}
 use Rattle.page.proofs.examining.examined.Tie as tie
 
@@ -25,7 +25,8 @@ returns c =
     let n = c .before in
     let a = n .before in
     let l = a .before .before in
-    examined-none _ _ (l .before .node-word .ensures) _ _ _ _ _ (l .limit-of .ensures) (a .before .if1 .taken) _ (a .absent .ensures) _ (n .nowhere .ensures) _ (c .told .ensures)
+    examined-none _ _ (l .before .node-word .ensures) _ _ _ _ _ (l .limit-of .ensures) (a .before .if1 .taken) _ (a .absent .ensures) _
+    (n .nowhere .ensures) _ (c .told .ensures)
 
 pass-requires : tie.Need-pass-requires
 pass-requires c κs = (c .if1 .left, omega (arith, c .before .limit-of .ensures), own-word _ _ (c .before .before .node-word .ensures))

@@ -1,6 +1,6 @@
 -- `page::formed::filled_fault` meets its contract: each return by its tests, in the order 18, 19, 20.
 use borrow.Author.Tests.{not-true, not-false}
-use Rattle.page.proofs.PageFaults.{filled-unused, filled-format, filled-code, filled-right}
+use Rattle.page.proofs.formed.Faults.{filled-unused, filled-format, filled-code, filled-right}
 use Rattle.page.proofs.formed.filled_fault.Statement.{statement}
 use Rattle.page.proofs.formed.filled_fault.Tie as tie
 
@@ -22,13 +22,15 @@ returns-3 : tie.Need-returns-3
 returns-3 c =
     let f = c .before .before in
     let u = f .before .before in
-    filled-code _ _ _ _ (u .before .before .pre) (u .if1 .left) _ (f .before .is-formed .ensures) (not-false _ (f .if2 .left)) _ (c .before .listed .ensures) (not-true _ (c .if3 .taken))
+    filled-code _ _ _ _ (u .before .before .pre) (u .if1 .left) _ (f .before .is-formed .ensures) (not-false _ (f .if2 .left)) _
+    (c .before .listed .ensures) (not-true _ (c .if3 .taken))
 
 returns-4 : tie.Need-returns-4
 returns-4 c =
     let f = c .before .before in
     let u = f .before .before in
-    filled-right _ _ _ _ (u .before .before .pre) (u .if1 .left) _ (f .before .is-formed .ensures) (not-false _ (f .if2 .left)) _ (c .before .listed .ensures) (not-false _ (c .if3 .left))
+    filled-right _ _ _ _ (u .before .before .pre) (u .if1 .left) _ (f .before .is-formed .ensures) (not-false _ (f .if2 .left)) _
+    (c .before .listed .ensures) (not-false _ (c .if3 .left))
 
 pub filled-fault-spec : {M : Type 1} → statement M
 filled-fault-spec =

@@ -2,8 +2,8 @@
 use mathlib.Core.Path.{ap, _∙_}
 use Rattle.value.specs.declared.formats.Format.{Format}
 use Rattle.value.specs.Format.{fitsFormat}
-use Rattle.element.specs.Plain.{decoded}
-use Rattle.page.proofs.PageFaults.{formed-up-to, formed-exactly}
+use Rattle.plain.specs.Plain.{decoded}
+use Rattle.page.proofs.formed.Faults.{formed-up-to, formed-exactly}
 use borrow.Author.Needs.{needs}
 use Rattle.page.proofs.formed.is_formed.Statement.{statement}
 use Rattle.page.proofs.formed.is_formed.Tie as tie

@@ -1,5 +1,5 @@
 -- `page::formed::is_must` meets its contract: by the status.
-use Rattle.page.proofs.PageFaults.{must-status}
+use Rattle.page.proofs.formed.Faults.{must-status}
 use Rattle.page.proofs.formed.is_must.Statement.{statement}
 use Rattle.page.proofs.formed.is_must.Tie as tie
 

@@ -1,5 +1,5 @@
 -- `page::formed::number_format` meets its contract: each return by the kind.
-use Rattle.page.proofs.PageFaults.{format-digits, format-number}
+use Rattle.page.proofs.formed.Faults.{format-digits, format-number}
 use Rattle.page.proofs.formed.number_format.Statement.{statement}
 use Rattle.page.proofs.formed.number_format.Tie as tie
 

@@ -1,7 +1,7 @@
 -- `page::formed::text_fault` meets its contract: empty or not.
 use mathlib.Core.Path.{sym, _∙_}
 use native.Mathlib.Omega.{arith}
-use Rattle.page.proofs.PageFaults.{empty-text, filled-any}
+use Rattle.page.proofs.formed.Faults.{empty-text, filled-any}
 use borrow.Author.Needs.{needs}
 use Rattle.page.proofs.formed.text_fault.Statement.{statement}
 use Rattle.page.proofs.formed.text_fault.Tie as tie

@@ -5,9 +5,9 @@ use native.Mathlib.Omega.{arith}
 use lib.ListN.{length}
 use borrow.Author.Needs.{needs}
 use borrow.Author.Tests.{not-false}
-use Rattle.page.specs.Marks.{MarkSought}
+use Rattle.page.specs.workers.Marks.{MarkSought}
 use Rattle.page.specs.declared.scan.Scan.{Scan}
-use Rattle.page.proofs.PageClean.{Clean, clean-first, clean-found, clean-mark}
+use Rattle.page.proofs.marks.Clean.{Clean, clean-first, clean-found, clean-mark}
 use Rattle.page.proofs.marks.clean_on.Statement.{statement}
 use Rattle.page.proofs.marks.clean_on.Tie as tie
 
@@ -56,7 +56,8 @@ sub-t13 c =
 returns-2 : tie.Need-returns-2 Inv-loop μ-loop
 returns-2 c =
     let k = c .before .before in
-    λ n. clean-found _ (k .before .before .before .before .before .before .before .pre .0) _ _ _ _ (k .before .before .before .before .before .loop .inv) _ (sought k) _ refl (c .if2 .taken)
+    λ n. clean-found _ (k .before .before .before .before .before .before .before .pre .0) _ _ _ _ (k .before .before .before .before .before .loop .inv) _
+    (sought k) _ refl (c .if2 .taken)
 
 add-if3 : tie.Need-add-if3 Inv-loop μ-loop
 add-if3 c = omega (arith, sought (c .before .before) .inside)
@@ -111,7 +112,8 @@ goes c =
     let f = x .before .before in
     let k = f .before .before .before in
     let l = k .before .before .before .before .before in
-    clean-mark _ (l .before .before .pre .0) _ _ _ _ (l .loop .inv) _ (sought k) _ refl (f .before .if2 .left) (omega (arith, f .if3 .left)) (sym (m .marks .ensures) ∙ not-false _ (c .before .if5 .left))
+    clean-mark _ (l .before .before .pre .0) _ _ _ _ (l .loop .inv) _ (sought k) _ refl (f .before .if2 .left) (omega (arith, f .if3 .left))
+    (sym (m .marks .ensures) ∙ not-false _ (c .before .if5 .left))
     (sym (x .is-text .ensures) ∙ not-false _ (m .before .if4 .left)) _ (c .untested .ensures)
 
 add-removed : tie.Need-add-removed Inv-loop μ-loop

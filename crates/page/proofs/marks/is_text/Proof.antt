@@ -1,6 +1,6 @@
 -- `page::marks::is_text` meets its contract.
 use borrow.Author.Tests.{le-leb, lt-leb}
-use Rattle.element.specs.Clean.{between}
+use Rattle.clean.specs.Clean.{between}
 use Rattle.page.proofs.marks.is_text.Statement.{statement}
 use Rattle.page.proofs.marks.is_text.Tie as tie
 

@@ -5,13 +5,13 @@ use native.Mathlib.Omega.{arith}
 use mathlib.Core.Path.{refl, ap}
 use lib.ListN.{length}
 use borrow.Author.Needs.{needs}
-use Rattle.cut.proofs.Bytewise.{FirstOf, flagged-there, first-of}
-use Rattle.element.specs.Scans.{waiting}
+use Rattle.bytewise.proofs.Bytewise.{FirstOf, flagged-there, first-of}
+use Rattle.element.specs.workers.Scans.{waiting}
 use Rattle.element.specs.Services.{isMark}
 use Rattle.element.proofs.MarkFace.{scan-word, scan-flag}
-use Rattle.page.specs.Marks.{MarkScanned}
+use Rattle.page.specs.workers.Marks.{MarkScanned}
 use Rattle.page.specs.declared.scan.Scan.{Scan}
-use Rattle.page.proofs.PageScans.{mark-flag}
+use Rattle.page.proofs.scan.Flags.{mark-flag}
 use Rattle.page.proofs.marks.mark_on.Statement.{statement}
 use Rattle.page.proofs.marks.mark_on.Tie as tie
 

@@ -1,5 +1,5 @@
 -- `page::pages::absent` meets its contract: the elements that lack a component reach behind element e or not.
-use Rattle.page.proofs.PageMoods.{absent-some, absent-none}
+use Rattle.page.proofs.pages.Moods.{absent-some, absent-none}
 use Rattle.page.proofs.pages.absent.Statement.{statement}
 use Rattle.page.proofs.pages.absent.Tie as tie
 

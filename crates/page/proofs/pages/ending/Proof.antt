@@ -1,5 +1,5 @@
 -- `page::pages::ending` meets its contract: each return by its tests.
-use Rattle.page.proofs.PageMoods.{ending-must, ending-may, ending-calm}
+use Rattle.page.proofs.pages.Moods.{ending-must, ending-may, ending-calm}
 use borrow.Author.Needs.{needs}
 use Rattle.page.proofs.pages.ending.Statement.{statement}
 use Rattle.page.proofs.pages.ending.Tie as tie

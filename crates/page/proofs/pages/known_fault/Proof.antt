@@ -1,6 +1,6 @@
 -- `page::pages::known_fault` meets its contract: each return by the mood.
 use mathlib.Core.Path.{sym, _∙_}
-use Rattle.page.proofs.PageMoods.{known-text, owing-empty, owing-filled, tag-calm}
+use Rattle.page.proofs.pages.Moods.{known-text, owing-empty, owing-filled, tag-calm}
 use Rattle.page.proofs.pages.known_fault.Statement.{statement}
 use Rattle.page.proofs.pages.known_fault.Tie as tie
 

@@ -1,7 +1,7 @@
 -- `page::pages::mood_after` meets its contract: each return by its tests.
 use mathlib.Core.Path.{sym, _∙_}
 use native.Mathlib.Omega.{arith}
-use Rattle.page.proofs.PageMoods.{mood-kept, mood-filled, mood-owing, mood-idle}
+use Rattle.page.proofs.pages.Moods.{mood-kept, mood-filled, mood-owing, mood-idle}
 use borrow.Author.Needs.{needs}
 use Rattle.page.proofs.pages.mood_after.Statement.{statement}
 use Rattle.page.proofs.pages.mood_after.Tie as tie

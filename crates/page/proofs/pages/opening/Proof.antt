@@ -1,5 +1,5 @@
 -- `page::pages::opening` meets its contract: each return by its test.
-use Rattle.page.proofs.PageMoods.{opening-asks, opening-idle}
+use Rattle.page.proofs.pages.Moods.{opening-asks, opening-idle}
 use Rattle.page.proofs.pages.opening.Statement.{statement}
 use Rattle.page.proofs.pages.opening.Tie as tie
 

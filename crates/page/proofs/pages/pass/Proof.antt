@@ -4,15 +4,15 @@ use mathlib.Core.Path.{_≡_, refl, _∙_}
 use native.Mathlib.Omega.{arith}
 use borrow.Author.Needs.{needs}
 use lib.ListN.{length}
-use Rattle.cut.specs.Bytes.{part}
-use Rattle.element.specs.Plain.{decoded}
+use Rattle.bytewise.specs.Bytes.{part}
+use Rattle.plain.specs.Plain.{decoded}
 use Rattle.element.proofs.ComponentFace.{Ended, extent-ended, extent-length}
-use Rattle.guide.specs.PageFault.{pageFault}
-use Rattle.page.specs.PageWords.{pageIn}
-use Rattle.page.proofs.PageResults.{result-told, result-done}
-use Rattle.page.proofs.PageSought.{Gathered, gather-begins, gather-further, gather-enter, gather-done}
-use Rattle.page.proofs.PageSteps.{Before, Behind, pass-begins, pass-told, pass-on, pass-further, pass-left, pass-done, pass-enter}
-use Rattle.page.proofs.PageStops.{stop-inner}
+use Rattle.guide.specs.workers.PageFault.{pageFault}
+use Rattle.page.specs.workers.Words.{pageIn}
+use Rattle.page.proofs.places.Results.{result-told, result-done}
+use Rattle.page.proofs.places.Sought.{Gathered, gather-begins, gather-further, gather-enter, gather-done}
+use Rattle.page.proofs.pages.Steps.{Before, Behind, pass-begins, pass-told, pass-on, pass-further, pass-left, pass-done, pass-enter}
+use Rattle.page.proofs.pages.Stops.{stop-inner}
 use Rattle.page.proofs.pages.pass.Statement.{statement}
 use Rattle.page.proofs.pages.pass.Tie as tie
 
@@ -43,7 +43,8 @@ ended c = extent-ended _ _ _ _ _ (c .component-from .ensures) (c .before .loop .
 
 counted
     : (c : tie.After-component-from Inv-loop μ-loop)
-    → let a = c .before .before .before .before .args in c .component-from .result .length ≡ length (decoded (a .y) (c .before .loop .a) (c .component-from .result .end) (a .d .now))
+    → let a = c .before .before .before .before .args in c .component-from .result .length
+    ≡ length (decoded (a .y) (c .before .loop .a) (c .component-from .result .end) (a .d .now))
 counted c = extent-length _ _ _ _ _ (c .component-from .ensures) (c .before .loop .inv .0 .ahead) (c .before .before .before .before .pre .1)
 
 row-at-requires : tie.Need-row-at-requires Inv-loop μ-loop
@@ -59,7 +60,8 @@ returns : tie.Need-returns Inv-loop μ-loop
 returns c =
     let k = c .before .before in
     let f = k .before .before in
-    let g = pass-told _ _ _ _ _ _ _ _ _ _ (f .before .loop .inv .0) _ (ended f) _ (k .before .row-at .ensures) _ (k .known-fault .ensures) (c .before .if1 .taken) in
+    let g = pass-told _ _ _ _ _ _ _ _ _ _ (f .before .loop .inv .0) _ (ended f) _ (k .before .row-at .ensures) _ (k .known-fault .ensures)
+    (c .before .if1 .taken) in
     result-told _ _ _ _ _ _ g _ _ (c .told .ensures) (c .before .if1 .taken)
 
 places-on-requires : tie.Need-places-on-requires Inv-loop μ-loop
@@ -73,12 +75,14 @@ behind
     : (c : tie.After-mood-after Inv-loop μ-loop)
     → let l = c .before .before .before .before .before .before in
     let a = l .before .before .before .args in
-    Behind (a .y) (pageIn (a .page)) (a .d .now) (a .limit) (pageFault (a .y) (pageIn (a .page)) (part (a .start) (a .limit) (a .d .now))) (l .loop .a) (l .loop .e) (l .loop .c) (c .mood-after .result)
+    Behind (a .y) (pageIn (a .page)) (a .d .now) (a .limit) (pageFault (a .y) (pageIn (a .page)) (part (a .start) (a .limit) (a .d .now))) (l .loop .a)
+    (l .loop .e) (l .loop .c) (c .mood-after .result)
 behind c =
     let i = c .before .before in
     let k = i .before in
     let f = k .before .before in
-    pass-on _ _ _ _ _ _ _ _ _ _ (f .before .loop .inv .0) _ (ended f) _ (k .before .row-at .ensures) _ (k .known-fault .ensures) (i .if1 .left) _ _ (counted f) (c .mood-after .ensures)
+    pass-on _ _ _ _ _ _ _ _ _ _ (f .before .loop .inv .0) _ (ended f) _ (k .before .row-at .ensures) _ (k .known-fault .ensures) (i .if1 .left) _ _
+    (counted f) (c .mood-after .ensures)
 
 add-a : tie.Need-add-a Inv-loop μ-loop
 add-a c =
@@ -125,7 +129,8 @@ returns-2 c =
     let t = n .before .before in
     let m = t .before .before in
     let f = m .before .before .before .before .before in
-    let g = pass-left _ _ _ _ _ _ _ _ _ _ (f .before .loop .inv .0) _ (ended f) _ (behind m) _ (t .stop-at .ensures) _ refl (n .before .if2 .left) _ (n .ending .ensures) (c .before .if3 .taken) in
+    let g = pass-left _ _ _ _ _ _ _ _ _ _ (f .before .loop .inv .0) _ (ended f) _ (behind m) _ (t .stop-at .ensures) _ refl (n .before .if2 .left) _
+    (n .ending .ensures) (c .before .if3 .taken) in
     result-told _ _ _ _ _ _ g _ _ (c .told2 .ensures) (c .before .if3 .taken)
 
 absent-requires : tie.Need-absent-requires Inv-loop μ-loop
@@ -143,7 +148,8 @@ returns-3 c =
     let f = m .before .before .before .before .before in
     let q = f .before .loop .inv in
     let i = b .before .if4 .taken in
-    let g = pass-done _ _ _ _ _ _ _ _ _ _ (q .0) _ (ended f) _ (behind m) _ (t .stop-at .ensures) _ refl (n .before .if2 .left) _ (n .ending .ensures) (b .before .before .if3 .left) i in
+    let g = pass-done _ _ _ _ _ _ _ _ _ _ (q .0) _ (ended f) _ (behind m) _ (t .stop-at .ensures) _ refl (n .before .if2 .left) _ (n .ending .ensures)
+    (b .before .before .if3 .left) i in
     result-done _ _ _ _ _ _ (b .absent .ensures ∙ g) _ _ (c .told3 .ensures)
     (gather-done _ _ _ _ _ _ _ _ (q .1) _ (ended f) _ (t .stop-at .ensures) _ (m .before .places-on .ensures) i (n .before .if2 .left))
 
@@ -175,7 +181,8 @@ loop-again-2 c =
     let q = f .before .loop .inv in
     let i = c .before .before .if4 .left in
     let j = n .before .if2 .left in (
-      pass-enter _ _ _ _ _ _ _ _ _ _ (q .0) _ (ended f) _ (behind m) _ (t .stop-at .ensures) _ refl j _ (n .ending .ensures) (c .before .before .before .if3 .left) i _ _ (c .before .element-behind .ensures) (c .opening .ensures),
+      pass-enter _ _ _ _ _ _ _ _ _ _ (q .0) _ (ended f) _ (behind m) _ (t .stop-at .ensures) _ refl j _ (n .ending .ensures)
+          (c .before .before .before .if3 .left) i _ _ (c .before .element-behind .ensures) (c .opening .ensures),
       gather-enter _ _ _ _ _ _ _ _ (q .1) _ (ended f) _ (t .stop-at .ensures) _ (m .before .places-on .ensures) _ refl i j,
     )
 

@@ -1,5 +1,5 @@
 -- `page::pages::stop_at` meets its contract: each return by its tests.
-use Rattle.page.proofs.PageStops.{stop-end, stop-segment, stop-element, stop-component}
+use Rattle.page.proofs.pages.Stops.{stop-end, stop-segment, stop-element, stop-component}
 use borrow.Author.Needs.{needs}
 use Rattle.page.proofs.pages.stop_at.Statement.{statement}
 use Rattle.page.proofs.pages.stop_at.Tie as tie

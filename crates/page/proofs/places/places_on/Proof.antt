@@ -1,5 +1,5 @@
 -- `page::places::places_on` meets its contract: each return by its tests.
-use Rattle.page.proofs.PageSought.{places-inner, places-first, places-third, places-other}
+use Rattle.page.proofs.places.Sought.{places-inner, places-first, places-third, places-other}
 use Rattle.page.proofs.places.places_on.Statement.{statement}
 use Rattle.page.proofs.places.places_on.Tie as tie
 

@@ -1,6 +1,6 @@
 -- `page::places::told` meets its contract: with a fault or without.
 use borrow.Author.Needs.{needs}
-use Rattle.page.proofs.PageResults.{told-fault, told-right}
+use Rattle.page.proofs.places.Results.{told-fault, told-right}
 use Rattle.page.proofs.places.told.Statement.{statement}
 use Rattle.page.proofs.places.told.Tie as tie
 

@@ -8,16 +8,16 @@ use native.Mathlib.Omega.{arith}
 use borrow.Author.Needs.{needs}
 use borrow.Author.Tests.{not-false}
 use lib.ListN.{length, getD}
-use Rattle.element.specs.Plain.{decoded}
-use Rattle.guide.specs.PageFault.{textFault}
-use Rattle.page.specs.Cells.{stepsOf, mayEnd, nextOf}
-use Rattle.page.specs.PageWords.{freeRow}
-use Rattle.page.specs.Marks.{CleanAhead}
-use Rattle.page.specs.Quick.{Begun}
+use Rattle.plain.specs.Plain.{decoded}
+use Rattle.guide.specs.workers.PageFault.{textFault}
+use Rattle.page.specs.workers.Cells.{stepsOf, mayEnd, nextOf}
+use Rattle.page.specs.workers.Words.{freeRow}
+use Rattle.page.specs.workers.Marks.{CleanAhead}
+use Rattle.page.specs.workers.Quick.{Begun}
 use Rattle.page.specs.declared.scan.Scan.{Scan}
-use Rattle.page.proofs.CellReads.{service-last, service-next}
-use Rattle.page.proofs.QuickStart.{begun-room}
-use Rattle.page.proofs.QuickLoop.{Walked, OnPages, walk-begins, pages-begin, here-counted, walk-on, pages-on, faultless-here}
+use Rattle.page.proofs.cells.Fields.{service-last, service-next}
+use Rattle.page.proofs.quick.Start.{begun-room}
+use Rattle.page.proofs.quick.Loop.{Walked, OnPages, walk-begins, pages-begin, here-counted, walk-on, pages-on, faultless-here}
 use Rattle.page.proofs.quick.faultless_from.Statement.{statement}
 use Rattle.page.proofs.quick.faultless_from.Tie as tie
 
@@ -102,7 +102,8 @@ checked
     let a = f .before .before .before .before .before .before .before .before .args in
     f .clean-on .result .length ≡ length (decoded (a .y) (f .before .before .loop .scan .at) (f .clean-on .result .end) (a .d .now))
     → 0 < f .clean-on .result .length
-    → textFault (a .y) false (freeRow (f .before .cell .result / 0x4_0000_0000)) (decoded (a .y) (f .before .before .loop .scan .at) (f .clean-on .result .end) (a .d .now)) ≡ 0
+    → textFault (a .y) false (freeRow (f .before .cell .result / 0x4_0000_0000))
+    (decoded (a .y) (f .before .before .loop .scan .at) (f .clean-on .result .end) (a .d .now)) ≡ 0
 checked j n h = ⊎-elim (λ w. w .1 .ensures (not-false _ (w .2 .left)) n) (λ w. absurd (let z = w .left in omega (arith, z, h))) (j .if3 .came)
 
 shared-slice-read-x : tie.Need-shared-slice-read-x Inv-loop μ-loop

@@ -4,7 +4,7 @@ use mathlib.Core.Bool.{false≢true}
 use native.Mathlib.Omega.{arith}
 use borrow.Author.Needs.{needs}
 use borrow.Author.Tests.{not-false, eqb-true}
-use Rattle.page.proofs.QuickTags.{begun-word}
+use Rattle.page.proofs.quick.Tags.{begun-word}
 use Rattle.page.proofs.quick.is_begun.Statement.{statement}
 use Rattle.page.proofs.quick.is_begun.Tie as tie
 

@@ -1,5 +1,5 @@
 -- `page::quick::keep` meets its contract: each return by its test.
-use Rattle.page.proofs.CellReads.{keep-first, keep-third}
+use Rattle.page.proofs.cells.Fields.{keep-first, keep-third}
 use borrow.Author.Needs.{needs}
 use Rattle.page.proofs.quick.keep.Statement.{statement}
 use Rattle.page.proofs.quick.keep.Tie as tie

@@ -1,5 +1,5 @@
 -- `page::quick::may_end` meets its contract.
-use Rattle.page.proofs.CellReads.{end-empty, end-filled}
+use Rattle.page.proofs.cells.Fields.{end-empty, end-filled}
 use Rattle.page.proofs.quick.may_end.Statement.{statement}
 use Rattle.page.proofs.quick.may_end.Tie as tie
 

@@ -1,5 +1,5 @@
 -- `page::quick::next_state` meets its contract: each return by its test.
-use Rattle.page.proofs.CellReads.{next-element, next-component, next-none}
+use Rattle.page.proofs.cells.Fields.{next-element, next-component, next-none}
 use Rattle.page.proofs.quick.next_state.Statement.{statement}
 use Rattle.page.proofs.quick.next_state.Tie as tie
 

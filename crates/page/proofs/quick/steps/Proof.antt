@@ -1,5 +1,5 @@
 -- `page::quick::steps` meets its contract.
-use Rattle.page.proofs.CellReads.{steps-empty, steps-filled}
+use Rattle.page.proofs.cells.Fields.{steps-empty, steps-filled}
 use Rattle.page.proofs.quick.steps.Statement.{statement}
 use Rattle.page.proofs.quick.steps.Tie as tie
 

@@ -1,6 +1,6 @@
 -- `page::reads::read` meets its contract: what the quick pass tells, and else what is read through.
 use borrow.Author.Needs.{needs}
-use Rattle.page.proofs.ReadFaults.{read-quick}
+use Rattle.page.proofs.reads.Faults.{read-quick}
 use Rattle.page.proofs.reads.read.Statement.{statement}
 use Rattle.page.proofs.reads.read.Tie as tie
 

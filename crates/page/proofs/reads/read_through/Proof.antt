@@ -1,6 +1,6 @@
 -- `page::reads::read_through` meets its contract: one law for each return.
 use borrow.Author.Needs.{needs}
-use Rattle.page.proofs.ReadFaults.{read-nothing, read-bytes, read-page}
+use Rattle.page.proofs.reads.Faults.{read-nothing, read-bytes, read-page}
 use Rattle.page.proofs.reads.read_through.Statement.{statement}
 use Rattle.page.proofs.reads.read_through.Tie as tie
 
@@ -31,7 +31,8 @@ returns-2 : tie.Need-returns-2
 returns-2 c =
     let tested = c .before .before in
     let some = tested .before in
-    read-bytes _ _ _ _ _ _ (some .before .before .before .segment-at .ensures) _ _ _ (some .before .s .given .1) _ (tested .bytes-fault .ensures) (c .before .if1 .taken) _ (c .stopped2 .ensures)
+    read-bytes _ _ _ _ _ _ (some .before .before .before .segment-at .ensures) _ _ _ (some .before .s .given .1) _ (tested .bytes-fault .ensures)
+    (c .before .if1 .taken) _ (c .stopped2 .ensures)
 
 examined-requires : tie.Need-examined-requires
 examined-requires c κs = search needs
@@ -41,7 +42,8 @@ returns-3 c =
     let page = c .before .before in
     let tested = page .before .before in
     let some = tested .before in
-    read-page _ _ _ _ _ _ (some .before .before .before .segment-at .ensures) _ _ _ (some .before .s .given .1) _ (tested .bytes-fault .ensures) (page .before .if1 .left) _ (page .examined .ensures)
+    read-page _ _ _ _ _ _ (some .before .before .before .segment-at .ensures) _ _ _ (some .before .s .given .1) _ (tested .bytes-fault .ensures)
+    (page .before .if1 .left) _ (page .examined .ensures)
 
 pub read-through-spec : {M : Type 1} → statement M
 read-through-spec =

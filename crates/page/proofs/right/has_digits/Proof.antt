@@ -1,6 +1,6 @@
 -- `page::right::has_digits` meets its contract, one test after the other.
 use borrow.Author.Tests.{le-leb, eq-eqb, ne-eqb}
-use Rattle.page.proofs.PageRight.{nonzero}
+use Rattle.page.proofs.right.Right.{nonzero}
 use Rattle.page.proofs.right.has_digits.Statement.{statement}
 use Rattle.page.proofs.right.has_digits.Tie as tie
 

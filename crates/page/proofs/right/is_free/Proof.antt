@@ -1,8 +1,8 @@
 -- `page::right::is_free` meets its contract: a text format and no codes.
 use mathlib.Core.Bool.{false≢true}
 use mathlib.Core.Path.{sym, _∙_}
-use Rattle.page.proofs.KeyCodes.{listed-any}
-use Rattle.page.proofs.PageFaults.{formed-up-to}
+use Rattle.page.proofs.coded.KeyCodes.{listed-any}
+use Rattle.page.proofs.formed.Faults.{formed-up-to}
 use Rattle.page.proofs.right.is_free.Statement.{statement}
 use Rattle.page.proofs.right.is_free.Tie as tie
 

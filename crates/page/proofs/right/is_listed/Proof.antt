@@ -3,8 +3,8 @@ use borrow.Author.Needs.{needs}
 use mathlib.Core.Bool.{false≢true}
 use mathlib.Core.Path.{refl, sym, _∙_}
 use native.Mathlib.Omega.{arith}
-use Rattle.element.proofs.Packing.{part-bytes}
-use Rattle.page.proofs.KeyCodes.{listed-any, listed-key}
+use Rattle.plain.proofs.Packing.{part-bytes}
+use Rattle.page.proofs.coded.KeyCodes.{listed-any, listed-key}
 use Rattle.page.proofs.right.is_listed.Statement.{statement}
 use Rattle.page.proofs.right.is_listed.Tie as tie
 

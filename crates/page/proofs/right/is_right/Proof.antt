@@ -4,7 +4,7 @@ use borrow.Author.Tests.{not-false}
 use mathlib.Core.Bool.{false≢true}
 use mathlib.Core.Path.{sym, _∙_}
 use native.Mathlib.Omega.{arith}
-use Rattle.page.proofs.PageRight.{free-right, bytes-there, right-there}
+use Rattle.page.proofs.right.Right.{free-right, bytes-there, right-there}
 use Rattle.page.proofs.right.is_right.Statement.{statement}
 use Rattle.page.proofs.right.is_right.Tie as tie
 
@@ -35,7 +35,8 @@ returns-3 : tie.Need-returns-3
 returns-3 c h count =
     let two = c .before in
     let one = two .before .before in
-    right-there _ _ _ _ _ (one .before .before .pre) (one .if1 .left) count _ (sym (two .before .is-sized .ensures) ∙ not-false _ (two .if2 .left)) (c .is-listed .ensures h)
+    right-there _ _ _ _ _ (one .before .before .pre) (one .if1 .left) count _ (sym (two .before .is-sized .ensures) ∙ not-false _ (two .if2 .left))
+    (c .is-listed .ensures h)
 
 pub is-right-spec : {M : Type 1} → statement M
 is-right-spec =

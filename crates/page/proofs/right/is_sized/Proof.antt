@@ -2,8 +2,8 @@
 use borrow.Author.Needs.{needs}
 use mathlib.Core.Path.{_∙_}
 use native.Mathlib.Omega.{arith}
-use Rattle.page.proofs.PageFaults.{formed-up-to, formed-exactly}
-use Rattle.page.proofs.PageRight.{formed-digits}
+use Rattle.page.proofs.formed.Faults.{formed-up-to, formed-exactly}
+use Rattle.page.proofs.right.Right.{formed-digits}
 use Rattle.page.proofs.right.is_sized.Statement.{statement}
 use Rattle.page.proofs.right.is_sized.Tie as tie
 

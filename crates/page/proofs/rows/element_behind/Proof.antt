@@ -1,5 +1,5 @@
 -- `page::rows::element_behind` meets its contract: each return by its test.
-use Rattle.page.proofs.PageLookup.{element-past, element-here}
+use Rattle.page.proofs.rows.Lookup.{element-past, element-here}
 use borrow.Author.Needs.{needs}
 use Rattle.page.proofs.rows.element_behind.Statement.{statement}
 use Rattle.page.proofs.rows.element_behind.Tie as tie

@@ -1,5 +1,5 @@
 -- `page::rows::row_at` meets its contract: each return by its test.
-use Rattle.page.proofs.PageLookup.{row-past, row-here}
+use Rattle.page.proofs.rows.Lookup.{row-past, row-here}
 use borrow.Author.Needs.{needs}
 use Rattle.page.proofs.rows.row_at.Statement.{statement}
 use Rattle.page.proofs.rows.row_at.Tie as tie

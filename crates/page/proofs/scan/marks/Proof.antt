@@ -1,5 +1,5 @@
 -- `page::scan::marks` meets its contract: one law for each answer.
-use Rattle.page.proofs.PageMarks.{mark-terminator, mark-element, mark-component, mark-alone}
+use Rattle.page.proofs.scan.Releases.{mark-terminator, mark-element, mark-component, mark-alone}
 use Rattle.page.proofs.scan.marks.Statement.{statement}
 use Rattle.page.proofs.scan.marks.Tie as tie
 

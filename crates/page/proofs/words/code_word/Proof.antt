@@ -1,10 +1,10 @@
 -- `page::words::code_word` meets its contract: each arm is a cell of the table.
 use mathlib.Core.List.{[]}
 use Rattle.guide.specs.Pages20d.{pages20d}
-use Rattle.element.specs.Words.{packed}
-use Rattle.page.specs.PageColumns.{joined, column, codesOf, rows20d, allCodes}
-use Rattle.page.proofs.PageTables.{past-all}
-use Rattle.page.proofs.PageCells.{code-arm}
+use Rattle.plain.specs.Words.{packed}
+use Rattle.page.specs.workers.Columns.{joined, column, codesOf, rows20d, allCodes}
+use Rattle.page.proofs.words.Tables.{past-all}
+use Rattle.page.proofs.words.Ties.{code-arm}
 use Rattle.page.proofs.words.code_word.Statement.{statement}
 use Rattle.page.proofs.words.code_word.Tie as tie
 

@@ -2,10 +2,10 @@
 use mathlib.Core.Path.{refl}
 use Rattle.guide.specs.Pages20d.{pages20d}
 use Rattle.guide.specs.Page.{beyond}
-use Rattle.page.specs.PageColumns.{joined, allElements}
-use Rattle.page.specs.PageWords.{span, reach, elementIn}
-use Rattle.page.proofs.PageTables.{past-all}
-use Rattle.page.proofs.PageCells.{element-arm}
+use Rattle.page.specs.workers.Columns.{joined, allElements}
+use Rattle.page.specs.workers.Words.{span, reach, elementIn}
+use Rattle.page.proofs.words.Tables.{past-all}
+use Rattle.page.proofs.words.Ties.{element-arm}
 use Rattle.page.proofs.words.element_word.Statement.{statement}
 use Rattle.page.proofs.words.element_word.Tie as tie
 

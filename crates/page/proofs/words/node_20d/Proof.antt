@@ -2,9 +2,9 @@
 use mathlib.Core.List.{[]}
 use mathlib.Core.Path.{refl}
 use Rattle.guide.specs.Pages20d.{pages20d, pageOf}
-use Rattle.page.specs.PageWords.{span, reach, pageIn}
-use Rattle.page.proofs.PageTables.{past-all}
-use Rattle.page.proofs.PageCells.{node-arm-20d}
+use Rattle.page.specs.workers.Words.{span, reach, pageIn}
+use Rattle.page.proofs.words.Tables.{past-all}
+use Rattle.page.proofs.words.Ties.{node-arm-20d}
 use Rattle.page.proofs.words.node_20d.Statement.{statement}
 use Rattle.page.proofs.words.node_20d.Tie as tie
 

@@ -3,7 +3,7 @@ use mathlib.Core.Path.{sym, subst}
 use borrow.Author.Needs.{needs}
 use Rattle.guide.specs.declared.edition.Edition.{Edition}
 use Rattle.guide.specs.Editions.{pagesOf}
-use Rattle.page.specs.PageWords.{NodeWord}
+use Rattle.page.specs.workers.Words.{NodeWord}
 use Rattle.page.proofs.words.node_word.Statement.{statement}
 use Rattle.page.proofs.words.node_word.Tie as tie
 

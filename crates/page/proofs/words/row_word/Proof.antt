@@ -1,10 +1,10 @@
 -- `page::words::row_word` meets its contract: each arm is a cell of the table.
 use Rattle.guide.specs.Pages20d.{pages20d}
 use Rattle.guide.specs.Page.{unused}
-use Rattle.page.specs.PageColumns.{joined, column, rows20d, allRows}
-use Rattle.page.specs.PageWords.{formatIn, codesIn, rowIn}
-use Rattle.page.proofs.PageTables.{past-all}
-use Rattle.page.proofs.PageCells.{row-arm}
+use Rattle.page.specs.workers.Columns.{joined, column, rows20d, allRows}
+use Rattle.page.specs.workers.Words.{formatIn, codesIn, rowIn}
+use Rattle.page.proofs.words.Tables.{past-all}
+use Rattle.page.proofs.words.Ties.{row-arm}
 use Rattle.page.proofs.words.row_word.Statement.{statement}
 use Rattle.page.proofs.words.row_word.Tie as tie
 

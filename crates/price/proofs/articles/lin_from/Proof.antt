@@ -3,7 +3,7 @@ use Prim.Native.Nat.{_-_}
 use native.Mathlib.Omega.{arith}
 use lib.ListN.{length}
 use borrow.Author.Needs.{needs}
-use Rattle.price.proofs.PriceArticles.{Seeking, seeking-first, seeking-none, seeking-some, seeking-found, seeking-less, seeking-on}
+use Rattle.price.proofs.articles.Seeking.{Seeking, seeking-first, seeking-none, seeking-some, seeking-found, seeking-less, seeking-on}
 use Rattle.price.proofs.articles.lin_from.Statement.{statement}
 use Rattle.price.proofs.articles.lin_from.Tie as tie
 
@@ -32,26 +32,39 @@ reached-requires : tie.Need-reached-requires Inv-loop μ-loop
 reached-requires c κs = search needs
 
 returns-2 : tie.Need-returns-2 Inv-loop μ-loop
-returns-2 c = seeking-found _ _ _ _ _ _ _ (c .before .before .before .before .before .before .loop .inv) _ (c .before .before .before .before .before .spot-at .ensures) _ _ _ (c .before .before .before .s .given .1) _ (c .before .reached .ensures) (c .if1 .taken)
+returns-2 c =
+    seeking-found _ _ _ _ _ _ _ (c .before .before .before .before .before .before .loop .inv) _
+    (c .before .before .before .before .before .spot-at .ensures) _ _ _ (c .before .before .before .s .given .1) _ (c .before .reached .ensures)
+    (c .if1 .taken)
 
 added-requires : tie.Need-added-requires Inv-loop μ-loop
 added-requires c κs = search needs
 
 sub-left : tie.Need-sub-left Inv-loop μ-loop
-sub-left c = seeking-less _ _ _ _ _ _ _ (c .before .before .before .before .before .before .before .loop .inv) _ (c .before .before .before .before .before .before .spot-at .ensures) _ _ _ (c .before .before .before .before .s .given .1) _ (c .before .before .reached .ensures) (c .before .if1 .left) _ (c .added .ensures)
+sub-left c =
+    seeking-less _ _ _ _ _ _ _ (c .before .before .before .before .before .before .before .loop .inv) _
+    (c .before .before .before .before .before .before .spot-at .ensures) _ _ _ (c .before .before .before .before .s .given .1) _
+    (c .before .before .reached .ensures) (c .before .if1 .left) _ (c .added .ensures)
 
 moved-requires : tie.Need-moved-requires Inv-loop μ-loop
 moved-requires c κs =
-    let q = seeking-some _ _ _ _ _ _ _ (c .before .before .before .before .before .before .before .loop .inv) _ (c .before .before .before .before .before .before .spot-at .ensures) _ _ _ (c .before .before .before .before .s .given .1) in
+    let q =
+    seeking-some _ _ _ _ _ _ _ (c .before .before .before .before .before .before .before .loop .inv) _
+    (c .before .before .before .before .before .before .spot-at .ensures) _ _ _ (c .before .before .before .before .s .given .1) in
     omega (arith, q .0, q .1, c .before .before .before .before .before .before .before .loop .inv .stands .number)
 
 loop-less : tie.Need-loop-less Inv-loop μ-loop
 loop-less c =
-    let q = seeking-some _ _ _ _ _ _ _ (c .before .before .before .before .before .before .before .before .loop .inv) _ (c .before .before .before .before .before .before .before .spot-at .ensures) _ _ _ (c .before .before .before .before .before .s .given .1) in
+    let q =
+    seeking-some _ _ _ _ _ _ _ (c .before .before .before .before .before .before .before .before .loop .inv) _
+    (c .before .before .before .before .before .before .before .spot-at .ensures) _ _ _ (c .before .before .before .before .before .s .given .1) in
     omega (arith, q .0, q .1)
 
 loop-again : tie.Need-loop-again Inv-loop μ-loop
-loop-again c = seeking-on _ _ _ _ _ _ _ (c .before .before .before .before .before .before .before .before .loop .inv) _ (c .before .before .before .before .before .before .before .spot-at .ensures) _ _ _ (c .before .before .before .before .before .s .given .1) _ (c .before .before .before .reached .ensures) (c .before .before .if1 .left) _ (c .before .added .ensures) _ (c .moved .ensures)
+loop-again c =
+    seeking-on _ _ _ _ _ _ _ (c .before .before .before .before .before .before .before .before .loop .inv) _
+    (c .before .before .before .before .before .before .before .spot-at .ensures) _ _ _ (c .before .before .before .before .before .s .given .1) _
+    (c .before .before .before .reached .ensures) (c .before .before .if1 .left) _ (c .before .added .ensures) _ (c .moved .ensures)
 
 pub lin-from-spec : {M : Type 1} → statement M
 lin-from-spec =

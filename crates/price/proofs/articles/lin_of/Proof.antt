@@ -1,5 +1,5 @@
 -- `price::articles::lin_of` meets its contract.
-use Rattle.price.proofs.PriceParted.{held-all, held-front}
+use Rattle.price.proofs.inside.Parted.{held-all, held-front}
 use borrow.Author.Needs.{needs}
 use Rattle.price.proofs.articles.lin_of.Statement.{statement}
 use Rattle.price.proofs.articles.lin_of.Tie as tie

@@ -1,5 +1,5 @@
 -- `price::articles::reached` meets its contract.
-use Rattle.price.proofs.PriceArticles.{reached-pri}
+use Rattle.price.proofs.articles.Seeking.{reached-pri}
 use borrow.Author.Needs.{needs}
 use Rattle.price.proofs.articles.reached.Statement.{statement}
 use Rattle.price.proofs.articles.reached.Tie as tie

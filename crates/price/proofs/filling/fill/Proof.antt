@@ -1,5 +1,5 @@
 -- `price::filling::fill` meets its contract.
-use Rattle.price.proofs.PriceParted.{fills-all, fills-front}
+use Rattle.price.proofs.inside.Parted.{fills-all, fills-front}
 use borrow.Author.Needs.{needs}
 use Rattle.price.proofs.filling.fill.Statement.{statement}
 use Rattle.price.proofs.filling.fill.Tie as tie

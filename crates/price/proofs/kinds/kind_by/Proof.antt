@@ -1,5 +1,5 @@
 -- `price::kinds::kind_by` meets its contract.
-use Rattle.price.proofs.PriceKinds.{kind-lin, kind-pri, kind-rng, kind-other}
+use Rattle.price.proofs.kinds.Tags.{kind-lin, kind-pri, kind-rng, kind-other}
 use borrow.Author.Needs.{needs}
 use Rattle.price.proofs.kinds.kind_by.Statement.{statement}
 use Rattle.price.proofs.kinds.kind_by.Tie as tie
@@ -20,10 +20,14 @@ are-requires-3 : tie.Need-are-requires-3
 are-requires-3 c κs = search needs
 
 returns-3 : tie.Need-returns-3
-returns-3 c = kind-rng _ _ _ _ (c .before .before .before .before .before .are .ensures) (c .before .before .before .before .if1 .left) _ (c .before .before .before .are2 .ensures) (c .before .before .if2 .left) _ (c .before .are3 .ensures) (c .if3 .taken)
+returns-3 c =
+    kind-rng _ _ _ _ (c .before .before .before .before .before .are .ensures) (c .before .before .before .before .if1 .left) _
+    (c .before .before .before .are2 .ensures) (c .before .before .if2 .left) _ (c .before .are3 .ensures) (c .if3 .taken)
 
 returns-4 : tie.Need-returns-4
-returns-4 c = kind-other _ _ _ _ (c .before .before .before .before .before .are .ensures) (c .before .before .before .before .if1 .left) _ (c .before .before .before .are2 .ensures) (c .before .before .if2 .left) _ (c .before .are3 .ensures) (c .if3 .left)
+returns-4 c =
+    kind-other _ _ _ _ (c .before .before .before .before .before .are .ensures) (c .before .before .before .before .if1 .left) _
+    (c .before .before .before .are2 .ensures) (c .before .before .if2 .left) _ (c .before .are3 .ensures) (c .if3 .left)
 
 pub kind-by-spec : {M : Type 1} → statement M
 kind-by-spec =

@@ -1,6 +1,6 @@
 -- `price::kinds::kind_of` meets its contract.
 use mathlib.Core.Path.{_∙_}
-use Rattle.price.proofs.PriceKinds.{kind-short, kind-three}
+use Rattle.price.proofs.kinds.Tags.{kind-short, kind-three}
 use borrow.Author.Needs.{needs}
 use Rattle.price.proofs.kinds.kind_of.Statement.{statement}
 use Rattle.price.proofs.kinds.kind_of.Tie as tie

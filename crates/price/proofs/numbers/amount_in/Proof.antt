@@ -1,7 +1,7 @@
 -- `price::numbers::amount_in` meets its contract.
 use mathlib.Core.Path.{_∙_}
 use mir.Facts.{toZ-ofZ}
-use Rattle.price.proofs.PriceAnswers.{amount-is}
+use Rattle.price.proofs.numbers.Answers.{amount-is}
 use borrow.Author.Needs.{needs}
 use Rattle.price.proofs.numbers.amount_in.Statement.{statement}
 use Rattle.price.proofs.numbers.amount_in.Tie as tie

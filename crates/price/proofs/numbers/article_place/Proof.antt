@@ -1,5 +1,5 @@
 -- `price::numbers::article_place` meets its contract.
-use Rattle.price.proofs.PriceAnswers.{kept, article-stands, article-absent}
+use Rattle.price.proofs.numbers.Answers.{kept, article-stands, article-absent}
 use borrow.Author.Needs.{needs}
 use Rattle.price.proofs.numbers.article_place.Statement.{statement}
 use Rattle.price.proofs.numbers.article_place.Tie as tie

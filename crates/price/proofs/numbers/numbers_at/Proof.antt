@@ -1,7 +1,7 @@
 -- `price::numbers::numbers_at` meets its contract.
 use Prim.Native.Nat.{_-_, _^_, _<_}
 use native.Mathlib.Omega.{arith}
-use Rattle.price.proofs.PriceAnswers.{kept, price-read, component-bounds, numbers-made}
+use Rattle.price.proofs.numbers.Answers.{kept, price-read, component-bounds, numbers-made}
 use borrow.Author.Needs.{needs}
 use Rattle.price.proofs.numbers.numbers_at.Statement.{statement}
 use Rattle.price.proofs.numbers.numbers_at.Tie as tie
@@ -58,7 +58,8 @@ returns c =
     let p = entry .pre .0 in
     let f : entry .args .p .number < 2 ^ 63 = omega (arith, p .number) in
     let l : found .component-at .result .end - found .component-at .result .start < 2 ^ 63 = omega (arith, w .from, w .ordered, w .to, p .to) in
-    numbers-made _ _ _ _ _ _ _ _ _ _ _ _ _ _ _ f l (found .component-at .ensures) (price-read _ _ _ _ _ _ (read .before .component-at2 .ensures) (read .number-of .ensures))
+    numbers-made _ _ _ _ _ _ _ _ _ _ _ _ _ _ _ f l (found .component-at .ensures)
+    (price-read _ _ _ _ _ _ (read .before .component-at2 .ensures) (read .number-of .ensures))
     (kept _ _ (record { sfits = amounts .before .before .article-place .ok }) (amounts .before .before .article-place .ensures))
     (kept _ _ (record { sfits = amounts .amount-in .ok }) (amounts .amount-in .ensures))
     (kept _ _ (record { sfits = c .before .before .before .decimals-in .ok }) (c .before .before .before .decimals-in .ensures))

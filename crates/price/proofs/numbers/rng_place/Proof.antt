@@ -1,7 +1,7 @@
 -- `price::numbers::rng_place` meets its contract.
 use mathlib.Core.Path.{refl, _∙_}
 use mir.Facts.{toZ-ofZ}
-use Rattle.price.proofs.PriceAnswers.{rng-none, rng-here, rng-other}
+use Rattle.price.proofs.numbers.Answers.{rng-none, rng-here, rng-other}
 use borrow.Author.Needs.{needs}
 use Rattle.price.proofs.numbers.rng_place.Statement.{statement}
 use Rattle.price.proofs.numbers.rng_place.Tie as tie
@@ -19,7 +19,10 @@ enum-told-2 : tie.Need-enum-told-2
 enum-told-2 c = search needs
 
 from-start-requires : tie.Need-from-start-requires
-from-start-requires c κs = (c .before .before .before .before .before .before .pre .from _ _ _ (c .before .before .before .next .given .1), c .before .before .before .before .before .before .pre .fits _ _ _ (c .before .before .before .next .given .1))
+from-start-requires c κs =
+    let told = c .before .before .before in
+    let next = told .before .before .before .pre in
+    (next .from _ _ _ (told .next .given .1), next .fits _ _ _ (told .next .given .1))
 
 enum-told-3 : tie.Need-enum-told-3
 enum-told-3 c = search needs
@@ -31,7 +34,9 @@ enum-told-5 : tie.Need-enum-told-5
 enum-told-5 c = search needs
 
 returns-2 : tie.Need-returns-2
-returns-2 c = toZ-ofZ (record { sfits = c .from-start .ok }) ∙ c .from-start .ensures ∙ rng-here _ _ _ _ _ _ (c .before .before .before .before .next .given .1) (c .before .enum-told2 .given .1)
+returns-2 c =
+    toZ-ofZ (record { sfits = c .from-start .ok }) ∙ c .from-start .ensures ∙ rng-here _ _ _ _ _ _ (c .before .before .before .before .next .given .1)
+    (c .before .enum-told2 .given .1)
 
 returns-3 : tie.Need-returns-3
 returns-3 c = rng-other _ _ _ _ _ _ (c .before .before .before .next .given .1) _ (λ t. refl) (c .enum-told3 .given .1)

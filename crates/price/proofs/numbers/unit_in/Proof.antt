@@ -1,7 +1,7 @@
 -- `price::numbers::unit_in` meets its contract.
 use native.Mathlib.Omega.{arith}
-use Rattle.price.proofs.PriceAnswers.{component-bounds, unit-ann, unit-other}
-use Rattle.price.proofs.PriceUnits.{price-last}
+use Rattle.price.proofs.numbers.Answers.{component-bounds, unit-ann, unit-other}
+use Rattle.price.proofs.numbers.Units.{price-last}
 use borrow.Author.Needs.{needs}
 use Rattle.price.proofs.numbers.unit_in.Statement.{statement}
 use Rattle.price.proofs.numbers.unit_in.Tie as tie

@@ -2,7 +2,7 @@
 use native.Mathlib.Omega.{arith}
 use lib.ListN.{length-set}
 use mir.Facts.{toZ-ofZ}
-use Rattle.price.proofs.PricePuts.{row-put}
+use Rattle.price.proofs.filling.Puts.{row-put}
 use borrow.Author.Needs.{needs}
 use Rattle.price.proofs.rows.put_row.Statement.{statement}
 use Rattle.price.proofs.rows.put_row.Tie as tie

@@ -2,14 +2,15 @@
 use mathlib.Core.Path.{sym, _∙_}
 use mathlib.Core.Bool.{false}
 use Rattle.cut.proofs.First.{Cutting, cutting}
-use Rattle.price.proofs.PriceSpots.{spot-none, spot-here}
+use Rattle.price.proofs.spots.Heads.{spot-none, spot-here}
 use borrow.Author.Needs.{needs}
 use Rattle.price.proofs.spots.spot_at.Statement.{statement}
 use Rattle.price.proofs.spots.spot_at.Tie as tie
 
 took
     : (c : tie.After-known-told)
-    → Cutting (c .before .before .before .before .before .args .y) (c .before .before .before .before .before .args .d .now) (c .before .before .before .before .before .args .at) false
+    → Cutting (c .before .before .before .before .before .args .y) (c .before .before .before .before .before .args .d .now)
+    (c .before .before .before .before .before .args .at) false
     (c .before .c .given .0 .0) (c .before .c .given .0 .1 .0) (c .before .c .given .0 .1 .1 .0)
 took c = cutting _ _ _ _ _ _ _ (sym (c .before .before .before .segment-at .ensures) ∙ c .before .c .given .1)
 

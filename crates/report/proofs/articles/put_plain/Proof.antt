@@ -1,40 +1,75 @@
--- `report::articles::put_plain` is safe: the bytes copied lie within the row.
+-- `report::articles::put_plain` is safe and ends: the next byte stands at the place reached or behind it.
+use Prim.Native.Nat.{_-_, _≤_}
+use native.Mathlib.Omega.{arith}
+use lib.ListN.{length}
 use borrow.Author.Needs.{needs}
-use Rattle.report.proofs.Copied.{copied-counts}
+use Rattle.plain.proofs.LiteralPlaces.{literal-is}
 use Rattle.report.proofs.articles.put_plain.Statement.{statement}
 use Rattle.report.proofs.articles.put_plain.Tie as tie
 
-syntax-requires : tie.Need-syntax-requires
-syntax-requires c κs = search needs
+abbrev Inv-loop : tie.InvT-loop
+Inv-loop part i₀ i = i ≤ length part
 
-slice-aggregate-copy-plain : tie.Need-slice-aggregate-copy-plain
-slice-aggregate-copy-plain c = search needs
+abbrev μ-loop : tie.MeasureT-loop
+μ-loop part i₀ i = length part - i
 
-copy-plain-requires : tie.Need-copy-plain-requires
-copy-plain-requires c κs = search needs
+loop-holds : tie.Need-loop-holds Inv-loop μ-loop
+loop-holds c = search needs
 
-array-share-prefix-text : tie.Need-array-share-prefix-text
-array-share-prefix-text c = search needs
+base-requires : tie.Need-base-requires Inv-loop μ-loop
+base-requires c κs = search needs
 
-slice-aggregate-put : tie.Need-slice-aggregate-put
-slice-aggregate-put c =
-    let copy = c .before .before .copy-plain in
-    copied-counts _ _ _ _ (copy .ensures .0) (copy .ensures .1)
+literal-requires : tie.Need-literal-requires Inv-loop μ-loop
+literal-requires c κs = search needs
 
-put-requires : tie.Need-put-requires
+returns : tie.Need-returns Inv-loop μ-loop
+returns c = search needs
+
+add-e : tie.Need-add-e Inv-loop μ-loop
+add-e c = search needs
+
+sub-put : tie.Need-sub-put Inv-loop μ-loop
+sub-put c = search needs
+
+part-put-start : tie.Need-part-put-start Inv-loop μ-loop
+part-put-start c = search needs
+
+part-put-end : tie.Need-part-put-end Inv-loop μ-loop
+part-put-end c = search needs
+
+put-requires : tie.Need-put-requires Inv-loop μ-loop
 put-requires c κs = search needs
 
-returns : tie.Need-returns
-returns c = search needs
+returns-2 : tie.Need-returns-2 Inv-loop μ-loop
+returns-2 c = search needs
+
+loop-less : tie.Need-loop-less Inv-loop μ-loop
+loop-less c =
+    let next = literal-is (c .before .before .before .before .literal .ensures) (omega arith) in
+    omega (arith, next .onward)
+
+loop-again : tie.Need-loop-again Inv-loop μ-loop
+loop-again c = search needs
+
+returns-3 : tie.Need-returns-3 Inv-loop μ-loop
+returns-3 c = search needs
 
 pub put-plain-spec : {M : Type 1} → statement M
 put-plain-spec =
     tie.close
     (tie.spec
-    syntax-requires
-    slice-aggregate-copy-plain
-    copy-plain-requires
-    array-share-prefix-text
-    slice-aggregate-put
+    Inv-loop
+    μ-loop
+    loop-holds
+    base-requires
+    literal-requires
+    returns
+    add-e
+    sub-put
+    part-put-start
+    part-put-end
     put-requires
-    returns)
+    returns-2
+    loop-less
+    loop-again
+    returns-3)

@@ -1,5 +1,5 @@
 -- `schaumtruhe::articles::article_in` meets its contract.
-use Rattle.schaumtruhe.proofs.ArticlesAt.{article-lost, article-refused, article-found}
+use Rattle.schaumtruhe.proofs.ArticlePlaces.{article-lost, article-refused, article-found}
 use borrow.Author.Needs.{needs}
 use Rattle.schaumtruhe.proofs.articles.article_in.Statement.{statement}
 use Rattle.schaumtruhe.proofs.articles.article_in.Tie as tie
@@ -31,7 +31,8 @@ returns-3 : tie.Need-returns-3
 returns-3 c =
     let some = c .before .before .before in
     let asked = some .before .before in
-    article-found _ _ _ _ _ (asked .before .sheet-at .ensures) _ (asked .refusal-by .ensures) _ _ (some .sheet .given .1) (c .before .if1 .left) _ (c .article-at .ensures)
+    article-found _ _ _ _ _ (asked .before .sheet-at .ensures) _ (asked .refusal-by .ensures) _ _ (some .sheet .given .1) (c .before .if1 .left) _
+    (c .article-at .ensures)
 
 pub article-in-spec : {M : Type 1} → statement M
 article-in-spec =

@@ -1,5 +1,5 @@
 -- `schaumtruhe::articles::article_refused` meets its contract.
-use Rattle.schaumtruhe.proofs.ArticlesAt.{refusal-at}
+use Rattle.schaumtruhe.proofs.ArticlePlaces.{refusal-at}
 use borrow.Author.Needs.{needs}
 use Rattle.schaumtruhe.proofs.articles.article_refused.Statement.{statement}
 use Rattle.schaumtruhe.proofs.articles.article_refused.Tie as tie

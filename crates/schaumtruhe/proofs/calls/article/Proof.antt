@@ -1,9 +1,10 @@
 -- `schaumtruhe::calls::article` meets its contract.
 use Prim.Native.Nat.{_≤_}
 use mathlib.Core.Path.{refl}
+use native.Mathlib.Omega.{arith}
 use lib.ListN.{length}
-use Rattle.cut.specs.Bytes.{part}
-use Rattle.schaumtruhe.proofs.ArticlesAt.{article-within}
+use Rattle.bytewise.specs.Bytes.{part}
+use Rattle.schaumtruhe.proofs.ArticlePlaces.{article-within}
 use borrow.Author.Needs.{needs}
 use Rattle.schaumtruhe.proofs.calls.article.Statement.{statement}
 use Rattle.schaumtruhe.proofs.calls.article.Tie as tie
@@ -17,10 +18,14 @@ article-at-requires : tie.Need-article-at-requires
 article-at-requires c κs = search needs
 
 sub-result : tie.Need-sub-result
-sub-result c = found c .0
+sub-result c =
+    let f = found c in
+    omega arith
 
 part-result-start : tie.Need-part-result-start
-part-result-start c = found c .0
+part-result-start c =
+    let f = found c in
+    omega arith
 
 part-result-end : tie.Need-part-result-end
 part-result-end c = found c .1

@@ -6,8 +6,8 @@ use borrow.Author.Needs.{needs}
 use Rattle.schaumtruhe.proofs.calls.article_at.Statement.{statement}
 use Rattle.schaumtruhe.proofs.calls.article_at.Tie as tie
 
-syntax-requires : tie.Need-syntax-requires
-syntax-requires c κs = search needs
+base-requires : tie.Need-base-requires
+base-requires c κs = search needs
 
 article-in-requires : tie.Need-article-in-requires
 article-in-requires c κs = search needs
@@ -15,7 +15,7 @@ article-in-requires c κs = search needs
 returns : tie.Need-returns
 returns c =
     let a = c .before .before .before .args in
-    c .article-in .ensures ∙ ap (λ (y : Syntax). articleAt y (a .d .now) (a .at) (a .k)) (c .before .syntax .ensures)
+    c .article-in .ensures ∙ ap (λ (y : Syntax). articleAt y (a .d .now) (a .at) (a .k)) (c .before .base .ensures)
 
 pub article-at-spec : {M : Type 1} → statement M
-article-at-spec = tie.close (tie.spec syntax-requires article-in-requires returns)
+article-at-spec = tie.close (tie.spec base-requires article-in-requires returns)

@@ -6,8 +6,8 @@ use borrow.Author.Needs.{needs}
 use Rattle.schaumtruhe.proofs.calls.article_refusal.Statement.{statement}
 use Rattle.schaumtruhe.proofs.calls.article_refusal.Tie as tie
 
-syntax-requires : tie.Need-syntax-requires
-syntax-requires c κs = search needs
+base-requires : tie.Need-base-requires
+base-requires c κs = search needs
 
 article-refused-requires : tie.Need-article-refused-requires
 article-refused-requires c κs = search needs
@@ -15,7 +15,7 @@ article-refused-requires c κs = search needs
 returns : tie.Need-returns
 returns c =
     let a = c .before .before .before .args in
-    c .article-refused .ensures ∙ ap (λ (y : Syntax). articleRefusal y (a .d .now) (a .at) (a .k)) (c .before .syntax .ensures)
+    c .article-refused .ensures ∙ ap (λ (y : Syntax). articleRefusal y (a .d .now) (a .at) (a .k)) (c .before .base .ensures)
 
 pub article-refusal-spec : {M : Type 1} → statement M
-article-refusal-spec = tie.close (tie.spec syntax-requires article-refused-requires returns)
+article-refusal-spec = tie.close (tie.spec base-requires article-refused-requires returns)

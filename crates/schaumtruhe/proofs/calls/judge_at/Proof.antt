@@ -7,8 +7,8 @@ use borrow.Author.Needs.{needs}
 use Rattle.schaumtruhe.proofs.calls.judge_at.Statement.{statement}
 use Rattle.schaumtruhe.proofs.calls.judge_at.Tie as tie
 
-syntax-requires : tie.Need-syntax-requires
-syntax-requires c κs = search needs
+base-requires : tie.Need-base-requires
+base-requires c κs = search needs
 
 verdict-at-requires : tie.Need-verdict-at-requires
 verdict-at-requires c κs = search needs
@@ -16,7 +16,7 @@ verdict-at-requires c κs = search needs
 returns : tie.Need-returns
 returns c =
     let a = c .before .before .before .args in
-    c .verdict-at .ensures ∙ ap (λ (y : Syntax). declared (verdictAt y (a .d .now) (a .at))) (c .before .syntax .ensures)
+    c .verdict-at .ensures ∙ ap (λ (y : Syntax). declared (verdictAt y (a .d .now) (a .at))) (c .before .base .ensures)
 
 pub judge-at-spec : {M : Type 1} → statement M
-judge-at-spec = tie.close (tie.spec syntax-requires verdict-at-requires returns)
+judge-at-spec = tie.close (tie.spec base-requires verdict-at-requires returns)

@@ -6,8 +6,8 @@ use borrow.Author.Needs.{needs}
 use Rattle.schaumtruhe.proofs.calls.prices.Statement.{statement}
 use Rattle.schaumtruhe.proofs.calls.prices.Tie as tie
 
-syntax-requires : tie.Need-syntax-requires
-syntax-requires c κs = search needs
+base-requires : tie.Need-base-requires
+base-requires c κs = search needs
 
 fill-at-requires : tie.Need-fill-at-requires
 fill-at-requires c κs = search needs
@@ -18,10 +18,10 @@ same-length c = search needs
 returns : tie.Need-returns
 returns c =
     let a = c .before .before .before .before .before .args in
-    let base = c .before .before .before .syntax .ensures in (
+    let base = c .before .before .before .base .ensures in (
       c .before .fill-at .ensures .0 ∙ ap (λ (y : Syntax). pricedAt y (a .d .now) (a .at) (a .k) (a .row .now)) base,
       c .before .fill-at .ensures .1 ∙ ap (λ (y : Syntax). rowAt y (a .d .now) (a .at) (a .k) (a .row .now)) base,
     )
 
 pub prices-spec : {M : Type 1} → statement M
-prices-spec = tie.close (tie.spec syntax-requires fill-at-requires same-length returns)
+prices-spec = tie.close (tie.spec base-requires fill-at-requires same-length returns)

@@ -6,8 +6,8 @@ use borrow.Author.Needs.{needs}
 use Rattle.schaumtruhe.proofs.calls.survey.Statement.{statement}
 use Rattle.schaumtruhe.proofs.calls.survey.Tie as tie
 
-syntax-requires : tie.Need-syntax-requires
-syntax-requires c κs = search needs
+base-requires : tie.Need-base-requires
+base-requires c κs = search needs
 
 counted-requires : tie.Need-counted-requires
 counted-requires c κs = search needs
@@ -15,7 +15,7 @@ counted-requires c κs = search needs
 returns : tie.Need-returns
 returns c =
     let a = c .before .before .before .args in
-    c .counted .ensures ∙ ap (λ (y : Syntax). surveyOf y (a .d .now)) (c .before .syntax .ensures)
+    c .counted .ensures ∙ ap (λ (y : Syntax). surveyOf y (a .d .now)) (c .before .base .ensures)
 
 pub survey-spec : {M : Type 1} → statement M
-survey-spec = tie.close (tie.spec syntax-requires counted-requires returns)
+survey-spec = tie.close (tie.spec base-requires counted-requires returns)

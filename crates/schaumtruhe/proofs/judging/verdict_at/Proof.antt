@@ -1,6 +1,6 @@
 -- `schaumtruhe::judging::verdict_at` meets its contract.
 use borrow.Author.Tests.{not-true, not-false}
-use Rattle.schaumtruhe.proofs.Verdicts.{delivery-refused, place-refused, message-judged}
+use Rattle.schaumtruhe.proofs.judging.Verdicts.{delivery-refused, place-refused, message-judged}
 use borrow.Author.Needs.{needs}
 use Rattle.schaumtruhe.proofs.judging.verdict_at.Statement.{statement}
 use Rattle.schaumtruhe.proofs.judging.verdict_at.Tie as tie
@@ -24,7 +24,8 @@ returns-2 : tie.Need-returns-2
 returns-2 c =
     let none = c .before in
     let admitted = none .before .before in
-    place-refused _ _ _ _ (admitted .before .admission .ensures) (admitted .if1 .left) _ (none .before .message-begins .ensures) (not-true _ (none .if2 .taken)) _ (c .refused2 .ensures)
+    place-refused _ _ _ _ (admitted .before .admission .ensures) (admitted .if1 .left) _ (none .before .message-begins .ensures)
+    (not-true _ (none .if2 .taken)) _ (c .refused2 .ensures)
 
 judged-requires : tie.Need-judged-requires
 judged-requires c κs = search needs
@@ -33,7 +34,8 @@ returns-3 : tie.Need-returns-3
 returns-3 c =
     let some = c .before in
     let admitted = some .before .before in
-    message-judged _ _ _ _ (admitted .before .admission .ensures) (admitted .if1 .left) _ (some .before .message-begins .ensures) (not-false _ (some .if2 .left)) _ (c .judged .ensures)
+    message-judged _ _ _ _ (admitted .before .admission .ensures) (admitted .if1 .left) _ (some .before .message-begins .ensures)
+    (not-false _ (some .if2 .left)) _ (c .judged .ensures)
 
 pub verdict-at-spec : {M : Type 1} → statement M
 verdict-at-spec =

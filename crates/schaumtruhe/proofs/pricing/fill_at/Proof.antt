@@ -1,5 +1,5 @@
 -- `schaumtruhe::pricing::fill_at` meets its contract.
-use Rattle.schaumtruhe.proofs.PricesAt.{priced-written, row-written, priced-refused, row-unchanged}
+use Rattle.schaumtruhe.proofs.pricing.Prices.{priced-written, row-written, priced-refused, row-unchanged}
 use borrow.Author.Needs.{needs}
 use Rattle.schaumtruhe.proofs.pricing.fill_at.Statement.{statement}
 use Rattle.schaumtruhe.proofs.pricing.fill_at.Tie as tie
@@ -24,7 +24,8 @@ returns c =
     let some = c .before .before .before .before in
     let sheet = some .before .before .sheet-at .ensures in
     let fill = c .before .fill .ensures in
-    (priced-written _ _ _ _ sheet _ _ (some .sheet .given .1) _ _ _ _ (fill .0) (fill .1), row-written _ _ _ _ sheet _ _ (some .sheet .given .1) _ _ _ _ (fill .0) (fill .1))
+    let is = some .sheet .given .1 in
+    (priced-written _ _ _ _ sheet _ _ is _ _ _ _ (fill .0) (fill .1), row-written _ _ _ _ sheet _ _ is _ _ _ _ (fill .0) (fill .1))
 
 returns-2 : tie.Need-returns-2
 returns-2 c =

@@ -1,5 +1,5 @@
 -- `schaumtruhe::sheets::by_verdict` meets its contract.
-use Rattle.schaumtruhe.proofs.Verdicts.{by-accepted, by-refused}
+use Rattle.schaumtruhe.proofs.judging.Verdicts.{by-accepted, by-refused}
 use borrow.Author.Needs.{needs}
 use Rattle.schaumtruhe.proofs.sheets.by_verdict.Statement.{statement}
 use Rattle.schaumtruhe.proofs.sheets.by_verdict.Tie as tie

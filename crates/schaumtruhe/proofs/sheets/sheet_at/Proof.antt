@@ -1,6 +1,6 @@
 -- `schaumtruhe::sheets::sheet_at` meets its contract.
 use borrow.Author.Tests.{not-true, not-false}
-use Rattle.schaumtruhe.proofs.Verdicts.{delivery-missing, place-missing, message-stands}
+use Rattle.schaumtruhe.proofs.judging.Verdicts.{delivery-missing, place-missing, message-stands}
 use borrow.Author.Needs.{needs}
 use Rattle.schaumtruhe.proofs.sheets.sheet_at.Statement.{statement}
 use Rattle.schaumtruhe.proofs.sheets.sheet_at.Tie as tie
@@ -29,7 +29,8 @@ returns-3 : tie.Need-returns-3
 returns-3 c =
     let some = c .before .before in
     let admitted = some .before .before in
-    message-stands _ _ _ _ (admitted .before .admission .ensures) (admitted .if1 .left) _ (some .before .message-begins .ensures) (not-false _ (some .if2 .left)) _ (c .before .judged .ensures) _ (c .by-verdict .ensures)
+    message-stands _ _ _ _ (admitted .before .admission .ensures) (admitted .if1 .left) _ (some .before .message-begins .ensures)
+    (not-false _ (some .if2 .left)) _ (c .before .judged .ensures) _ (c .by-verdict .ensures)
 
 pub sheet-at-spec : {M : Type 1} → statement M
 sheet-at-spec =

@@ -4,7 +4,7 @@ use mathlib.Core.Path.{sym, _∙_}
 use native.Mathlib.Omega.{arith}
 use lib.ListN.{length}
 use Rattle.cut.specs.Admission.{admissionOf}
-use Rattle.schaumtruhe.proofs.Surveying.{Passed, passed-first, passed-on, passed-all, survey-refused}
+use Rattle.schaumtruhe.proofs.surveys.Steps.{Passed, passed-first, passed-on, passed-all, survey-refused}
 use borrow.Author.Needs.{needs}
 use Rattle.schaumtruhe.proofs.surveys.counted.Statement.{statement}
 use Rattle.schaumtruhe.proofs.surveys.counted.Tie as tie

@@ -1,5 +1,5 @@
 -- `schaumtruhe::surveys::message_step` meets its contract.
-use Rattle.schaumtruhe.proofs.Surveying.{stepped-message}
+use Rattle.schaumtruhe.proofs.surveys.Steps.{stepped-message}
 use borrow.Author.Needs.{needs}
 use Rattle.schaumtruhe.proofs.surveys.message_step.Statement.{statement}
 use Rattle.schaumtruhe.proofs.surveys.message_step.Tie as tie

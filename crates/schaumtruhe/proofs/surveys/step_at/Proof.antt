@@ -1,6 +1,6 @@
 -- `schaumtruhe::surveys::step_at` meets its contract.
 use mathlib.Core.Path.{sym, _∙_}
-use Rattle.schaumtruhe.proofs.Surveying.{stepped-outside, stepped-none}
+use Rattle.schaumtruhe.proofs.surveys.Steps.{stepped-outside, stepped-none}
 use borrow.Author.Needs.{needs}
 use Rattle.schaumtruhe.proofs.surveys.step_at.Statement.{statement}
 use Rattle.schaumtruhe.proofs.surveys.step_at.Tie as tie

@@ -1,6 +1,6 @@
 -- `schaumtruhe_c::calls::schaumtruhe_article` meets its contract.
 use mathlib.Core.Path.{ap₂}
-use Rattle.schaumtruhe.proofs.ArticlesAt.{article-within}
+use Rattle.schaumtruhe.proofs.ArticlePlaces.{article-within}
 use Rattle.schaumtruhe_c.specs.Answers.{articleOf}
 use borrow.Author.Needs.{needs}
 use Rattle.schaumtruhe_c.proofs.calls.schaumtruhe_article.Statement.{statement}

@@ -2,9 +2,9 @@
 use borrow.Author.Needs.{needs}
 use mathlib.Core.Path.{sym, _∙_}
 use native.Mathlib.Omega.{arith}
-use Rattle.element.proofs.Decoding.{decoded-limited}
+use Rattle.plain.proofs.Decoding.{decoded-limited}
 use Rattle.value.proofs.Counting.{no-count, count-other, count-long, count-padded, count-one, count-is}
-use Rattle.element.proofs.LiteralPlaces.{literal-is}
+use Rattle.plain.proofs.LiteralPlaces.{literal-is}
 use Rattle.value.proofs.counts.count_of.Statement.{statement}
 use Rattle.value.proofs.counts.count_of.Tie as tie
 

@@ -1,7 +1,7 @@
 -- `value::digit_runs::behind_sign` meets its contract: by the test for the sign.
 use borrow.Author.Needs.{needs}
 use borrow.Author.Tests.{eq-eqb, ne-eqb}
-use Rattle.value.specs.Inner.{behindSign}
+use Rattle.value.specs.workers.Scans.{behindSign}
 use Rattle.value.proofs.digit_runs.behind_sign.Statement.{statement}
 use Rattle.value.proofs.digit_runs.behind_sign.Tie as tie
 

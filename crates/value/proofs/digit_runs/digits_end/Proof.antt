@@ -43,7 +43,8 @@ add-result c =
     let m = c .before .before in
     let t = m .before .before .before in
     let known = t .before .before .before in
-    let few = first-few _ _ _ _ (t .before .loop .inv) (t .loop-test .taken) (λ k. omega (arith, known .shared-slice-known .given k)) (omega arith) _ _ (m .before .eight-at .ensures) (m .others-in .ensures) (c .before .if3 .taken) _ (c .first-of .ensures) in
+    let few = first-few _ _ _ _ (t .before .loop .inv) (t .loop-test .taken) (λ k. omega (arith, known .shared-slice-known .given k)) (omega arith) _ _
+    (m .before .eight-at .ensures) (m .others-in .ensures) (c .before .if3 .taken) _ (c .first-of .ensures) in
     omega arith
 
 returns-3 : tie.Need-returns-3 Inv-loop μ-loop
@@ -51,7 +52,8 @@ returns-3 c =
     let m = c .before .before in
     let t = m .before .before .before in
     let known = t .before .before .before in
-    end-first _ _ _ _ (t .before .loop .inv) (t .loop-test .taken) (λ k. omega (arith, known .shared-slice-known .given k)) (omega arith) _ _ (m .before .eight-at .ensures) (m .others-in .ensures) (c .before .if3 .taken) _ (c .first-of .ensures)
+    end-first _ _ _ _ (t .before .loop .inv) (t .loop-test .taken) (λ k. omega (arith, known .shared-slice-known .given k)) (omega arith) _ _
+    (m .before .eight-at .ensures) (m .others-in .ensures) (c .before .if3 .taken) _ (c .first-of .ensures)
 
 add-i : tie.Need-add-i Inv-loop μ-loop
 add-i c = omega arith
@@ -64,7 +66,8 @@ loop-again c =
     let m = c .before in
     let t = m .before .before .before in
     let known = t .before .before .before in
-    eight-more _ _ _ _ (t .before .loop .inv) (t .loop-test .taken) (λ k. omega (arith, known .shared-slice-known .given k)) (omega arith) _ _ (m .before .eight-at .ensures) (m .others-in .ensures) (c .if3 .left)
+    eight-more _ _ _ _ (t .before .loop .inv) (t .loop-test .taken) (λ k. omega (arith, known .shared-slice-known .given k)) (omega arith) _ _
+    (m .before .eight-at .ensures) (m .others-in .ensures) (c .if3 .left)
 
 returns-4 : tie.Need-returns-4 Inv-loop μ-loop
 returns-4 c = end-all _ _ _ _ (c .before .loop .inv) (c .loop-test .left)

@@ -1,7 +1,7 @@
 -- `value::digit_runs::others_in` meets its contract, by the law of each byte apart.
 use native.Mathlib.Omega.{arith}
 use lib.Bits.{and-le-r}
-use Rattle.cut.proofs.Bytewise.{eight-word}
+use Rattle.bytewise.proofs.Bytewise.{eight-word}
 use Rattle.value.proofs.DigitRuns.{others-flags}
 use Rattle.value.proofs.digit_runs.others_in.Statement.{statement}
 use Rattle.value.proofs.digit_runs.others_in.Tie as tie

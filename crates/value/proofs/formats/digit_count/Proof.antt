@@ -1,7 +1,7 @@
 -- `value::formats::digit_count` meets its contract: what the numeral has of digits.
 use borrow.Author.Needs.{needs}
 use mathlib.Core.Path.{ap, _∙_}
-use Rattle.value.specs.Inner.{digitsOf}
+use Rattle.value.specs.workers.Scans.{digitsOf}
 use Rattle.value.proofs.formats.digit_count.Statement.{statement}
 use Rattle.value.proofs.formats.digit_count.Tie as tie
 

@@ -3,7 +3,7 @@ use Prim.Native.Nat.{_-_}
 use mathlib.Core.Path.{sym, _∙_}
 use native.Mathlib.Omega.{arith}
 use borrow.Author.Tests.{not-true, not-false}
-use Rattle.element.proofs.Decoding.{unmarked, literal-none, literal-byte}
+use Rattle.plain.proofs.Decoding.{unmarked, literal-none, literal-byte}
 use Rattle.value.proofs.Running.{Along, along-start, along-join, along-more, along-end, along-stop}
 use Rattle.value.proofs.numeral.digits_from.Statement.{statement}
 use Rattle.value.proofs.numeral.digits_from.Tie as tie

@@ -3,10 +3,10 @@ use borrow.Author.Needs.{needs}
 use native.Mathlib.Omega.{arith}
 use mathlib.Core.Bool.{false}
 use mathlib.Core.Path.{ap, sym, _∙_}
-use Rattle.value.specs.Inner.{unsignedOf}
-use Rattle.element.proofs.Decoding.{decoded-limited}
+use Rattle.value.specs.workers.Scans.{unsignedOf}
+use Rattle.plain.proofs.Decoding.{decoded-limited}
 use Rattle.value.proofs.Numerals.{no-byte, with-minus, without-minus}
-use Rattle.element.proofs.LiteralPlaces.{literal-is}
+use Rattle.plain.proofs.LiteralPlaces.{literal-is}
 use Rattle.value.proofs.numeral.numeral_of.Statement.{statement}
 use Rattle.value.proofs.numeral.numeral_of.Tie as tie
 

@@ -4,7 +4,7 @@ use mathlib.Core.Path.{sym, _∙_}
 use native.Mathlib.Omega.{arith}
 use borrow.Author.Tests.{not-true, not-false}
 use Rattle.value.proofs.Running.{Along, along-start, along-more, along-end, along-stop}
-use Rattle.element.proofs.LiteralPlaces.{literal-is}
+use Rattle.plain.proofs.LiteralPlaces.{literal-is}
 use Rattle.value.proofs.numeral.released_digits.Statement.{statement}
 use Rattle.value.proofs.numeral.released_digits.Tie as tie
 

@@ -1,6 +1,6 @@
 -- `verdict::edition::edition_in` meets its contract.
-use Rattle.verdict.proofs.Texts.{decoded-text}
-use Rattle.verdict.proofs.Naming.{names-c, names-d}
+use Rattle.verdict.proofs.segment.Texts.{decoded-text}
+use Rattle.verdict.proofs.edition.Naming.{names-c, names-d}
 use borrow.Author.Needs.{needs}
 use Rattle.verdict.proofs.edition.edition_in.Statement.{statement}
 use Rattle.verdict.proofs.edition.edition_in.Tie as tie

@@ -1,8 +1,8 @@
 -- `verdict::faults::end_fault` meets its contract: the count, and then the reference.
 use borrow.Author.Tests.{not-true, not-false}
-use Rattle.verdict.specs.Workers.{spanned}
-use Rattle.verdict.proofs.Texts.{decoded-text}
-use Rattle.verdict.proofs.Numbers.{numbered, count-fault, reference-fault, no-end-fault}
+use Rattle.verdict.specs.workers.Segments.{spanned}
+use Rattle.verdict.proofs.segment.Texts.{decoded-text}
+use Rattle.verdict.proofs.faults.Numbers.{numbered, count-fault, reference-fault, no-end-fault}
 use borrow.Author.Needs.{needs}
 use Rattle.verdict.proofs.faults.end_fault.Statement.{statement}
 use Rattle.verdict.proofs.faults.end_fault.Tie as tie
@@ -26,7 +26,8 @@ unfolding spanned
 returns-2 c =
     let counted = c .before .before .before in
     let start = counted .before .before .before in
-    reference-fault (start .args .edition) _ _ _ _ _ (numbered _ _ _ _ (counted .before .is-numbered .ensures) (start .pre)) (not-false _ (counted .if1 .left)) _
+    reference-fault (start .args .edition) _ _ _ _ _ (numbered _ _ _ _ (counted .before .is-numbered .ensures) (start .pre))
+    (not-false _ (counted .if1 .left)) _
     (decoded-text _ _ _ _ _ _ _ (c .before .before .component-at .ensures)) _ (c .before .same-plain .ensures) (not-true _ (c .if2 .taken))
 
 returns-3 : tie.Need-returns-3

@@ -1,6 +1,6 @@
 -- `verdict::faults::is_numbered` meets its contract: a count, or none.
-use Rattle.verdict.specs.Workers.{spanned}
-use Rattle.verdict.proofs.Numbers.{count-is, count-none}
+use Rattle.verdict.specs.workers.Segments.{spanned}
+use Rattle.verdict.proofs.faults.Numbers.{count-is, count-none}
 use borrow.Author.Needs.{needs}
 use Rattle.verdict.proofs.faults.is_numbered.Statement.{statement}
 use Rattle.verdict.proofs.faults.is_numbered.Tie as tie

@@ -1,8 +1,8 @@
 -- `verdict::faults::rule_fault` meets its contract: UNT, LIN, or neither.
 use Prim.Native.Nat.{ℕ}
 use mathlib.Core.List.{List, [], _∷_}
-use Rattle.verdict.proofs.RoleTags.{not-lin, not-unt}
-use Rattle.verdict.proofs.Numbers.{numbered, rule-end, rule-line, no-line-fault, no-rule}
+use Rattle.verdict.proofs.roles.RoleTags.{not-lin, not-unt}
+use Rattle.verdict.proofs.faults.Numbers.{numbered, rule-end, rule-line, no-line-fault, no-rule}
 use borrow.Author.Needs.{needs}
 use Rattle.verdict.proofs.faults.rule_fault.Statement.{statement}
 use Rattle.verdict.proofs.faults.rule_fault.Tie as tie
@@ -26,7 +26,8 @@ returns : tie.Need-returns
 returns c =
     let lin = c .before .before .before in
     let start = lin .before .before .before in
-    no-line-fault (start .args .edition) _ _ _ _ _ (lin .enum-told2 .given .1) _ (numbered _ _ _ _ (c .before .is-numbered .ensures) (start .pre .1)) (c .if1 .taken)
+    no-line-fault (start .args .edition) _ _ _ _ _ (lin .enum-told2 .given .1) _ (numbered _ _ _ _ (c .before .is-numbered .ensures) (start .pre .1))
+    (c .if1 .taken)
 
 returns-2 : tie.Need-returns-2
 returns-2 c =
@@ -37,7 +38,8 @@ returns-3 : tie.Need-returns-3
 returns-3 c =
     let lin = c .before .before .before in
     let start = lin .before .before .before in
-    rule-line (start .args .edition) _ _ _ _ _ (lin .enum-told2 .given .1) _ (numbered _ _ _ _ (c .before .is-numbered .ensures) (start .pre .1)) (c .if1 .left)
+    rule-line (start .args .edition) _ _ _ _ _ (lin .enum-told2 .given .1) _ (numbered _ _ _ _ (c .before .is-numbered .ensures) (start .pre .1))
+    (c .if1 .left)
 
 returns-4 : tie.Need-returns-4
 returns-4 c =

@@ -1,5 +1,5 @@
 -- `verdict::kept::intervals_after` meets its contract.
-use Rattle.verdict.specs.Workers.{spanned}
+use Rattle.verdict.specs.workers.Segments.{spanned}
 use borrow.Author.Needs.{needs}
 use Rattle.verdict.proofs.kept.intervals_after.Statement.{statement}
 use Rattle.verdict.proofs.kept.intervals_after.Tie as tie

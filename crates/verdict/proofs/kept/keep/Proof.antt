@@ -1,7 +1,7 @@
 -- `verdict::kept::keep` meets its contract: one law for each role.
 use mathlib.Core.List.{[], _∷_}
-use Rattle.verdict.proofs.RoleTags.{not-lin, not-unh, not-bgm}
-use Rattle.verdict.proofs.Noting.{after-line, after-document, after-beginning, after-another}
+use Rattle.verdict.proofs.roles.RoleTags.{not-lin, not-unh, not-bgm}
+use Rattle.verdict.proofs.kept.Noting.{after-line, after-document, after-beginning, after-another}
 use borrow.Author.Needs.{needs}
 use Rattle.verdict.proofs.kept.keep.Statement.{statement}
 use Rattle.verdict.proofs.kept.keep.Tie as tie
@@ -40,13 +40,15 @@ returns : tie.Need-returns
 returns c =
     let noted = c .before in
     let a = noted .before .before .before .before .before .before .args in
-    after-line (a .y) (a .d .now) (a .came .now) (a .found) (a .kept) (noted .before .before .enum-told .given .1) _ (noted .doubt-after .ensures .0) _ (noted .doubt-after .ensures .1) _ (c .kept-with .ensures)
+    after-line (a .y) (a .d .now) (a .came .now) (a .found) (a .kept) (noted .before .before .enum-told .given .1) _ _ (noted .doubt-after .ensures) _
+    (c .kept-with .ensures)
 
 returns-2 : tie.Need-returns-2
 returns-2 c =
     let told = c .before in
     let a = told .before .before .before .before .before .args in
-    after-document (a .y) (a .d .now) (a .came .now) (a .found) (a .kept) (told .before .enum-told2 .given .1) _ (told .intervals-after .ensures) _ (c .kept-with2 .ensures)
+    after-document (a .y) (a .d .now) (a .came .now) (a .found) (a .kept) (told .before .enum-told2 .given .1) _ (told .intervals-after .ensures) _
+    (c .kept-with2 .ensures)
 
 returns-3 : tie.Need-returns-3
 returns-3 c =
@@ -58,7 +60,8 @@ returns-4 c =
     let a = c .before .before .before .before .args in
     let role = a .found .role in
     let keys = c .before .match .keys4 in
-    after-another (a .y) (a .d .now) (a .came .now) (a .found) (a .kept) (not-lin (1 ∷ 4 ∷ []) tt role keys) (not-unh (1 ∷ 4 ∷ []) tt role keys) (not-bgm (1 ∷ 4 ∷ []) tt role keys) _ (c .kept-with4 .ensures)
+    after-another (a .y) (a .d .now) (a .came .now) (a .found) (a .kept) (not-lin (1 ∷ 4 ∷ []) tt role keys) (not-unh (1 ∷ 4 ∷ []) tt role keys)
+    (not-bgm (1 ∷ 4 ∷ []) tt role keys) _ (c .kept-with4 .ensures)
 
 pub keep-spec : {M : Type 1} → statement M
 keep-spec =

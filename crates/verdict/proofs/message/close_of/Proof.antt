@@ -1,5 +1,5 @@
 -- `verdict::message::close_of` meets its contract.
-use Rattle.verdict.proofs.Ends.{close-last, close-more}
+use Rattle.verdict.proofs.ended.Ends.{close-last, close-more}
 use borrow.Author.Needs.{needs}
 use Rattle.verdict.proofs.message.close_of.Statement.{statement}
 use Rattle.verdict.proofs.message.close_of.Tie as tie

@@ -1,5 +1,5 @@
 -- `verdict::message::judged` meets its contract.
-use Rattle.verdict.proofs.Naming.{judged-named}
+use Rattle.verdict.proofs.edition.Naming.{judged-named}
 use borrow.Author.Needs.{needs}
 use Rattle.verdict.proofs.message.judged.Statement.{statement}
 use Rattle.verdict.proofs.message.judged.Tie as tie

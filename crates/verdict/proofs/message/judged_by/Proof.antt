@@ -3,22 +3,15 @@ use mathlib.Core.Bool.{true, false, cond, true≢false, false≢true}
 use mathlib.Core.Path.{_≡_, refl}
 use native.Mathlib.Omega.{arith}
 use lib.ListN.{length}
-use Rattle.cut.specs.Held.{held}
-use Rattle.cut.specs.Messages.{lastEnd}
-use Rattle.cut.specs.Segments.{segmentsAt}
-use Rattle.guide.specs.Editions.{guideOf, pagesOf}
-use Rattle.verdict.specs.Answers.{declared, judgedAs}
-use Rattle.verdict.specs.Verdicts.{verdictFrom}
-use Rattle.verdict.proofs.Ends.{Again, closed-refused, is-first, can-end, closed-ended, once-more}
+use Rattle.verdict.specs.workers.Ends.{judgedAt}
+use Rattle.verdict.proofs.ended.Ends.{Again, closed-refused, is-first, can-end, closed-ended, once-more}
 use borrow.Author.Needs.{needs}
 use Rattle.verdict.proofs.message.judged_by.Statement.{statement}
 use Rattle.verdict.proofs.message.judged_by.Tie as tie
 
 abbrev Inv-loop : tie.InvT-loop
 Inv-loop y edition d start stop₀ close₀ again₀ stop close again =
-    (again ≡ false → stop ≡ length d)
-    × (again ≡ true
-    → Again edition y d start stop close (judgedAs (declared (verdictFrom y (guideOf edition) (pagesOf edition) start (held (segmentsAt y d start)))) (lastEnd start (held (segmentsAt y d start)))))
+    (again ≡ false → stop ≡ length d) × (again ≡ true → Again edition y d start stop close (judgedAt edition y d start))
 
 abbrev μ-loop : tie.MeasureT-loop
 μ-loop y edition d start stop₀ close₀ again₀ stop close again = cond again 0 1
@@ -41,7 +34,8 @@ returns c =
     let w = told .before .before in
     let l = w .before in
     let a = l .before .before .args in
-    closed-refused (a .edition) (a .y) (a .d .now) (a .start) _ _ _ (l .loop .again) (l .loop .inv) _ (w .walk .ensures .0) (w .walk .ensures .1 .0) (w .walk .ensures .1 .1) _ (told .told .given .1) _ (c .told-by .ensures)
+    closed-refused (a .edition) (a .y) (a .d .now) (a .start) _ _ _ (l .loop .again) (l .loop .inv) _ (w .walk .ensures .0) (w .walk .ensures .1 .0)
+    (w .walk .ensures .1 .1) _ (told .told .given .1) _ (c .told-by .ensures)
 
 enum-known-kept : tie.Need-enum-known-kept Inv-loop μ-loop
 enum-known-kept c = search needs
@@ -51,7 +45,8 @@ ended-requires c κs =
     let w = c .before .before .before in
     let l = w .before in
     let a = l .before .before .args in
-    can-end (a .edition) (a .y) (a .d .now) (a .start) _ _ _ (l .loop .again) (l .loop .inv) _ (w .walk .ensures .0) (w .walk .ensures .1 .0) (w .walk .ensures .1 .1) _ _ _ (c .before .kept .given .1)
+    can-end (a .edition) (a .y) (a .d .now) (a .start) _ _ _ (l .loop .again) (l .loop .inv) _ (w .walk .ensures .0) (w .walk .ensures .1 .0)
+    (w .walk .ensures .1 .1) _ _ _ (c .before .kept .given .1)
 
 enum-known-verdict : tie.Need-enum-known-verdict Inv-loop μ-loop
 enum-known-verdict c = search needs
@@ -66,7 +61,8 @@ returns-2 c =
     let w = e .before .before .before .before in
     let l = w .before in
     let a = l .before .before .args in
-    closed-ended (a .edition) (a .y) (a .d .now) (a .start) _ _ _ (l .loop .again) (l .loop .inv) _ (w .walk .ensures .0) (w .walk .ensures .1 .0) (w .walk .ensures .1 .1) _ _ _ (e .before .before .kept .given .1) _ (e .ended .ensures) _ (known .verdict .given .1) _ (c .with-end .ensures)
+    closed-ended (a .edition) (a .y) (a .d .now) (a .start) _ _ _ (l .loop .again) (l .loop .inv) _ (w .walk .ensures .0) (w .walk .ensures .1 .0)
+    (w .walk .ensures .1 .1) _ _ _ (e .before .before .kept .given .1) _ (e .ended .ensures) _ (known .verdict .given .1) _ (c .with-end .ensures)
 
 enum-known-place : tie.Need-enum-known-place Inv-loop μ-loop
 enum-known-place c = search needs
@@ -77,7 +73,8 @@ loop-less c =
     let w = e .before .before .before .before in
     let l = w .before in
     let a = l .before .before .args in
-    rw (is-first (a .edition) (a .y) (a .d .now) (a .start) _ _ _ (l .loop .again) (l .loop .inv) _ (w .walk .ensures .0) (w .walk .ensures .1 .0) (w .walk .ensures .1 .1) _ _ _ (e .before .before .kept .given .1)) (omega arith)
+    rw (is-first (a .edition) (a .y) (a .d .now) (a .start) _ _ _ (l .loop .again) (l .loop .inv) _ (w .walk .ensures .0) (w .walk .ensures .1 .0)
+    (w .walk .ensures .1 .1) _ _ _ (e .before .before .kept .given .1)) (omega arith)
 
 loop-again : tie.Need-loop-again Inv-loop μ-loop
 loop-again c =
@@ -87,7 +84,8 @@ loop-again c =
     let a = l .before .before .args in (
       λ h. absurd (true≢false h),
       λ h.
-          once-more (a .edition) (a .y) (a .d .now) (a .start) _ _ _ (l .loop .again) (l .loop .inv) _ (w .walk .ensures .0) (w .walk .ensures .1 .0) (w .walk .ensures .1 .1) _ _ _ (e .before .before .kept .given .1) _ (e .ended .ensures) _ _ (c .before .place .given .1),
+          once-more (a .edition) (a .y) (a .d .now) (a .start) _ _ _ (l .loop .again) (l .loop .inv) _ (w .walk .ensures .0) (w .walk .ensures .1 .0)
+          (w .walk .ensures .1 .1) _ _ _ (e .before .before .kept .given .1) _ (e .ended .ensures) _ (c .before .place .given .1),
     )
 
 pub judged-by-spec : {M : Type 1} → statement M

@@ -4,41 +4,59 @@ use mathlib.Core.Path.{sym, _∙_}
 use mathlib.Core.List.{List}
 use native.Mathlib.Omega.{arith}
 use lib.ListN.{length}
-use Rattle.cut.specs.Held.{unless, members}
-use Rattle.cut.specs.Messages.{body}
+use Rattle.messages.specs.Held.{unless, members}
+use Rattle.messages.specs.Messages.{body}
 use Rattle.cut.specs.Segments.{Segment, segmentsAt}
-use Rattle.verdict.proofs.Judging.{Passed, passed-first, all-fit, passed-refused, passed-stopped, passed-on, none-left, passed-more}
-use Rattle.verdict.proofs.Upcoming.{Upcoming, upcoming, no-upcoming}
+use Rattle.verdict.proofs.message.Judging.{Passed, passed-first, all-fit, passed-refused, passed-stopped, passed-on, none-left, passed-more}
+use Rattle.messages.proofs.Upcoming.{Upcoming, upcoming, no-upcoming}
 use borrow.Author.Needs.{needs}
 use Rattle.verdict.proofs.message.walk.Statement.{statement}
 use Rattle.verdict.proofs.message.walk.Tie as tie
 
 abbrev Inv-loop : tie.InvT-loop
-Inv-loop y edition d start stop counts₀ came₀ kept₀ at₀ n₀ first₀ counts came kept at n first = Passed edition y d start stop (members first (segmentsAt y d at)) counts came kept at n
+Inv-loop y edition d start stop counts₀ came₀ kept₀ at₀ n₀ first₀ counts came kept at n first =
+    Passed edition y d start stop (members first (segmentsAt y d at)) counts came kept at n
 
 abbrev μ-loop : tie.MeasureT-loop
 μ-loop y edition d start stop counts₀ came₀ kept₀ at₀ n₀ first₀ counts came kept at n first = length d - at
 
 took
     : (c : tie.After-known-told Inv-loop μ-loop)
-    → Upcoming (c .before .before .before .before .before .before .before .args .y) (c .before .before .before .before .before .before .before .args .d .now) (c .before .before .before .before .loop .at) (c .before .before .before .before .loop .first) (c .before .s .given .0 .0)
+    → Upcoming (c .before .before .before .before .before .before .before .args .y)
+    (c .before .before .before .before .before .before .before .args .d .now) (c .before .before .before .before .loop .at)
+    (c .before .before .before .before .loop .first) (c .before .s .given .0 .0)
 took c = upcoming _ _ _ _ _ (sym (c .before .before .before .head-at .ensures) ∙ c .before .s .given .1)
 
 -- what of the message follows a segment that ends at a place
 abbrev rest : tie.After-known-told Inv-loop μ-loop → ℕ → List Segment
-rest c e = unless (c .before .s .given .0 .0) (body (segmentsAt (c .before .before .before .before .before .before .before .args .y) (c .before .before .before .before .before .before .before .args .d .now) e))
+rest c e =
+    unless (c .before .s .given .0 .0) (body
+    (segmentsAt (c .before .before .before .before .before .before .before .args .y)
+    (c .before .before .before .before .before .before .before .args .d .now) e))
 
 -- what has been passed once the segment is kept, and that it is further on
 on
     : (c : tie.After-keep Inv-loop μ-loop)
-    → Passed (c .before .before .before .before .before .before .before .before .before .before .before .before .before .before .before .args .edition) (c .before .before .before .before .before .before .before .before .before .before .before .before .before .before .before .args .y) (c .before .before .before .before .before .before .before .before .before .before .before .before .before .before .before .args .d .now) (c .before .before .before .before .before .before .before .before .before .before .before .before .before .before .before .args .start) (c .before .before .before .before .before .before .before .before .before .before .before .before .before .before .before .args .stop) (rest (c .before .before .before .before .before .before .before .before) (c .before .before .before .before .answer .given .0 .1 .0))
-    (c .before .before .before .before .before .before .segment-answer .last .1 .1 .1 .1 .1 .1 .0) (c .keep .last .1 .1 .1 .1 .0) (c .keep .result) (c .before .before .before .before .answer .given .0 .1 .0) (c .before .before .before .before .before .before .before .before .before .before .before .before .loop .n + 1)
-    × (c .before .before .before .before .before .before .before .before .before .before .before .before .loop .at < c .before .before .before .before .answer .given .0 .1 .0) × (c .before .before .before .before .answer .given .0 .1 .0 ≤ length (c .before .before .before .before .before .before .before .before .before .before .before .before .before .before .before .args .d .now))
+    → Passed
+    (c .before .before .before .before .before .before .before .before .before .before .before .before .before .before .before .args .edition)
+    (c .before .before .before .before .before .before .before .before .before .before .before .before .before .before .before .args .y)
+    (c .before .before .before .before .before .before .before .before .before .before .before .before .before .before .before .args .d .now)
+    (c .before .before .before .before .before .before .before .before .before .before .before .before .before .before .before .args .start)
+    (c .before .before .before .before .before .before .before .before .before .before .before .before .before .before .before .args .stop)
+    (rest (c .before .before .before .before .before .before .before .before) (c .before .before .before .before .answer .given .0 .1 .0))
+    (c .before .before .before .before .before .before .segment-answer .last .1 .1 .1 .1 .1 .1 .0) (c .keep .last .1 .1 .1 .1 .0) (c .keep .result)
+    (c .before .before .before .before .answer .given .0 .1 .0)
+    (c .before .before .before .before .before .before .before .before .before .before .before .before .loop .n + 1)
+    × (c .before .before .before .before .before .before .before .before .before .before .before .before .loop .at
+    < c .before .before .before .before .answer .given .0 .1 .0)
+    × (c .before .before .before .before .answer .given .0 .1 .0
+    ≤ length (c .before .before .before .before .before .before .before .before .before .before .before .before .before .before .before .args .d .now))
 on c =
     let placed = c .before .before .before in
     let cut = placed .before .before .before .before .before in
     let q = took cut in
-    passed-on _ _ _ _ _ _ _ _ _ _ _ (cut .before .before .before .before .loop .inv) _ _ _ (q .cuts) (rest cut) (q .takes .list) _ (placed .before .before .before .segment-answer .ensures .0) _ _ (placed .before .answer .given .1) _ _ _
+    passed-on _ _ _ _ _ _ _ _ _ _ _ (cut .before .before .before .before .loop .inv) _ _ _ (q .cuts) (rest cut) (q .takes .list) _
+    (placed .before .before .before .segment-answer .ensures .0) _ _ (placed .before .answer .given .1) _ _ _
     (c .keep .ensures .0) (c .keep .ensures .1) (placed .before .before .before .segment-answer .ensures .1) (c .before .before .if1 .left)
 
 begun-requires : tie.Need-begun-requires Inv-loop μ-loop
@@ -94,7 +112,8 @@ returns-2 c =
     let placed = c .before .before in
     let cut = placed .before .before .before .before .before in
     let q = took cut in
-    passed-stopped _ _ _ _ _ _ _ _ _ _ _ (cut .before .before .before .before .loop .inv) _ _ _ (q .cuts) (rest cut) (q .takes .list) _ (placed .before .before .before .segment-answer .ensures .0) _ _ (placed .before .answer .given .1) (c .before .if1 .taken) _
+    passed-stopped _ _ _ _ _ _ _ _ _ _ _ (cut .before .before .before .before .loop .inv) _ _ _ (q .cuts) (rest cut) (q .takes .list) _
+    (placed .before .before .before .segment-answer .ensures .0) _ _ (placed .before .answer .given .1) (c .before .if1 .taken) _
     (c .stopped .ensures)
 
 keep-requires : tie.Need-keep-requires Inv-loop μ-loop
@@ -130,7 +149,8 @@ returns-3 c =
     let told = named .before in
     let cut = told .before .before .before .before .before in
     let q = took cut in
-    passed-refused _ _ _ _ _ _ _ _ _ _ _ (cut .before .before .before .before .loop .inv) _ _ _ (q .cuts) (rest cut) (q .takes .list) _ (told .before .before .before .segment-answer .ensures .0) _ _ _ (told .before .answer2 .given .1) _
+    passed-refused _ _ _ _ _ _ _ _ _ _ _ (cut .before .before .before .before .loop .inv) _ _ _ (q .cuts) (rest cut) (q .takes .list) _
+    (told .before .before .before .segment-answer .ensures .0) _ _ _ (told .before .answer2 .given .1) _
     (named .refused .ensures) _ (c .before .close-of .ensures) _ (c .with-end .ensures)
 
 add-n : tie.Need-add-n Inv-loop μ-loop

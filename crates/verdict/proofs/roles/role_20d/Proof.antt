@@ -1,11 +1,11 @@
 -- `verdict::roles::role_20d` meets its contract: each arm is computed from the table, and the last holds for all rows but these.
 use mathlib.Core.Path.{refl, sym, ap}
-use Rattle.element.specs.Plain.{same}
+use Rattle.plain.specs.Plain.{same}
 use Rattle.guide.specs.Pricat.{pricat20d}
 use Rattle.guide.specs.Sheet.{isTag}
 use Rattle.guide.specs.declared.edition.Edition.the-variants.{D}
-use Rattle.verdict.specs.Workers.{roleOf}
-use Rattle.verdict.proofs.RoleTags.{other-by}
+use Rattle.verdict.specs.workers.Segments.{roleOf}
+use Rattle.verdict.proofs.roles.RoleTags.{other-by}
 use Rattle.verdict.proofs.roles.role_20d.Statement.{statement}
 use Rattle.verdict.proofs.roles.role_20d.Tie as tie
 

@@ -1,7 +1,7 @@
 -- `verdict::roles::role_of` meets its contract: by the edition.
 use mathlib.Core.Path.{sym, ap, _∙_}
 use Rattle.guide.specs.declared.edition.Edition.{Edition}
-use Rattle.verdict.specs.Workers.{roleOf}
+use Rattle.verdict.specs.workers.Segments.{roleOf}
 use borrow.Author.Needs.{needs}
 use Rattle.verdict.proofs.roles.role_of.Statement.{statement}
 use Rattle.verdict.proofs.roles.role_of.Tie as tie

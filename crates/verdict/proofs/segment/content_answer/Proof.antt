@@ -1,9 +1,9 @@
 -- `verdict::segment::content_answer` meets its contract: what is read first, and then the rules.
 use mathlib.Core.Path.{_∙_}
 use Rattle.page.proofs.Readings.{sound}
-use Rattle.verdict.proofs.Texts.{spanned-text}
-use Rattle.verdict.proofs.Numbers.{content-rule}
-use Rattle.verdict.proofs.Answering.{content-read, content-refused, content-fits}
+use Rattle.verdict.proofs.segment.Texts.{spanned-text}
+use Rattle.verdict.proofs.faults.Numbers.{content-rule}
+use Rattle.verdict.proofs.segment.Answering.{content-read, content-refused, content-fits}
 use borrow.Author.Needs.{needs}
 use Rattle.verdict.proofs.segment.content_answer.Statement.{statement}
 use Rattle.verdict.proofs.segment.content_answer.Tie as tie
@@ -47,7 +47,8 @@ returns-3 c =
     let a = page .before .before .args in
     let q = sound (a .y) (a .edition) (a .n) (a .d .now) (a .start) _ (page .read .ensures) (clean .if1 .left) in
     content-fits (a .edition) (a .y) (a .d .now) (a .start) (a .i) (a .n) (a .kept) _ q _
-    (content-rule (a .edition) _ _ _ _ _ _ _ _ (q .page) _ (roled .role-of .ensures) _ (c .before .rule-fault .ensures)) (c .if2 .left) _ (roled .role-of .ensures)
+    (content-rule (a .edition) _ _ _ _ _ _ _ _ (q .page) _ (roled .role-of .ensures) _ (c .before .rule-fault .ensures)) (c .if2 .left) _
+    (roled .role-of .ensures)
 
 pub content-answer-spec : {M : Type 1} → statement M
 content-answer-spec =

@@ -1,5 +1,5 @@
 -- `verdict::segment::misplaced` meets its contract: one law for each return.
-use Rattle.verdict.proofs.Answering.{misplaced-nothing, misplaced-bytes, misplaced-place}
+use Rattle.verdict.proofs.segment.Answering.{misplaced-nothing, misplaced-bytes, misplaced-place}
 use borrow.Author.Needs.{needs}
 use Rattle.verdict.proofs.segment.misplaced.Statement.{statement}
 use Rattle.verdict.proofs.segment.misplaced.Tie as tie
@@ -22,12 +22,14 @@ bytes-fault-requires c κs = search needs
 returns-2 : tie.Need-returns-2
 returns-2 c =
     let some = c .before .before in
-    misplaced-bytes _ _ _ _ _ _ _ (some .before .before .before .segment-at .ensures) _ _ _ (some .before .s .given .1) _ (c .before .bytes-fault .ensures) (c .if1 .taken)
+    misplaced-bytes _ _ _ _ _ _ _ (some .before .before .before .segment-at .ensures) _ _ _ (some .before .s .given .1) _
+    (c .before .bytes-fault .ensures) (c .if1 .taken)
 
 returns-3 : tie.Need-returns-3
 returns-3 c =
     let some = c .before .before in
-    misplaced-place _ _ _ _ _ _ _ (some .before .before .before .segment-at .ensures) _ _ _ (some .before .s .given .1) _ (c .before .bytes-fault .ensures) (c .if1 .left)
+    misplaced-place _ _ _ _ _ _ _ (some .before .before .before .segment-at .ensures) _ _ _ (some .before .s .given .1) _
+    (c .before .bytes-fault .ensures) (c .if1 .left)
 
 pub misplaced-spec : {M : Type 1} → statement M
 misplaced-spec =

@@ -1,6 +1,6 @@
 -- `verdict::segment::segment_answer` meets its contract: one law for each answer, `Answers` with the counts that it leaves.
 use borrow.Author.Needs.{needs}
-use Rattle.verdict.proofs.Answering.{place-refused, place-answered}
+use Rattle.verdict.proofs.segment.Answering.{place-refused, place-answered}
 use Rattle.verdict.proofs.segment.segment_answer.Statement.{statement}
 use Rattle.verdict.proofs.segment.segment_answer.Tie as tie
 
@@ -25,7 +25,8 @@ returns c =
     let place = found .before .before in
     let a = place .before .before .before .args in
     let o =
-    place-answered (a .edition) (a .y) (a .d .now) (a .start) (a .i) (a .kept) (a .counts .now) _ (place .place .ensures .0) _ (place .place .ensures .1) _ (found .answer .given .1)
+    place-answered (a .edition) (a .y) (a .d .now) (a .start) (a .i) (a .kept) (a .counts .now) _ (place .place .ensures .0) _
+    (place .place .ensures .1) _ (found .answer .given .1)
     _ (c .content-answer .ensures) in
     (o .answer, o .counts)
 
@@ -35,7 +36,8 @@ returns-2 c =
     let place = told .before .before in
     let a = place .before .before .before .args in
     let o =
-    place-refused (a .edition) (a .y) (a .d .now) (a .start) (a .i) (a .kept) (a .counts .now) _ (place .place .ensures .0) _ (place .place .ensures .1) _ _ (told .answer2 .given .1)
+    place-refused (a .edition) (a .y) (a .d .now) (a .start) (a .i) (a .kept) (a .counts .now) _ (place .place .ensures .0) _
+    (place .place .ensures .1) _ _ (told .answer2 .given .1)
     _ (c .misplaced .ensures) in
     (o .answer, o .counts)
 

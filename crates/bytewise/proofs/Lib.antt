@@ -1,0 +1,8 @@
+pub mod Booleans
+pub mod Parts
+pub mod Limits
+pub mod Words
+pub mod Every
+pub mod Bytewise
+pub mod Paired
+pub mod Clearing

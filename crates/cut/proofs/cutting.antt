@@ -1,0 +1,4 @@
+pub mod Scanning
+pub mod Admitting
+pub mod Boundaries
+pub mod Alone

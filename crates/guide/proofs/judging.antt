@@ -1,0 +1,14 @@
+pub mod Enclosing
+pub mod Faultless
+pub mod Answering
+pub mod FaultlessParts
+pub mod FaultlessTree
+pub mod FrameRules
+pub mod ProperThrough
+pub mod Verdicts
+pub mod Keeping
+pub mod Blaming
+pub mod FaultFound
+pub mod FaultFree
+pub mod LastTag
+pub mod Repeating

@@ -1,0 +1,12 @@
+pub mod Growing
+pub mod Meeting
+pub mod Recounting
+pub mod Standing
+pub mod Seeking
+pub mod Missing
+pub mod Outcomes
+pub mod Refusing
+pub mod Running
+pub mod Ending
+pub mod Faults
+pub mod Taken

@@ -1,0 +1,2 @@
+pub mod Pages20d
+pub mod Pages20c

@@ -1,0 +1,4 @@
+pub mod Required
+pub mod Tables
+pub mod Columns
+pub mod Framing

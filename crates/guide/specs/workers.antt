@@ -1,0 +1,9 @@
+pub mod Placing
+pub mod Checks
+pub mod Columns
+pub mod PageFault
+pub mod Moods
+pub mod Frames
+pub mod Heads
+pub mod Judging
+pub mod Runs

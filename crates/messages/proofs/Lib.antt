@@ -1,0 +1,12 @@
+pub mod walks
+pub mod Finding
+pub mod Outside
+pub mod Demand3
+pub mod Ordering
+pub mod Members
+pub mod ByItself
+pub mod TailFirst
+pub mod Holding
+pub mod Upcoming
+pub mod Passing
+pub mod Face

@@ -1,0 +1,51 @@
+// Going through one message segment by segment, without looking for its end first.
+use crate::tags::Tag;
+use crate::tags::tag_at;
+use cut::Syntax;
+ghost use mathlib.Core.Path.{_≡_};
+ghost use Rattle.cut.specs.Segments.{segmentsAt};
+ghost use Rattle.messages.specs.Held.{isUnt, belongs, headIn};
+
+// Whether the message has a further segment, and whether that is the UNT.
+pub enum Head {
+    Inside { last: bool },
+    Nothing,
+}
+
+fn ends_message(tag: Tag) -> bool
+    ensures { λ r. ⌜ r ≡ isUnt tag ⌝ }
+{
+    match tag {
+        Tag::Unh => false,
+        Tag::Unt => true,
+        Tag::Unz => false,
+        Tag::Other => false,
+    }
+}
+
+// Whether a segment belongs to the message that is open before it; the first one does.
+fn is_inside(tag: Tag, first: bool) -> bool
+    ensures { λ r. ⌜ r ≡ belongs first tag ⌝ }
+{
+    match tag {
+        Tag::Unh => first,
+        Tag::Unt => true,
+        Tag::Unz => first,
+        Tag::Other => true,
+    }
+}
+
+// Whether the message that is open at `at`, or that begins there (`first`), has a segment there. Its end is not looked for.
+pub fn head_at(y: Syntax, d: &[u8], at: usize, first: bool) -> Head
+    ensures { λ r. ⌜ r ≡ headIn first (segmentsAt y (now (d .entry)) at) ⌝ }
+{
+    if d.len() <= at {
+        return Head::Nothing;
+    }
+    let tag = tag_at(y, d, at);
+    if !is_inside(tag, first) {
+        return Head::Nothing;
+    }
+    let last = ends_message(tag);
+    Head::Inside { last }
+}

@@ -1,0 +1,3 @@
+pub mod Arms
+pub mod Fields
+pub mod Rows

@@ -1,0 +1,2 @@
+pub mod KeyCodes
+pub mod KeyWords

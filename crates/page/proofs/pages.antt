@@ -1,0 +1,3 @@
+pub mod Moods
+pub mod Stops
+pub mod Steps

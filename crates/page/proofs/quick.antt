@@ -1,0 +1,4 @@
+pub mod Onward
+pub mod Start
+pub mod Tags
+pub mod Loop

@@ -1,0 +1,4 @@
+pub mod Prints
+pub mod Marks
+pub mod Words
+pub mod Came

@@ -1,0 +1,2 @@
+pub mod Remembering
+pub mod Noting

@@ -1,0 +1,4 @@
+pub mod Segments
+pub mod Kept
+pub mod Until
+pub mod Ends
