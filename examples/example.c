@@ -1,19 +1,27 @@
 /* Reads a file and prints what the checking program of document 01 prints: X and a refusal of the delivery; or a line M for each message, a
- * line P for each price of an accepted one, and a line E with the survey. */
+ * line P for each price of an accepted one, and a line E with the survey. With -s it prints a line S for each segment instead: its first byte,
+ * the byte after its last, and 1 if it is a piece. */
 #include <inttypes.h>
 #include <stdio.h>
+#include <string.h>
 
 #include "schaumtruhe.h"
 
-#define ROWS 64
+/* Each call for prices judges the message anew, so that many small rows would take long. */
+#define ROWS 65536
 
+static int64_t row[ROWS * SCHAUMTRUHE_PRICE];
 static uint8_t delivery[SCHAUMTRUHE_LIMIT + 1]; /* one more than the limit, so that a longer file is told apart */
 
-/* An article without its release marks; `-` if it is absent. */
-static void print_article(const uint8_t *article, size_t length)
+/* The article of a price without its release marks; `-` if it is absent. The row has its place in the message and its length. */
+static void print_article(size_t message, const int64_t *price)
 {
-    if (length == 0)
+    size_t length = (size_t)price[SCHAUMTRUHE_LENGTH];
+    if (length == 0) {
         putchar('-');
+        return;
+    }
+    const uint8_t *article = delivery + message + (size_t)price[SCHAUMTRUHE_ARTICLE];
     for (size_t i = 0; i < length; i++) {
         if (article[i] == '?' && i + 1 < length)
             i++;
@@ -23,21 +31,18 @@ static void print_article(const uint8_t *article, size_t length)
 
 static void print_prices(size_t length, size_t at)
 {
-    int64_t row[ROWS * SCHAUMTRUHE_PRICE];
     size_t k = 0;
-    for (;;) {
-        struct schaumtruhe_prices got = schaumtruhe_prices(delivery, length, at, k, row, ROWS * SCHAUMTRUHE_PRICE);
+    struct schaumtruhe_prices got;
+    do {
+        got = schaumtruhe_prices(delivery, length, at, k, row, ROWS * SCHAUMTRUHE_PRICE);
         for (size_t i = 0; i < got.written; i++) {
             const int64_t *price = row + i * SCHAUMTRUHE_PRICE;
-            struct schaumtruhe_article article = schaumtruhe_article(delivery, length, at, k + i);
             printf("P %" PRId64 " ", price[SCHAUMTRUHE_POSITION]);
-            print_article(delivery + article.place, article.length);
+            print_article(at, price);
             printf(" %" PRId64 " %" PRId64 "\n", price[SCHAUMTRUHE_AMOUNT], price[SCHAUMTRUHE_DECIMALS]);
         }
         k += got.written;
-        if (got.written == 0)
-            return;
-    }
+    } while (k < got.total);
 }
 
 static void print_messages(size_t length)
@@ -54,25 +59,44 @@ static void print_messages(size_t length)
     }
 }
 
+static void print_report(size_t length)
+{
+    struct schaumtruhe_totals totals = schaumtruhe_survey(delivery, length);
+    if (totals.number != 0) {
+        printf("X %" PRIu32 "\n", totals.number);
+        return;
+    }
+    print_messages(length);
+    printf("E %zu %zu %zu\n", totals.messages, totals.accepted, totals.outside);
+}
+
+static void print_segments(size_t length)
+{
+    struct schaumtruhe_segment segment = schaumtruhe_segment_at(delivery, length, 0);
+    while (segment.found) {
+        printf("S %zu %zu %" PRIu32 "\n", segment.start, segment.end, segment.piece);
+        segment = schaumtruhe_segment_at(delivery, length, segment.end);
+    }
+}
+
 int main(int argc, char **argv)
 {
-    FILE *in = argc == 2 ? fopen(argv[1], "rb") : NULL;
+    int segments = argc == 3 && strcmp(argv[1], "-s") == 0;
+    const char *name = segments ? argv[2] : argv[1];
+    FILE *in = argc == 2 || segments ? fopen(name, "rb") : NULL;
     if (in == NULL) {
-        fprintf(stderr, "usage: example FILE\n");
+        fprintf(stderr, "usage: example [-s] FILE\n");
         return 2;
     }
     size_t length = fread(delivery, 1, sizeof delivery, in);
     if (ferror(in)) {
-        perror(argv[1]);
+        perror(name);
         return 2;
     }
     fclose(in);
-    struct schaumtruhe_totals totals = schaumtruhe_survey(delivery, length);
-    if (totals.number != 0) {
-        printf("X %" PRIu32 "\n", totals.number);
-        return 0;
-    }
-    print_messages(length);
-    printf("E %zu %zu %zu\n", totals.messages, totals.accepted, totals.outside);
+    if (segments)
+        print_segments(length);
+    else
+        print_report(length);
     return 0;
 }

@@ -79,6 +79,13 @@ struct schaumtruhe_article {
     size_t length; /* its length, release marks counted */
 };
 
+struct schaumtruhe_segment {
+    uint32_t found; /* 1, or 0 if there is none */
+    size_t start;   /* its first byte */
+    size_t end;     /* the byte after its last */
+    uint32_t piece; /* 1 if it has no terminator, since the delivery ends in its middle; else 0 */
+};
+
 /* The whole delivery: messages found, accepted, and segments outside.
  * Refused: 1 or 2, and the counts are 0. */
 struct schaumtruhe_totals schaumtruhe_survey(const uint8_t *delivery, size_t length);
@@ -100,6 +107,11 @@ struct schaumtruhe_prices schaumtruhe_prices(const uint8_t *delivery, size_t len
  * delivery. An absent article is empty and stands at the message's start.
  * Refused: 1, 2, 31, 30 or 32, and the rest is 0. */
 struct schaumtruhe_article schaumtruhe_article(const uint8_t *delivery, size_t length, size_t at, size_t k);
+
+/* The segment that the bytes from `at` on begin with; a place within UNA is before the first segment. None at or past the end, and none in a
+ * delivery that is refused with 1 or 2; the rest is then 0. From 0 on, and then from each `end`, it gives every segment once, in order.
+ * A place where no segment begins is taken as one where one does. */
+struct schaumtruhe_segment schaumtruhe_segment_at(const uint8_t *delivery, size_t length, size_t at);
 
 #ifdef __cplusplus
 }

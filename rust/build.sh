@@ -1,18 +1,30 @@
 #!/usr/bin/env bash
-# Builds the archive, the C example and the Rust wrapper, and holds what both examples print on two deliveries of docs/VECTORS.md to their lines,
-# which were worked out by hand before any program ran.
-# Needs rt, a C compiler (CC, or cc) and cargo. What it makes stands under target/.
+# Builds the archive, the C example and the Rust wrapper, and holds what both examples print on the deliveries of docs/VECTORS.md to their lines,
+# which were worked out by hand before any program ran; the segments that the two print are held to each other.
+# Needs rt, a C compiler (CC, or cc), cargo and python3. What it makes stands under target/.
 set -eu -o pipefail
 cd "$(dirname "$0")/.."
 
-mkdir -p target
+vectors=target/vectors
+mkdir -p $vectors
+python3 docs/places.py $vectors
 rt staticlib schaumtruhe_c | tail -n 1
 "${CC:-cc}" -std=c11 -Wall -Wextra -Werror -pedantic -O2 -Iinclude examples/example.c target/staticlib/libschaumtruhe_c.a -o target/example
 
 export CARGO_TARGET_DIR="$PWD/target/rust"
 cargo test --quiet --offline --release --manifest-path rust/wrapper/Cargo.toml
-for crate in crates/sheetcheck crates/sheetcheck_pairs; do
-    target/example $crate/stdin | cmp $crate/stdout -
-    cargo run --quiet --offline --release --manifest-path rust/wrapper/Cargo.toml --example report -- $crate/stdin | cmp $crate/stdout -
+cargo build --quiet --offline --release --manifest-path rust/wrapper/Cargo.toml --example report
+report=$CARGO_TARGET_DIR/release/examples/report
+
+check() { # DELIVERY LINES
+    target/example "$1" | cmp "$2" -
+    "$report" "$1" | cmp "$2" -
+    target/example -s "$1" >target/segments
+    "$report" -s "$1" | cmp target/segments -
+}
+check $vectors/stdin $vectors/sheetcheck.stdout
+check $vectors/pairs/stdin $vectors/pairs/sheetcheck.stdout
+for delivery in $vectors/other/*.edi; do
+    check "$delivery" "${delivery%.edi}.out"
 done
 echo "the C example and the Rust wrapper print the same, as they should"

@@ -17,17 +17,20 @@ pub fn print_goals(long: &[Case], short: &[Case]) {
     }
 }
 
-fn goals(long: &[Case], short: &[Case]) -> [Goal; 6] {
+fn goals(long: &[Case], short: &[Case]) -> [Goal; 7] {
     let usual = || long.iter().zip(short).filter(|(case, _)| case.name != "dense");
     let valid = of_kind(long, "valid");
+    let many = of_kind(long, "many");
     let counts = long.iter().map(|case| ratio(last(case).count, case.yardstick));
-    let against_plain = usual().map(|(case, _)| ratio(last(case).survey, case.best[0].survey));
+    let against_plain = |case: &Case| ratio(last(case).survey, case.best[0].survey);
+    let others = usual().filter(|(case, _)| case.name != "many").map(|(case, _)| against_plain(case));
     let growth = usual().map(|(case, part)| ratio(last(case).survey, last(part).survey) / 8.0);
     let walks = long.iter().map(|case| ratio(last(case).walk, last(case).survey));
     [
         Goal { name: "counting segments, yardsticks", figure: worst(counts), limit: 1.5 },
         Goal { name: "survey on valid, yardsticks", figure: ratio(last(valid).survey, valid.yardstick), limit: 3.0 },
-        Goal { name: "survey on all but dense, surveys of the plain reader", figure: worst(against_plain), limit: 1.0 / 0.8 },
+        Goal { name: "survey on all but many and dense, surveys of the plain reader", figure: worst(others), limit: 1.0 / 0.8 },
+        Goal { name: "survey on many, surveys of the plain reader", figure: against_plain(many), limit: 1.0 / 0.75 },
         Goal { name: "growth on all but dense", figure: worst(growth), limit: 1.2 },
         Goal { name: "dense, time per byte of valid", figure: per_byte(of_kind(long, "dense")) / per_byte(valid), limit: 40.0 },
         Goal { name: "all messages and prices, surveys", figure: worst(walks), limit: 3.0 },

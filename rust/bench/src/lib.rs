@@ -72,8 +72,10 @@ fn stacks(name: &str, libraries: Libraries) {
         let judge = stack_of(|| ignore(library.judge_at(&d, at)));
         let prices = stack_of(|| ignore(library.prices(&d, at, 0, &mut row)));
         let article = stack_of(|| ignore(library.article(&d, at, 0)));
+        let segment = stack_of(|| ignore(library.segment_at(&d, at)));
         println!(
-            "stack of {} on {name}: survey {survey}, next_message {next}, judge_at {judge}, prices {prices}, article {article} bytes",
+            "stack of {} on {name}: survey {survey}, next_message {next}, judge_at {judge}, prices {prices}, article {article}, \
+             segment_at {segment} bytes",
             library.name()
         );
     }

@@ -55,7 +55,7 @@ pub fn compare_delivery(
     tally.bytes += delivery.len() as u64;
     tally.longest = tally.longest.max(delivery.len());
     pair.survey(tally)?;
-    pair.segments(tally)?;
+    pair.segments(random, tally)?;
     let starts = pair.messages(tally)?;
     pair.next_messages(random, &starts, tally)?;
     for at in asked_places(random, delivery.len(), &starts) {
@@ -92,15 +92,31 @@ impl Pair<'_> {
         equal(format_args!("survey"), &one, &other)
     }
 
-    /// Both segment readers, if both have one.
-    fn segments(&self, tally: &mut Tally) -> Outcome {
-        let (Some(one), Some(other)) = (self.one.segments(self.d), self.other.segments(self.d)) else { return Ok(()) };
+    fn segment_at(&self, at: usize, tally: &mut Tally) -> Result<Option<(usize, usize, bool)>, String> {
+        let (one, other) = (self.one.segment_at(self.d, at), self.other.segment_at(self.d, at));
         tally.calls += 1;
-        tally.segments += one.len() as u64;
-        match one.iter().zip(&other).position(|(one, other)| one != other) {
-            Some(at) => equal(format_args!("segment {at} of the reader"), &one[at], &other[at]),
-            None => equal(format_args!("the reader's count of segments"), &one.len(), &other.len()),
+        tally.segment(&one);
+        equal(format_args!("segment_at({at})"), &one, &other)?;
+        Ok(one)
+    }
+
+    /// A walk through all segments, and single steps from places that it need not come to.
+    fn segments(&self, random: &mut Random, tally: &mut Tally) -> Outcome {
+        let mut at = 0;
+        while let Some((_, end, _)) = self.segment_at(at, tally)? {
+            at = end;
         }
+        for at in edge_places(self.d.len()) {
+            self.segment_at(at, tally)?;
+        }
+        for _ in 0..12 {
+            let place = random.below(self.d.len() + 2);
+            // Behind a release mark the reader starts anew: its place is all that it knows.
+            let release = self.d.iter().skip(place).position(|&byte| byte == b'?');
+            self.segment_at(place, tally)?;
+            self.segment_at(release.map_or(place, |after| place + after + 1), tally)?;
+        }
+        Ok(())
     }
 
     fn next_message(&self, from: usize, tally: &mut Tally) -> Result<Option<(usize, usize)>, String> {
@@ -124,12 +140,11 @@ impl Pair<'_> {
     }
 
     fn next_messages(&self, random: &mut Random, starts: &[usize], tally: &mut Tally) -> Outcome {
-        let length = self.d.len();
-        for from in [0, 1, 8, 9, 10, length.wrapping_sub(1), length, length + 1, usize::MAX, usize::MAX - 3] {
+        for from in edge_places(self.d.len()) {
             self.next_message(from, tally)?;
         }
         for _ in 0..6 {
-            let from = random.below(length + 2);
+            let from = random.below(self.d.len() + 2);
             self.next_message(from, tally)?;
         }
         for &start in starts.iter().take(MOST_ASKED) {
@@ -164,6 +179,11 @@ impl Pair<'_> {
         equal(format_args!("prices({at}, {k}, row of {})", row.len()), &one, &other)?;
         equal(format_args!("the row of {} after prices({at}, {k})", row.len()), &row, &other_row)
     }
+}
+
+/// At both ends of a delivery, at those of UNA, and far behind.
+fn edge_places(length: usize) -> [usize; 10] {
+    [0, 1, 8, 9, 10, length.wrapping_sub(1), length, length + 1, usize::MAX, usize::MAX - 3]
 }
 
 /// A pattern that no price has.

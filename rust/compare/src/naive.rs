@@ -11,7 +11,7 @@ mod place;
 use std::cell::RefCell;
 use std::rc::Rc;
 
-use cut::{cut, front, messages, Message};
+use cut::{front, messages, next_end, Message};
 use guide::Guide;
 use judge::{judge, Price};
 use plain::{Article, Library, Survey, Verdict};
@@ -125,8 +125,8 @@ impl Library for Naive {
         }
     }
 
-    fn segments(&self, d: &[u8]) -> Option<Vec<(usize, usize, bool)>> {
-        let all = front(d).map_or(Vec::new(), |front| cut(d, front));
-        Some(all.iter().map(|segment| (segment.start, segment.end, segment.is_piece)).collect())
+    fn segment_at(&self, d: &[u8], at: usize) -> Option<(usize, usize, bool)> {
+        let start = if at < front(d).ok()? { front(d).ok()? } else { at };
+        next_end(d, start).map(|(end, is_piece)| (start, end, is_piece))
     }
 }

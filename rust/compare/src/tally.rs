@@ -17,8 +17,9 @@ pub struct Tally {
     pub accepted: u64,
     pub outside: u64,
     pub prices: u64,
-    pub segments: u64,
     pub calls: u64,
+    /// Steps of the segment reader that gave a segment, a piece or nothing.
+    steps: BTreeMap<&'static str, u64>,
     verdicts: Counts,
     surveys: Counts,
     price_refusals: Counts,
@@ -73,10 +74,20 @@ impl Tally {
         count(&mut self.article_refusals, answer.number as usize);
     }
 
+    pub fn segment(&mut self, answer: &Option<(usize, usize, bool)>) {
+        let word = match answer {
+            Some((_, _, false)) => "segment",
+            Some((_, _, true)) => "piece",
+            None => "none",
+        };
+        *self.steps.entry(word).or_default() += 1;
+    }
+
     pub fn print(&self) {
         println!("deliveries {}, bytes {}, longest {}, calls {}", self.deliveries, self.bytes, self.longest, self.calls);
         println!("messages {}, accepted {}, segments outside {}", self.messages, self.accepted, self.outside);
-        println!("prices compared {}, segments of the reader {}", self.prices, self.segments);
+        println!("prices compared {}", self.prices);
+        println!("segment_at: {}", counted(&self.steps));
         println!("survey refused: {}", counted(&self.surveys));
         println!("judge_at (0 accepted): {}", counted(&self.verdicts));
         println!("judge_at accepted by edition: {}", counted(&self.editions));

@@ -18,7 +18,8 @@ enum Wrong {
     RowBehind,
     RowOnRefusal,
     Article,
-    Segments,
+    Piece,
+    LooksBack,
 }
 
 struct Altered(Wrong);
@@ -73,12 +74,16 @@ impl Library for Altered {
         Article { length: article.length - (self.0 == Wrong::Article && article.length > 1) as usize, ..article }
     }
 
-    fn segments(&self, d: &[u8]) -> Option<Vec<(usize, usize, bool)>> {
-        let mut all = Plain.segments(d)?;
-        if self.0 == Wrong::Segments {
-            all.pop();
+    fn segment_at(&self, d: &[u8], at: usize) -> Option<(usize, usize, bool)> {
+        let (start, end, is_piece) = Plain.segment_at(d, at)?;
+        match self.0 {
+            Wrong::Piece => Some((start, end, false)),
+            // Right only for a reader that comes to no place behind a release mark.
+            Wrong::LooksBack if start > 0 && d[start - 1] == b'?' => {
+                Plain.segment_at(d, start - 1).map(|(_, end, piece)| (start, end, piece))
+            }
+            _ => Some((start, end, is_piece)),
         }
-        Some(all)
     }
 }
 
@@ -114,7 +119,7 @@ fn a_right_library_shows_none() {
 #[test]
 fn a_wrong_call_is_found() {
     use Wrong::*;
-    for wrong in [Survey, NextMessage, Verdict, Edition, OneTwice, OneAlone, Written, RowBehind, RowOnRefusal, Article, Segments] {
+    for wrong in [Survey, NextMessage, Verdict, Edition, OneTwice, OneAlone, Written, RowBehind, RowOnRefusal, Article, Piece, LooksBack] {
         assert!(differences(&Altered(wrong)) > 10);
     }
 }

@@ -1,6 +1,7 @@
 //! One fault in a right message. Each refusal number has several ways; a way may now and then miss, which is no harm:
 //! the readers decide what the message gets.
 
+use crate::basics::{any, one_of, recount, wrong_end};
 use crate::differences::{description, only_in_one, other_edition, second_price, unknown_edition};
 use crate::intervals::wrong_interval;
 use crate::random::Random;
@@ -26,16 +27,6 @@ pub fn damage(random: &mut Random, all: &mut Vec<Segment>, number: u32) {
         25 => wrong_interval(random, all),
         _ => no_end(random, all),
     }
-}
-
-fn any(random: &mut Random, all: &[Segment]) -> usize {
-    random.below(all.len())
-}
-
-/// A segment with one of these tags, if there is one.
-pub fn one_of(random: &mut Random, all: &[Segment], tags: &[&str]) -> Option<usize> {
-    let found: Vec<usize> = (0..all.len()).filter(|&at| tags.contains(&all[at].tag)).collect();
-    (!found.is_empty()).then(|| found[random.below(found.len())])
 }
 
 fn written(random: &mut Random, segment: &Segment) -> Vec<u8> {
@@ -189,6 +180,39 @@ fn fill(random: &mut Random, all: &mut Vec<Segment>) {
     }
 }
 
+/// Numbers that a format refuses, and some that stand at its limit.
+const NUMBERS: [&[u8]; 29] = [
+    b".",
+    b".5",
+    b"5.",
+    b"-",
+    b"-.5",
+    b"1.2.3",
+    b"1,5",
+    b" 1",
+    b"1 ",
+    b"+1",
+    b"1e5",
+    b"--1",
+    b"1-",
+    b"-5.",
+    b"1234567890123456",
+    b"123456789012345",
+    b"1234567890",
+    b"123456789",
+    b"0000000",
+    b"000001",
+    b"-123456.7890123",
+    b"1234567890123456789",
+    b"123456789012345678",
+    b"27001.",
+    b"2700",
+    b"270011",
+    b"-27001",
+    b"27.001",
+    b"A",
+];
+
 fn misform(random: &mut Random, all: &mut [Segment]) {
     if random.once_in(2) {
         let Some(at) = one_of(random, all, &["LIN", "PRI", "RNG", "UNT", "RFF"]) else { return };
@@ -198,38 +222,7 @@ fn misform(random: &mut Random, all: &mut [Segment]) {
             "RFF" => (1, 2),
             _ => (1, 1),
         };
-        let wrong = random.pick(&[
-            &b"."[..],
-            b".5",
-            b"5.",
-            b"-",
-            b"-.5",
-            b"1.2.3",
-            b"1,5",
-            b" 1",
-            b"1 ",
-            b"+1",
-            b"1e5",
-            b"--1",
-            b"1-",
-            b"-5.",
-            b"1234567890123456",
-            b"123456789012345",
-            b"1234567890",
-            b"123456789",
-            b"0000000",
-            b"000001",
-            b"-123456.7890123",
-            b"1234567890123456789",
-            b"123456789012345678",
-            b"27001.",
-            b"2700",
-            b"270011",
-            b"-27001",
-            b"27.001",
-            b"A",
-        ]);
-        *all[at].at(element, component) = wrong.to_vec();
+        *all[at].at(element, component) = random.pick(&NUMBERS).to_vec();
         return;
     }
     let at = any(random, all);
@@ -254,21 +247,6 @@ fn wrong_code(random: &mut Random, all: &mut [Segment]) {
         }
         2 => drop(part.pop()),
         _ => *part = random.pick(&[&b"Z01"[..], b"Z09", b"Z04", b"KWH", b"H87", b"303", b"610", b"10", b"9", b"2.0c", b"1"]).to_vec(),
-    }
-}
-
-pub fn wrong_end(random: &mut Random, all: &mut [Segment]) {
-    let count = all.len();
-    let last = all.last_mut().expect("a message ends with UNT");
-    match random.below(8) {
-        0 => *last.at(1, 1) = (count + 1).to_string().into_bytes(),
-        1 => *last.at(1, 1) = (count - 1).to_string().into_bytes(),
-        2 => last.at(1, 1).insert(0, b'0'),
-        3 => last.at(1, 1).insert(0, b'-'),
-        4 => last.at(1, 1).extend_from_slice(b".0"),
-        5 => last.at(2, 1).push(b'0'),
-        6 => last.at(2, 1).make_ascii_lowercase(),
-        _ => last.at(2, 1).insert(0, b'X'),
     }
 }
 
@@ -311,14 +289,6 @@ fn agree(random: &mut Random, all: &mut Vec<Segment>) {
     let old = position(all, other);
     all.splice(other..other + old, copy);
     recount(all);
-}
-
-/// UNT's count put right again, so that the other fault is the only one.
-pub fn recount(all: &mut [Segment]) {
-    let count = all.len().to_string().into_bytes();
-    if let Some(last) = all.last_mut() {
-        *last.at(1, 1) = count;
-    }
 }
 
 fn no_end(random: &mut Random, all: &mut Vec<Segment>) {

@@ -1,7 +1,7 @@
 //! Faults at what the two editions do not share. The message is counted right again, so that one edition takes what the
 //! other refuses.
 
-use crate::damage::{one_of, recount};
+use crate::basics::{one_of, recount};
 use crate::random::Random;
 use crate::sheet::{exact_text, Segment};
 

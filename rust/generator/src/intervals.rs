@@ -1,6 +1,6 @@
 //! Faults at the interval of a price: one of its two codes alone, one twice, a third. The message is counted right again.
 
-use crate::damage::{recount, wrong_end};
+use crate::basics::{recount, wrong_end};
 use crate::random::Random;
 use crate::sheet::{interval, Segment};
 

@@ -1,6 +1,7 @@
 //! Deliveries from a seed. The generator knows the pages well enough to write right messages and to damage them in a
 //! chosen way; it judges nothing, so it shares no code with any reader.
 
+mod basics;
 mod damage;
 mod delivery;
 mod differences;

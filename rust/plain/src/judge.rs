@@ -3,13 +3,14 @@
 //! A segment's components are judged while they are cut. A fault ends that pass: the rest of the segment is only
 //! looked at for 12 and 10, which come first, and the rest of the message only for its end.
 
-use crate::agree::{with_component, Position, Positions, FIRST_HASH};
+mod components;
+
+use crate::agree::{Position, Positions, FIRST_HASH};
 use crate::answers::{Judged, Price, Prices, Verdict};
 use crate::cut::{self, Class, Part, Scanner, UNH, UNT, UNZ};
 use crate::edition::{Edition, OF_20D};
 use crate::guide::{self, bit, AFTER, BELOW, INTERVAL, NEEDED, NODES};
-use crate::pages::Rule;
-use crate::text::{self, key, Number, Room};
+use crate::text::{self, Number, Room};
 
 /// A fault with the node it names, and the place from which its segment was not looked at yet.
 struct Fault {
@@ -187,151 +188,6 @@ impl<'a, P: Prices> Sheet<'a, P> {
             16 | 23 => self.hash = FIRST_HASH,
             19 | 24 => self.unit = 0,
             _ => {}
-        }
-    }
-
-    /// Judges the components from left to right and gives the place of the terminator.
-    #[inline(always)]
-    fn components(&mut self, scanner: &mut Scanner, node: usize, first: Part) -> Result<usize, Fault> {
-        let rows = self.edition.pages[node];
-        let mut part = first;
-        let mut at = 0;
-        loop {
-            let mut row = &rows[at];
-            let number = match part.is_empty() {
-                true => 17 * row.must as u32,
-                false => {
-                    let number = self.component(&row.rule, &part);
-                    if row.twin != 0 {
-                        row = &rows[at + row.twin as usize];
-                    }
-                    number
-                }
-            };
-            if number != 0 {
-                return Err(Fault { number, node, from: part.to });
-            }
-            let is_missing = match part.stop {
-                Class::Colon => {
-                    at = row.next_component as usize;
-                    false
-                }
-                Class::Plus => {
-                    at = row.next_element as usize;
-                    row.must_follow_in_element
-                }
-                _ if row.must_follow => true,
-                _ => return Ok(part.to),
-            };
-            if is_missing {
-                return Err(Fault { number: 17, node, from: part.to });
-            }
-            part = scanner.part(part.to + 1);
-            if part.is_broken() {
-                return Err(Fault { number: 10, node: 0, from: part.to });
-            }
-        }
-    }
-
-    /// Judges one component that is not empty: 18, 19, 20, or 0. Keeps what is needed later.
-    #[inline(always)]
-    fn component(&mut self, rule: &Rule, part: &Part) -> u32 {
-        match *rule {
-            Rule::NotUsed => 18,
-            Rule::Overdue => 17,
-            Rule::Text(most) => self.text(most, part),
-            Rule::Code(most, codes) => self.code(most, codes, part),
-            Rule::Number(most) => self.number(part, |digits| digits <= most).0,
-            Rule::Exactly(digits, codes) => match self.number(part, |count| count == digits).0 {
-                0 => self.code(usize::MAX, codes, part),
-                number => number,
-            },
-            Rule::Edition => self.edition(part),
-            Rule::Reference => {
-                self.reference = *part;
-                self.text(14, part)
-            }
-            Rule::LastReference => {
-                self.last_reference = *part;
-                self.text(14, part)
-            }
-            Rule::Document(codes) => {
-                self.compares = text::key_of(self.d, part) != key(b"Z04");
-                self.code(3, codes, part)
-            }
-            Rule::Count => {
-                let (number, count) = self.number(part, |digits| digits <= 6);
-                self.count = count;
-                number
-            }
-            Rule::Article => {
-                self.article = *part;
-                self.compare(1, part);
-                self.text(35, part)
-            }
-            Rule::ComparedText(most, which) => {
-                self.compare(which, part);
-                self.text(most, part)
-            }
-            Rule::ComparedCode(most, codes, which) => {
-                self.compare(which, part);
-                self.code(most, codes, part)
-            }
-            Rule::Amount => {
-                let (number, amount) = self.number(part, |digits| digits <= 15);
-                self.amount = amount;
-                number
-            }
-            Rule::Unit(codes) => {
-                // The page has one code, so its rank is 1.
-                self.unit = 1;
-                self.code(8, codes, part)
-            }
-        }
-    }
-
-    /// A message that names neither edition is left to 2.0d, which has no such code.
-    fn edition(&mut self, part: &Part) -> u32 {
-        if part.length() > 6 {
-            return 19;
-        }
-        match Edition::named(text::key_of(self.d, part)) {
-            Some(edition) => {
-                self.edition = edition;
-                0
-            }
-            None => 20,
-        }
-    }
-
-    #[inline(always)]
-    fn text(&self, most: usize, part: &Part) -> u32 {
-        19 * (part.length() > most) as u32
-    }
-
-    /// The lists are short, so a loop in place is quicker than the library's call for long ones.
-    #[inline(always)]
-    #[allow(clippy::manual_contains)]
-    fn code(&self, most: usize, codes: &[u64], part: &Part) -> u32 {
-        if part.length() > most {
-            return 19;
-        }
-        let key = text::key_of(self.d, part);
-        20 * !codes.iter().any(|&code| code == key) as u32
-    }
-
-    #[inline(always)]
-    fn number(&mut self, part: &Part, fits: impl FnOnce(usize) -> bool) -> (u32, Number) {
-        match text::number(self.room.decode(self.d, part)) {
-            Some(number) if fits(number.digits) => (0, number),
-            _ => (19, Number::default()),
-        }
-    }
-
-    #[inline(always)]
-    fn compare(&mut self, which: u8, part: &Part) {
-        if self.compares {
-            self.hash = with_component(self.hash, which, self.room.decode(self.d, part));
         }
     }
 

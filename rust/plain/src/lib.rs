@@ -20,5 +20,5 @@ mod text;
 
 pub use answers::Verdict;
 pub use library::{Library, Plain};
-pub use reader::{article, judge_at, next_message, prices, segments, survey, Article, Survey};
+pub use reader::{article, judge_at, next_message, prices, segment_at, survey, Article, Survey};
 pub use report::report;

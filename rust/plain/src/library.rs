@@ -11,11 +11,8 @@ pub trait Library {
     fn prices(&self, d: &[u8], at: usize, k: usize, row: &mut [i64]) -> Result<(usize, usize), u32>;
     fn article(&self, d: &[u8], at: usize, k: usize) -> Article;
 
-    /// Start, end and whether it is a piece, for every segment the segment reader gives; no list if there is no such
-    /// reader to compare.
-    fn segments(&self, _: &[u8]) -> Option<Vec<(usize, usize, bool)>> {
-        None
-    }
+    /// One step of the segment reader from a place: start, end and whether it is a piece.
+    fn segment_at(&self, d: &[u8], at: usize) -> Option<(usize, usize, bool)>;
 }
 
 /// This reader.
@@ -46,7 +43,7 @@ impl Library for Plain {
         reader::article(d, at, k)
     }
 
-    fn segments(&self, d: &[u8]) -> Option<Vec<(usize, usize, bool)>> {
-        Some(reader::segments(d).collect())
+    fn segment_at(&self, d: &[u8], at: usize) -> Option<(usize, usize, bool)> {
+        reader::segment_at(d, at)
     }
 }

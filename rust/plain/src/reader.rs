@@ -42,18 +42,15 @@ pub fn survey(d: &[u8]) -> Result<Survey, u32> {
     Ok(survey)
 }
 
-/// Every segment in turn: start, end and whether it is a piece; none on a delivery that is not admitted.
-pub fn segments(d: &[u8]) -> impl Iterator<Item = (usize, usize, bool)> + '_ {
-    let mut at = cut::front(d).unwrap_or(d.len());
-    std::iter::from_fn(move || {
-        let start = at;
-        if start >= d.len() {
-            return None;
-        }
-        let is_piece;
-        (at, is_piece) = cut::segment_at(d, start);
-        Some((start, at, is_piece))
-    })
+/// The next segment for a reader at a place: start, end and whether it is a piece. None on a delivery that is not admitted;
+/// a place in UNA is before the first.
+pub fn segment_at(d: &[u8], at: usize) -> Option<(usize, usize, bool)> {
+    let start = at.max(cut::front(d).ok()?);
+    if start >= d.len() {
+        return None;
+    }
+    let (end, is_piece) = cut::segment_at(d, start);
+    Some((start, end, is_piece))
 }
 
 pub fn is_accepted(verdict: &Verdict) -> bool {

@@ -42,4 +42,9 @@ impl Library for Proved {
         let article = schaumtruhe::article(d, at, k);
         Article { number: article.number, place: article.part.as_ptr() as usize - d.as_ptr() as usize, length: article.part.len() }
     }
+
+    fn segment_at(&self, d: &[u8], at: usize) -> Option<(usize, usize, bool)> {
+        let segment = schaumtruhe::segment_at(d, at);
+        (segment.found == 1).then_some((segment.start, segment.end, segment.piece == 1))
+    }
 }

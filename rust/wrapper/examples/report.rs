@@ -1,9 +1,9 @@
-//! Reads a file and prints what the checking program of document 01 prints, as `examples/example.c` does.
+//! Reads a file and prints what the checking program of document 01 prints, or with -s its segments, as `examples/example.c` does.
 use std::env;
 use std::fs;
 use std::io::{self, BufWriter, Write};
 
-const ROWS: usize = 64;
+use schaumtruhe::PRICE;
 
 /// An article without its release marks; `-` if it is absent.
 fn plain(article: &[u8]) -> Vec<u8> {
@@ -18,21 +18,24 @@ fn plain(article: &[u8]) -> Vec<u8> {
     out
 }
 
-fn print_prices(out: &mut impl Write, delivery: &[u8], at: usize) -> io::Result<()> {
-    let mut row = [0i64; ROWS * schaumtruhe::PRICE];
-    let mut k = 0;
-    loop {
-        let got = schaumtruhe::prices(delivery, at, k, &mut row);
-        for price in row.chunks_exact(schaumtruhe::PRICE).take(got.written) {
-            write!(out, "P {} ", price[0])?;
-            out.write_all(&plain(schaumtruhe::article(delivery, at, k).part))?;
-            writeln!(out, " {} {}", price[3], price[4])?;
-            k += 1;
-        }
-        if got.written == 0 {
-            return Ok(());
-        }
+/// The part of the delivery that is a price's article: the row has its place in the message and its length.
+fn article<'a>(delivery: &'a [u8], message: usize, price: &[i64]) -> &'a [u8] {
+    match price[1] {
+        -1 => b"",
+        place => &delivery[message + place as usize..][..price[2] as usize],
     }
+}
+
+fn print_prices(out: &mut impl Write, delivery: &[u8], at: usize) -> io::Result<()> {
+    let total = schaumtruhe::prices(delivery, at, 0, &mut []).total;
+    let mut row = vec![0; total * PRICE];
+    schaumtruhe::prices(delivery, at, 0, &mut row);
+    for price in row.chunks_exact(PRICE) {
+        write!(out, "P {} ", price[0])?;
+        out.write_all(&plain(article(delivery, at, price)))?;
+        writeln!(out, " {} {}", price[3], price[4])?;
+    }
+    Ok(())
 }
 
 fn print_report(out: &mut impl Write, delivery: &[u8]) -> io::Result<()> {
@@ -52,9 +55,22 @@ fn print_report(out: &mut impl Write, delivery: &[u8]) -> io::Result<()> {
     writeln!(out, "E {} {} {}", totals.messages, totals.accepted, totals.outside)
 }
 
+fn print_segments(out: &mut impl Write, delivery: &[u8]) -> io::Result<()> {
+    let mut segment = schaumtruhe::segment_at(delivery, 0);
+    while segment.found != 0 {
+        writeln!(out, "S {} {} {}", segment.start, segment.end, segment.piece)?;
+        segment = schaumtruhe::segment_at(delivery, segment.end);
+    }
+    Ok(())
+}
+
 fn main() -> io::Result<()> {
-    let name = env::args_os().nth(1).ok_or_else(|| io::Error::other("usage: report FILE"))?;
+    let words: Vec<String> = env::args().skip(1).collect();
     let mut out = BufWriter::new(io::stdout().lock());
-    print_report(&mut out, &fs::read(name)?)?;
+    match &words.iter().map(String::as_str).collect::<Vec<_>>()[..] {
+        ["-s", name] => print_segments(&mut out, &fs::read(name)?)?,
+        [name] => print_report(&mut out, &fs::read(name)?)?,
+        _ => return Err(io::Error::other("usage: report [-s] FILE")),
+    }
     out.flush()
 }

@@ -46,6 +46,16 @@ pub struct Prices {
     pub total: usize,
 }
 
+/// `found` is 1 with a segment's first byte, the byte after its last, and `piece`: 1 if it has no terminator, else 0; or 0 with zeros.
+#[repr(C)]
+#[derive(Clone, Copy, Debug, PartialEq, Eq)]
+pub struct Segment {
+    pub found: u32,
+    pub start: usize,
+    pub end: usize,
+    pub piece: u32,
+}
+
 #[repr(C)]
 struct Placed {
     number: u32,
@@ -67,6 +77,7 @@ extern "C" {
     fn schaumtruhe_judge_at(delivery: *const u8, length: usize, at: usize) -> Judged;
     fn schaumtruhe_prices(delivery: *const u8, length: usize, at: usize, k: usize, row: *mut i64, count: usize) -> Prices;
     fn schaumtruhe_article(delivery: *const u8, length: usize, at: usize, k: usize) -> Placed;
+    fn schaumtruhe_segment_at(delivery: *const u8, length: usize, at: usize) -> Segment;
 }
 
 /// Messages found, accepted, and segments outside.
@@ -100,4 +111,11 @@ pub fn article(delivery: &[u8], at: usize, k: usize) -> Article<'_> {
     let placed = unsafe { schaumtruhe_article(delivery.as_ptr(), delivery.len(), at, k) };
     // That it lies within is proved (`article-in-delivery`); the slices below test it all the same.
     Article { number: placed.number, part: &delivery[placed.place..][..placed.length] }
+}
+
+/// The segment that the bytes from `at` on begin with; a place within UNA is before the first. None at or past the end, and none in a
+/// delivery that is refused with 1 or 2. From 0 on, and then from each `end`, it gives every segment once, in order.
+pub fn segment_at(delivery: &[u8], at: usize) -> Segment {
+    // SAFETY: as in `survey`.
+    unsafe { schaumtruhe_segment_at(delivery.as_ptr(), delivery.len(), at) }
 }

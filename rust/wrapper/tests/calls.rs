@@ -1,5 +1,5 @@
 //! Each call from outside, on both sides of each refusal.
-use schaumtruhe::{article, judge_at, next_message, prices, survey, Judged, Next, Prices, Totals, LIMIT, PRICE};
+use schaumtruhe::{article, judge_at, next_message, prices, segment_at, survey, Judged, Next, Prices, Segment, Totals, LIMIT, PRICE};
 
 const DELIVERY: &[u8] = include_bytes!("../../../examples/delivery.edi");
 const FIRST: usize = 77;
@@ -70,6 +70,51 @@ fn articles_are_parts_of_the_delivery() {
     }
 }
 
+const NO_SEGMENT: Segment = Segment { found: 0, start: 0, end: 0, piece: 0 };
+
+#[test]
+fn segments_once_and_in_order() {
+    let mut ends = Vec::new();
+    let mut segment = segment_at(DELIVERY, 0);
+    while segment.found == 1 {
+        assert_eq!((segment.start, segment.piece), (*ends.last().unwrap_or(&9), 0));
+        ends.push(segment.end);
+        segment = segment_at(DELIVERY, segment.end);
+    }
+    assert_eq!(segment, NO_SEGMENT);
+    assert_eq!((ends.len(), ends[0], ends[15], ends[18]), (21, FIRST, SECOND, THIRD));
+    assert_eq!(ends.last(), Some(&DELIVERY.len()));
+}
+
+#[test]
+fn segments_from_any_place() {
+    assert_eq!(segment_at(b"A?'B'C?'", 0), Segment { found: 1, start: 0, end: 5, piece: 0 });
+    assert_eq!(segment_at(b"A?'B'C?'", 5), Segment { found: 1, start: 5, end: 8, piece: 1 });
+    // A place is taken as it is: what stands before it is not looked at.
+    assert_eq!(segment_at(b"A?'B'C?'", 2), Segment { found: 1, start: 2, end: 3, piece: 0 });
+    for at in [8, 9, usize::MAX] {
+        assert_eq!(segment_at(b"A?'B'C?'", at), NO_SEGMENT);
+    }
+    for at in 0..=9 {
+        assert_eq!(segment_at(DELIVERY, at), Segment { found: 1, start: 9, end: FIRST, piece: 0 });
+    }
+}
+
+/// The highest price of the message that begins at `at`, as amount and decimals; none if the message is refused or has no price.
+fn highest(delivery: &[u8], at: usize) -> Option<(i64, u32)> {
+    let mut row = vec![0; prices(delivery, at, 0, &mut []).total * PRICE];
+    prices(delivery, at, 0, &mut row);
+    let all = row.chunks_exact(PRICE).map(|price| (price[3], price[4] as u32));
+    // Amounts compare once they have as many decimals; a price has at most fifteen digits, so they fit.
+    all.max_by_key(|&(amount, decimals)| amount as i128 * 10i128.pow(15 - decimals))
+}
+
+#[test]
+fn prices_compared_with_their_decimals() {
+    assert_eq!(highest(DELIVERY, FIRST), Some((16806, 2)));
+    assert_eq!(highest(DELIVERY, SECOND), None);
+}
+
 #[test]
 fn deliveries_not_admitted() {
     let mut long = DELIVERY.to_vec();
@@ -84,5 +129,6 @@ fn deliveries_not_admitted() {
         assert_eq!(prices(delivery, FIRST, 0, &mut row), Prices { number, written: 0, total: 0 });
         assert_eq!(row, [UNTOUCHED; PRICE]);
         assert_eq!((article(delivery, FIRST, 0).number, article(delivery, FIRST, 0).part), (number, &b""[..]));
+        assert_eq!(segment_at(delivery, 0), NO_SEGMENT);
     }
 }

@@ -12,22 +12,27 @@ pub struct Segment {
     pub parts: Vec<Vec<Part>>,
 }
 
-pub fn cut(d: &[u8], front: usize) -> Vec<Segment> {
-    let mut all = Vec::new();
-    let mut start = front;
+/// Where the segment ends that the bytes from `start` on begin with, and whether it is a piece.
+pub fn next_end(d: &[u8], start: usize) -> Option<(usize, bool)> {
     let mut is_released = false;
-    for at in front..d.len() {
+    for at in start..d.len() {
         if is_released {
             is_released = false;
         } else if d[at] == b'?' {
             is_released = true;
         } else if d[at] == b'\'' {
-            all.push(segment(d, start, at + 1, false));
-            start = at + 1;
+            return Some((at + 1, false));
         }
     }
-    if start < d.len() {
-        all.push(segment(d, start, d.len(), true));
+    (start < d.len()).then_some((d.len(), true))
+}
+
+fn cut(d: &[u8], front: usize) -> Vec<Segment> {
+    let mut all = Vec::new();
+    let mut start = front;
+    while let Some((end, is_piece)) = next_end(d, start) {
+        all.push(segment(d, start, end, is_piece));
+        start = end;
     }
     all
 }
