@@ -5,9 +5,7 @@ It judges nothing: verdict, segment, node and prices are taken from the tables a
 (a segment ends at each `'` that is not released) and puts the lines together in document 01's print.
 
 places.py FOLDER writes FOLDER/stdin, FOLDER/sheetcheck.stdout (M, P and E lines), the same of "Interval pairs" as
-FOLDER/pairs/stdin and FOLDER/pairs/sheetcheck.stdout, for each of the other deliveries
-FOLDER/other/NN.edi, NN.judge, NN.out, and FOLDER/judge.stdout: the M lines of the one delivery, and behind them for each
-of the others a D line and its NN.judge, as crates/vectors_judge prints them.
+FOLDER/pairs/stdin and FOLDER/pairs/sheetcheck.stdout, and for each of the other deliveries FOLDER/other/NN.edi and NN.out.
 """
 import pathlib
 import re
@@ -73,13 +71,12 @@ def write(path, lines):
 
 
 def write_delivery(folder, part):
-    """Writes the delivery of a section and its lines, and gives the lines."""
+    """Writes the delivery of a section and its lines."""
     delivery, lines = one_delivery(table(part))
     assert len(delivery) <= 65536, "more than the programs read"
     folder.mkdir(parents=True, exist_ok=True)
     (folder / "stdin").write_bytes(delivery)
     write(folder / "sheetcheck.stdout", lines)
-    return lines
 
 
 def main():
@@ -87,17 +84,12 @@ def main():
     sections = {part.partition("\n")[0]: part for part in text.split("\n## ")}
     folder = pathlib.Path(sys.argv[1])
     (folder / "other").mkdir(parents=True, exist_ok=True)
-    judged = [line for line in write_delivery(folder, sections["One delivery"]) if line.startswith(b"M")]
+    write_delivery(folder, sections["One delivery"])
     write_delivery(folder / "pairs", sections["Interval pairs"])
     for number, cell, printed, _ in table(sections["Other deliveries"]):
         stem = folder / "other" / number.zfill(2)
-        lines = [raw(line) for line in re.findall("`[^`]*`", printed)]
         stem.with_suffix(".edi").write_bytes(raw(cell))
-        verdicts = [line for line in lines if line[:1] in b"MX"]
-        judged += [b"D " + number.encode()] + verdicts
-        write(stem.with_suffix(".judge"), verdicts)
-        write(stem.with_suffix(".out"), lines)
-    write(folder / "judge.stdout", judged)
+        write(stem.with_suffix(".out"), [raw(line) for line in re.findall("`[^`]*`", printed)])
 
 
 main()
