@@ -15,6 +15,7 @@ pub use begins::releases;
 pub use scan::Cut;
 pub use scan::segment_at;
 pub use service::Syntax;
-pub use service::base;
+pub use service::strict;
+pub use service::usual;
 pub use steps::Cursor;
 pub use steps::Step;
