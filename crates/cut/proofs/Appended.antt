@@ -52,10 +52,10 @@ join-moved false k p x [] = refl
 join-moved false k p x (s ∷ ss) = refl
 
 -- the same bytes k places later hold the same segments k places later
-pub segments-moved : (y : Syntax) (k p : ℕ) (r : Bool) (xs : List ℕ) → segmentsFrom y (k + p) r xs ≡ map (moved k) (segmentsFrom y p r xs)
+pub cuts-moved : (y : Syntax) (k p : ℕ) (r : Bool) (xs : List ℕ) → segmentsFrom y (k + p) r xs ≡ map (moved k) (segmentsFrom y p r xs)
 unfolding segmentsFrom
-segments-moved y k p r [] = refl
-segments-moved y k p r (x ∷ xs) = rw (← add-suc k p, segments-moved y k (suc p) (frees y r x) xs) (join-moved (ends y r x) k p x _)
+cuts-moved y k p r [] = refl
+cuts-moved y k p r (x ∷ xs) = rw (← add-suc k p, cuts-moved y k (suc p) (frees y r x) xs) (join-moved (ends y r x) k p x _)
 
 join-joined : (e : Bool) (p x : ℕ) (ss : List Segment) → joined (join e p x ss) ≡ x ∷ joined ss
 unfolding join joined

@@ -9,7 +9,7 @@ use lib.ListN.{length, getD, drop}
 use Rattle.cut.specs.declared.service.Syntax.{Syntax}
 use Rattle.cut.specs.declared.scan.Cut.the-variants as cut
 use Rattle.cut.specs.Segments.{Segment, segmentsFrom}
-use Rattle.cut.specs.Calls.{segmentAt}
+use Rattle.cut.specs.Calls.{cutAt}
 use Rattle.cut.specs.workers.Carrying.{Carries}
 use Rattle.cut.specs.workers.Scanning.{openCut, Onward}
 use Rattle.cut.proofs.First.{cutting}
@@ -64,5 +64,5 @@ module _ (y : Syntax) (d : List ℕ) where
       subst (Carries y d a) z (carries-more (b - a) a (omega arith) (λ k i j. n k i (omega arith)) (λ k i j. f k i (omega arith)))
 
   -- a terminator alone
-  pub ended-here : (a : ℕ) → a < length d → getD d a 0 ≡ y .terminator → segmentAt y d a ≡ cut.Segment a (a + 1) false
+  pub ended-here : (a : ℕ) → a < length d → getD d a 0 ≡ y .terminator → cutAt y d a ≡ cut.Segment a (a + 1) false
   ended-here a h t = cut-open y d a false h ∙ open-end y d a a h t

@@ -1,20 +1,22 @@
 -- What an admitted delivery with a tail that begins UNH says of its front: UNA and the limit taken in.
 use Prim.Native.Nat.{ℕ, zero, suc, _+_, _≤_, _<_}
-use mathlib.Core.Path.{_≡_, refl, sym, _∙_, ap}
-use mathlib.Core.Bool.{Bool, true, false, cond, not, _&&_, true≢false, false≢true}
+use mathlib.Core.Path.{_≡_, refl, sym, _∙_, ap, ap₂}
+use mathlib.Core.Bool.{Bool, true, false, cond, not, _&&_, and-false, true≢false, false≢true}
 use mathlib.Core.List.{List, [], _∷_, _++_}
 use native.Mathlib.Nat.{add-zero, le-trans}
 use native.Mathlib.Omega.{arith}
-use lib.ListN.{length, getD, length-append}
-use lib.Seq.{getD-append-add}
+use lib.ListN.{length, getD, drop, length-append, length-drop}
+use lib.Seq.{getD-append-add, drop-append-le}
 use lib.Dec.{eqb, leb, ltb, lit<, lit≤}
 use borrow.Author.Tests.{eqb-true, eqb-false, ltb-false, le-ltb, leb-true, leb-false}
 use Rattle.cut.specs.declared.service.Syntax.{Syntax}
 use Rattle.bytewise.specs.Bytes.{begins}
-use Rattle.cut.specs.Admission.{limit, UNA, nine, admissionOf, openingOf}
+use Rattle.cut.specs.Segments.{isBreak, past, pastAt}
+use Rattle.cut.specs.Admission.{limit, UNA, nine, admits, opens, unbroken, admissionOf, openingOf}
 use Rattle.bytewise.proofs.Booleans.{or-neither}
 use Rattle.bytewise.proofs.Words.{begins-front, begins-more, begins-at, begins-length}
 use Rattle.cut.specs.Fronts.{has, service, UNH, Tail}
+use Rattle.cut.proofs.Ahead.{pasts}
 
 pub has-not : (x : ℕ) (zs : List ℕ) (i : ℕ) → has x zs ≡ false → i < length zs → x ≡ getD zs i 0 → ⊥
 unfolding has
@@ -45,91 +47,155 @@ nine-U y (suc (suc (suc (suc (suc (suc (suc zero))))))) n h k e = omega arith
 nine-U y (suc (suc (suc (suc (suc (suc (suc (suc zero)))))))) n h k e = has-not 85 (service y) 4 n (lit< tt) e
 nine-U y (suc (suc (suc (suc (suc (suc (suc (suc (suc i))))))))) n h k e = omega arith
 
-module _ (y : Syntax) (d : List ℕ) where
+module _ (y : Syntax) (n : ℕ) (d : List ℕ) where
   -- admission, as two facts
-  pub admitted-length : admissionOf y d ≡ 0 → length d ≤ limit
-  unfolding admissionOf
-  admitted-length e = go (ltb limit (length d)) refl e
+  pub admitted-length : admits y n d ≡ 0 → n ≤ limit
+  unfolding admits
+  admitted-length e = go (ltb limit n) refl e
     where
-      go : (b : Bool) → ltb limit (length d) ≡ b → _≡_ {A = ℕ} (cond b 1 (cond (begins UNA d && not (begins (nine y) d)) 2 0)) 0 → length d ≤ limit
+      go : (b : Bool) → ltb limit n ≡ b → _≡_ {A = ℕ} (cond b 1 (cond (begins UNA d && not (begins (nine y) d)) 2 0)) 0 → n ≤ limit
       go true l k = absurd (omega arith)
-      go false l k = ltb-false limit (length d) l
+      go false l k = ltb-false limit n l
 
-  pub admitted-una : admissionOf y d ≡ 0 → begins UNA d ≡ true → begins (nine y) d ≡ true
-  unfolding admissionOf
-  admitted-una e u = go (ltb limit (length d)) (begins (nine y) d) refl (rw u at e)
+  pub admitted-una : admits y n d ≡ 0 → begins UNA d ≡ true → begins (nine y) d ≡ true
+  unfolding admits
+  admitted-una e u = go (ltb limit n) (begins (nine y) d) refl (rw u at e)
     where
       go
-          : (b n : Bool) → begins (nine y) d ≡ n → _≡_ {A = ℕ} (cond b 1 (cond (not n) 2 0)) 0
+          : (b t : Bool) → begins (nine y) d ≡ t → _≡_ {A = ℕ} (cond b 1 (cond (not t) 2 0)) 0
           → begins (nine y) d ≡ true
-      go true n l k = absurd (omega arith)
+      go true t l k = absurd (omega arith)
       go false true l k = l
       go false false l k = absurd (omega arith)
 
-  pub admitted-by : length d ≤ limit → (begins UNA d ≡ true → begins (nine y) d ≡ true) → admissionOf y d ≡ 0
-  unfolding admissionOf
-  admitted-by h n = rw (le-ltb limit (length d) h) (go (begins UNA d) refl)
+  pub admitted-by : n ≤ limit → (begins UNA d ≡ true → begins (nine y) d ≡ true) → admits y n d ≡ 0
+  unfolding admits
+  admitted-by h t = rw (le-ltb limit n h) (go (begins UNA d) refl)
     where
       go : (u : Bool) → begins UNA d ≡ u → _≡_ {A = ℕ} (cond (u && not (begins (nine y) d)) 2 0) 0
-      go true e = rw (n e)
+      go true e = rw (t e)
       go false e = refl
 
-module _ (y : Syntax) (front tail : List ℕ) (t : Tail y front tail) where
+-- a front without the line breaks at its start, before a tail that begins UNH
+module _ (y : Syntax) (n : ℕ) (front tail : List ℕ) (no-U : has 85 (service y) ≡ false) (a : admits y n (front ++ tail) ≡ 0) (u : begins UNH tail ≡ true) where
   tail-byte : (i : ℕ) → i < 3 → getD (front ++ tail) (length front + i) 0 ≡ getD UNH i 0
-  tail-byte i h = getD-append-add front tail i 0 ∙ begins-at UNH tail i (t .begins-UNH) h
-
-  tail-una : begins UNA tail ≡ false
-  tail-una = unh-una tail (t .begins-UNH)
+  tail-byte i h = getD-append-add front tail i 0 ∙ begins-at UNH tail i u h
 
   -- UNA stands in the front whole
   una-front : begins UNA (front ++ tail) ≡ true → 9 ≤ length front
-  una-front u = go front refl (leb 9 (length front)) refl
+  una-front v = go front refl (leb 9 (length front)) refl
     where
       first-byte : length front < 9 → 85 ≡ getD (nine y) (length front) 0
       first-byte h =
           sym (rw (add-zero (length front)) at (tail-byte 0 (lit< tt)))
-          ∙ begins-at (nine y) (front ++ tail) (length front) (admitted-una y (front ++ tail) (t .admitted) u) h
+          ∙ begins-at (nine y) (front ++ tail) (length front) (admitted-una y n (front ++ tail) a v) h
 
       go : (f : List ℕ) → front ≡ f → (b : Bool) → leb 9 (length front) ≡ b → 9 ≤ length front
       go f e true l = leb-true 9 (length front) l
-      go [] e false l = absurd (true≢false (sym (rw e at u) ∙ tail-una))
+      go [] e false l = absurd (true≢false (sym (rw e at v) ∙ unh-una tail u))
       go (x ∷ xs) e false l =
           let h = leb-false 9 (length front) l in
-          let n = ap length e in
-          absurd (nine-U y (length front) (t .no-U) (omega arith) h (first-byte h))
+          let k = ap length e in
+          absurd (nine-U y (length front) no-U (omega arith) h (first-byte h))
 
   una-same : begins UNA (front ++ tail) ≡ begins UNA front
   una-same = go (begins UNA (front ++ tail)) (begins UNA front) refl refl
     where
-      go : (a b : Bool) → begins UNA (front ++ tail) ≡ a → begins UNA front ≡ b → begins UNA (front ++ tail) ≡ begins UNA front
-      go true b e f = begins-front UNA front tail (le-trans (lit≤ tt) (una-front e))
+      go : (b c : Bool) → begins UNA (front ++ tail) ≡ b → begins UNA front ≡ c → begins UNA (front ++ tail) ≡ begins UNA front
+      go true c e f = begins-front UNA front tail (le-trans (lit≤ tt) (una-front e))
       go false true e f = absurd (true≢false (sym (begins-more UNA front tail f) ∙ e))
       go false false e f = e ∙ sym f
 
-  -- the first segment begins at the same place, within the front
-  pub opening-same : openingOf (front ++ tail) ≡ openingOf front
-  unfolding openingOf
-  opening-same = rw una-same
+  opens-same : opens (front ++ tail) ≡ opens front
+  unfolding opens
+  opens-same = rw una-same
 
-  pub opening-fits : openingOf front ≤ length front
-  unfolding openingOf
-  opening-fits = go (begins UNA front) refl
+  opens-fits : opens front ≤ length front
+  unfolding opens
+  opens-fits = go (begins UNA front) refl
     where
       go : (b : Bool) → begins UNA front ≡ b → cond b 9 0 ≤ length front
       go true e = una-front (una-same ∙ e)
       go false e = omega arith
 
+  front-admits : (m : ℕ) → m ≤ n → admits y m front ≡ 0
+  front-admits m h =
+      admitted-by y m front (omega (arith, admitted-length y n (front ++ tail) a))
+      (λ v. sym (begins-front (nine y) front tail (una-front (una-same ∙ v))) ∙ admitted-una y n (front ++ tail) a (una-same ∙ v))
+
+-- U is no line break
+pub U-kept : (y : Syntax) → isBreak y 85 ≡ false
+unfolding isBreak
+U-kept y = rw (and-false (y .skips))
+
+past-before : (y : Syntax) (p : ℕ) (xs : List ℕ) (x : ℕ) (zs : List ℕ) → isBreak y x ≡ false → past y p (xs ++ (x ∷ zs)) ≡ past y p xs
+unfolding past
+past-before y p [] x zs h = rw h
+past-before y p (w ∷ ws) x zs h = go (isBreak y w) (past-before y (suc p) ws x zs h)
+  where
+    go
+        : (b : Bool) → past y (suc p) (ws ++ (x ∷ zs)) ≡ past y (suc p) ws → cond b (past y (suc p) (ws ++ (x ∷ zs))) p ≡ cond b (past y (suc p) ws) p
+    go true ih = ih
+    go false ih = refl
+
+-- line breaks at the start are those of the front
+past-front : (y : Syntax) (front tail : List ℕ) → begins UNH tail ≡ true → pastAt y (front ++ tail) 0 ≡ pastAt y front 0
+unfolding begins
+past-front y front [] u = absurd (false≢true u)
+past-front y front (x ∷ xs) u =
+    let e : x ≡ 85 = begins-at UNH (x ∷ xs) 0 u (lit< tt) in
+    past-before y 0 front x xs (rw e (U-kept y))
+
+module _ (y : Syntax) (front tail : List ℕ) (t : Tail y front tail) where
+  abbrev start : ℕ
+  start = pastAt y front 0
+
+  start-fits : start ≤ length front
+  start-fits = pasts y front 0 .fits (omega arith)
+
+  -- behind the line breaks at the start: the front's rest, and then the tail
+  unbroken-append : unbroken y (front ++ tail) ≡ unbroken y front ++ tail
+  unbroken-append =
+      ap (λ (k : ℕ). drop k (front ++ tail)) (past-front y front tail (t .begins-UNH)) ∙ drop-append-le start front tail start-fits
+
+  admits-append : admits y (length (front ++ tail)) (unbroken y front ++ tail) ≡ 0
+  unfolding admissionOf
+  admits-append = ap (admits y (length (front ++ tail))) (sym unbroken-append) ∙ t .admitted
+
+  -- the first segment begins at the same place, within the front
+  pub opening-same : openingOf y (front ++ tail) ≡ openingOf y front
+  unfolding openingOf
+  opening-same =
+      ap₂ _+_ (past-front y front tail (t .begins-UNH))
+      (ap opens unbroken-append ∙ opens-same y _ (unbroken y front) tail (t .no-U) admits-append (t .begins-UNH))
+
+  pub opening-fits : openingOf y front ≤ length front
+  unfolding openingOf
+  opening-fits =
+      let f = opens-fits y _ (unbroken y front) tail (t .no-U) admits-append (t .begins-UNH) in
+      omega (arith, start-fits, length-drop start front)
+
   -- front and tail are admitted by themselves
   pub front-admitted : admissionOf y front ≡ 0
+  unfolding admissionOf
   front-admitted =
-      admitted-by y front (omega (arith, length-append front tail, admitted-length y (front ++ tail) (t .admitted)))
-      (λ u. sym (begins-front (nine y) front tail (una-front (una-same ∙ u))) ∙ admitted-una y (front ++ tail) (t .admitted) (una-same ∙ u))
+      front-admits y _ (unbroken y front) tail (t .no-U) admits-append (t .begins-UNH) (length front) (omega (arith, length-append front tail))
+
+  tail-start : pastAt y tail 0 ≡ 0
+  unfolding past
+  tail-start = past-front y [] tail (t .begins-UNH)
+
+  tail-unbroken : unbroken y tail ≡ tail
+  tail-unbroken = ap (λ (k : ℕ). drop k tail) tail-start
 
   pub tail-admitted : admissionOf y tail ≡ 0
+  unfolding admissionOf
   tail-admitted =
-      admitted-by y tail (omega (arith, length-append front tail, admitted-length y (front ++ tail) (t .admitted)))
-      (λ u. absurd (true≢false (sym u ∙ tail-una)))
+      ap (admits y (length tail)) tail-unbroken
+      ∙ admitted-by y (length tail) tail
+      (omega (arith, length-append front tail, admitted-length y (length (front ++ tail)) (unbroken y (front ++ tail)) (t .admitted)))
+      (λ v. absurd (true≢false (sym v ∙ unh-una tail (t .begins-UNH))))
 
-  pub tail-opening : openingOf tail ≡ 0
-  unfolding openingOf
-  tail-opening = rw tail-una
+  pub tail-opening : openingOf y tail ≡ 0
+  unfolding openingOf opens
+  tail-opening = rw (tail-start, unh-una tail (t .begins-UNH))

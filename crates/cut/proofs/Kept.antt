@@ -1,22 +1,54 @@
 -- No byte is lost, and a segment begins at a place exactly if the place is among the starts of the delivery's segments.
 use Prim.Native.Nat.{ℕ}
-use mathlib.Core.Path.{_≡_, refl}
+use mathlib.Core.Path.{_≡_, refl, sym, _∙_, ap}
 use mathlib.Core.Bool.{Bool, true, false, _||_, or-true, false≢true}
-use mathlib.Core.List.{List, [], _∷_, _++_, map, List·Memᴰ, List·Memᴰ·head, List·Memᴰ·tail, List·Memᴰ·not-nil, List·Memᴰ·cases-cons}
+use mathlib.Core.List.{List, [], _∷_, map, List·Memᴰ, List·Memᴰ·head, List·Memᴰ·tail, List·Memᴰ·not-nil, List·Memᴰ·cases-cons}
 use mathlib.Core.Logic.{_⊎_, _↔_, inl, inr}
-use lib.ListN.{take, drop, take-append-drop}
-use lib.Dec.{eqb}
-use borrow.Author.Tests.{eq-eqb, eqb-true}
+use lib.ListN.{length, drop}
+use lib.Dec.{eqb, ltb}
+use borrow.Author.Tests.{eq-eqb, eqb-true, ltb-true, ltb-false}
+use Rattle.bytewise.specs.Bytes.{part, begins}
+use Rattle.bytewise.proofs.Limits.{part-out}
 use Rattle.cut.specs.declared.service.Syntax.{Syntax}
-use Rattle.cut.specs.Segments.{Segment, joined, beginsIn}
-use Rattle.cut.specs.Admission.{admissionOf, openingOf, segments}
+use Rattle.cut.specs.Segments.{Segment, endOf, segmentsAt, pastAt, breaks, beginsIn}
+use Rattle.cut.specs.Laying.{Laid}
+use Rattle.cut.specs.Admission.{UNA, nine, unbroken, admissionOf, openingOf, segments}
 use Rattle.cut.specs.Calls.{beginsSegment}
 use Rattle.cut.proofs.Places.{admitted}
-use Rattle.cut.proofs.Appended.{segments-joined}
+use Rattle.cut.proofs.Ahead.{pasts, some-ahead, first-ahead}
+use Rattle.cut.proofs.Fronting.{admitted-una}
 
--- UNA, if the delivery begins with it, and then the segments' bytes one after the other are the delivery
-pub no-byte-lost : (y : Syntax) (d : List ℕ) → admissionOf y d ≡ 0 → take (openingOf d) d ++ joined (segments y d) ≡ d
-no-byte-lost y d e = rw (admitted y d e, segments-joined y (openingOf d) false (drop (openingOf d) d)) (take-append-drop (openingOf d) d)
+module _ (y : Syntax) (d : List ℕ) where
+  laid-none : (at : ℕ) → segmentsAt y d at ≡ [] → breaks y (drop at d) ≡ true
+  laid-none at h = go (ltb (pastAt y d at) (length d)) refl
+    where
+      go : (b : Bool) → ltb (pastAt y d at) (length d) ≡ b → breaks y (drop at d) ≡ true
+      go true e =
+          let l = ltb-true _ _ e in
+          absurd (some-ahead y d (pastAt y d at) l (pasts y d at .stops l) (sym (pasts y d at .list) ∙ h))
+      go false e = ap (breaks y) (sym (part-out d at (pastAt y d at) (ltb-false _ _ e))) ∙ pasts y d at .between
+
+  laid : (at : ℕ) (ss : List Segment) → segmentsAt y d at ≡ ss → Laid y d at ss
+  unfolding Laid
+  laid at [] h = laid-none at h
+  laid at (s ∷ ss) h =
+      let f = first-ahead y d at s ss h in
+      (f .later, f .between, f .bytes, laid (endOf s) ss (sym (f .rest)))
+
+  -- an admitted delivery is line breaks, UNA if it stands there, and then segments with line breaks before and behind them
+  pub record Kept : Type 0 where
+    pub breaks-first : breaks y (part 0 (pastAt y d 0) d) ≡ true
+    pub una-next : begins UNA (unbroken y d) ≡ true → begins (nine y) (unbroken y d) ≡ true
+    pub then-segments : Laid y d (openingOf y d) (segments y d)
+
+  pub no-byte-lost : admissionOf y d ≡ 0 → Kept
+  unfolding admissionOf
+  no-byte-lost e =
+      record {
+        breaks-first = pasts y d 0 .between;
+        una-next = admitted-una y (length d) (unbroken y d) e;
+        then-segments = laid (openingOf y d) (segments y d) (sym (admitted y d e));
+      }
 
 abbrev pub starts : List Segment → List ℕ
 starts ss = map (λ s. s .start) ss

@@ -2,6 +2,11 @@ pub mod cutting
 pub mod Appended
 pub mod First
 pub mod Starts
+pub mod Skips
+pub mod Chains
+pub mod Meeting
+pub mod Moving
+pub mod Ahead
 pub mod Places
 pub mod Stepping
 pub mod Fronting

@@ -35,29 +35,6 @@ unfolding Below
 below-more b b′ [] h k = tt
 below-more b b′ (s ∷ ss) h k = (omega (arith, k .0), below-more b b′ ss h (k .1))
 
-join-rising : (e : Bool) (p x : ℕ) (ss : List Segment) → Rising (suc p) ss → Rising p (join e p x ss)
-unfolding join Rising
-join-rising true p x ss h = (le-refl p, h)
-join-rising false p x [] h = (le-refl p, tt)
-join-rising false p x (s ∷ ss) h = (le-refl p, rising-weaken (suc p) (suc (s .start)) ss (omega (arith, h .0)) (h .1))
-
-pub segments-rising : (y : Syntax) (p : ℕ) (r : Bool) (xs : List ℕ) → Rising p (segmentsFrom y p r xs)
-unfolding segmentsFrom Rising
-segments-rising y p r [] = tt
-segments-rising y p r (x ∷ xs) = join-rising (ends y r x) p x _ (segments-rising y (suc p) (frees y r x) xs)
-
-join-below : (e : Bool) (p x b : ℕ) (ss : List Segment) → p < b → Below b ss → Below b (join e p x ss)
-unfolding join Below
-join-below true p x b ss h k = (h, k)
-join-below false p x b [] h k = (h, tt)
-join-below false p x b (s ∷ ss) h k = (h, k .1)
-
-pub segments-below : (y : Syntax) (p : ℕ) (r : Bool) (xs : List ℕ) (b : ℕ) → p + length xs ≤ b → Below b (segmentsFrom y p r xs)
-unfolding segmentsFrom Below
-segments-below y p r [] b h = tt
-segments-below y p r (x ∷ xs) b h =
-    join-below (ends y r x) p x b _ (omega arith) (segments-below y (suc p) (frees y r x) xs b (omega arith))
-
 pub begins-past : (at q : ℕ) (ss : List Segment) → Rising q ss → at < q → beginsIn at ss ≡ false
 unfolding beginsIn Rising
 begins-past at q [] k h = refl

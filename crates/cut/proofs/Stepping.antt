@@ -1,10 +1,10 @@
 -- The cursor: a walk by its steps goes through the delivery's segments, one by one and all of them.
 use Prim.Native.Nat.{ℕ, _≤_, _<_, max}
-use mathlib.Core.Path.{_≡_, refl, sym, ap, subst}
+use mathlib.Core.Path.{_≡_, refl, subst}
 use mathlib.Core.Bool.{Bool, true, false, cond}
 use mathlib.Core.List.{List, [], _∷_}
 use native.Mathlib.Omega.{arith}
-use lib.ListN.{length, drop}
+use lib.ListN.{length}
 use lib.Dec.{eqb}
 use borrow.Author.Tests.{eq-eqb, ne-eqb}
 use Rattle.cut.specs.declared.service.Syntax.{Syntax}
@@ -14,10 +14,10 @@ use Rattle.cut.specs.declared.steps.Cursor.{Cursor}
 use Rattle.cut.specs.declared.steps.Step.{Step}
 use Rattle.cut.specs.declared.steps.Step.the-variants as step
 use Rattle.bytewise.specs.Bytes.{part}
-use Rattle.cut.specs.Segments.{Segment, segmentsFrom}
+use Rattle.cut.specs.Segments.{Segment, segmentsAt}
 use Rattle.cut.specs.Admission.{admissionOf, openingOf, onlyIf, segments}
 use Rattle.cut.specs.Calls.{segmentAt, stepped, openedAt, stepOf}
-use Rattle.cut.proofs.First.{Cutting, cutting, nothing}
+use Rattle.cut.proofs.Ahead.{CutAhead, cut-ahead, none-ahead}
 
 module _ (c : Cursor) (d : List ℕ) where
   pub step-refused : (admissionOf (c .syntax) d ≡ 0 → ⊥) → stepOf c d ≡ step.Nothing
@@ -25,7 +25,7 @@ module _ (c : Cursor) (d : List ℕ) where
   step-refused n = rw (ne-eqb _ _ n)
 
   pub step-cut
-      : (p q : ℕ) (k a : Cut) → admissionOf (c .syntax) d ≡ 0 → p ≡ openingOf d → q ≡ max (c .at) p → k ≡ segmentAt (c .syntax) d q → k ≡ a
+      : (p q : ℕ) (k a : Cut) → admissionOf (c .syntax) d ≡ 0 → p ≡ openingOf (c .syntax) d → q ≡ max (c .at) p → k ≡ segmentAt (c .syntax) d q → k ≡ a
       → stepOf c d ≡ stepped (c .syntax) a
   unfolding stepOf
   step-cut p q k a e o m l f = rw (eq-eqb _ _ e, ← o, ← m, ← l, f)
@@ -34,13 +34,13 @@ module _ (c : Cursor) (d : List ℕ) where
 unfoldable pub ahead : Cursor → List ℕ → List Segment
 ahead c d =
     onlyIf (eqb (admissionOf (c .syntax) d) 0)
-    (segmentsFrom (c .syntax) (max (c .at) (openingOf d)) false (drop (max (c .at) (openingOf d)) d))
+    (segmentsAt (c .syntax) d (max (c .at) (openingOf (c .syntax) d)))
 
 -- at first: all of the delivery's
 pub ahead-opened : (y : Syntax) (d : List ℕ) → ahead (openedAt y) d ≡ segments y d
 unfolding ahead segments
 ahead-opened y d =
-    let m : max 0 (openingOf d) ≡ openingOf d = omega arith in
+    let m : max 0 (openingOf y d) ≡ openingOf y d = omega arith in
     rw m
 
 -- what a step that gives a segment says
@@ -57,19 +57,19 @@ pub record Stepped (c : Cursor) (d : List ℕ) (s e : ℕ) (p : Bool) (n : Curso
 
 module _ (c : Cursor) (d : List ℕ) where
   ahead-cut
-      : (s e : ℕ) (p : Bool) (a : Bool) → eqb (admissionOf (c .syntax) d) 0 ≡ a → Cutting (c .syntax) d (max (c .at) (openingOf d)) false s e p
+      : (s e : ℕ) (p : Bool) (a : Bool) → eqb (admissionOf (c .syntax) d) 0 ≡ a → CutAhead (c .syntax) d (max (c .at) (openingOf (c .syntax) d)) s e p
       → a ≡ true → Stepped c d s e p (record { syntax = c .syntax; at = e })
   unfolding ahead
   ahead-cut s e p a f k g =
-      let m : max e (openingOf d) ≡ e = omega (arith, k .some) in
+      let m : max e (openingOf (c .syntax) d) ≡ e = omega (arith, k .some, k .later) in
       record {
-        segment = record { start = max (c .at) (openingOf d); bytes = part (max (c .at) (openingOf d)) e d; piece = p };
-        starts = sym (k .starts);
-        bytes = ap (λ (i : ℕ). part i e d) (sym (k .starts));
+        segment = record { start = s; bytes = part s e d; piece = p };
+        starts = refl;
+        bytes = refl;
         piece = refl;
-        later = omega (arith, k .starts);
+        later = omega (arith, k .later);
         next = refl;
-        some = omega (arith, k .some, k .starts);
+        some = k .some;
         fits = k .fits;
         rest = rw (f, g, m) (k .list);
       }
@@ -81,24 +81,24 @@ module _ (c : Cursor) (d : List ℕ) where
   -- the step's segment is the first ahead, and the rest is ahead of the next cursor
   pub step-some : (s e : ℕ) (p : Bool) (n : Cursor) → stepOf c d ≡ step.Segment s e p n → Stepped c d s e p n
   unfolding stepOf
-  step-some s e p n h = go (eqb (admissionOf (c .syntax) d) 0) (segmentAt (c .syntax) d (max (c .at) (openingOf d))) refl refl h
+  step-some s e p n h = go (eqb (admissionOf (c .syntax) d) 0) (segmentAt (c .syntax) d (max (c .at) (openingOf (c .syntax) d))) refl refl h
     where
       go
-          : (a : Bool) (k : Cut) → eqb (admissionOf (c .syntax) d) 0 ≡ a → segmentAt (c .syntax) d (max (c .at) (openingOf d)) ≡ k
+          : (a : Bool) (k : Cut) → eqb (admissionOf (c .syntax) d) 0 ≡ a → segmentAt (c .syntax) d (max (c .at) (openingOf (c .syntax) d)) ≡ k
           → cond a (stepped (c .syntax) k) step.Nothing ≡ step.Segment s e p n → Stepped c d s e p n
       go true (cut.Segment s′ e′ p′) f g h =
-          subst Says h (ahead-cut s′ e′ p′ true f (cutting (c .syntax) d (max (c .at) (openingOf d)) false s′ e′ p′ g) refl)
+          subst Says h (ahead-cut s′ e′ p′ true f (cut-ahead (c .syntax) d (max (c .at) (openingOf (c .syntax) d)) s′ e′ p′ g) refl)
       go true cut.Nothing f g h = absurd (let z : _≡_ {A = ℕ} 0 1 = cc in omega arith)
       go false k f g h = absurd (let z : _≡_ {A = ℕ} 0 1 = cc in omega arith)
 
   -- a step that gives none has none ahead
   pub step-none : stepOf c d ≡ step.Nothing → ahead c d ≡ []
   unfolding stepOf ahead
-  step-none h = go (eqb (admissionOf (c .syntax) d) 0) (segmentAt (c .syntax) d (max (c .at) (openingOf d))) refl h
+  step-none h = go (eqb (admissionOf (c .syntax) d) 0) (segmentAt (c .syntax) d (max (c .at) (openingOf (c .syntax) d))) refl h
     where
       go
-          : (a : Bool) (k : Cut) → segmentAt (c .syntax) d (max (c .at) (openingOf d)) ≡ k → cond a (stepped (c .syntax) k) step.Nothing ≡ step.Nothing
-          → onlyIf a (segmentsFrom (c .syntax) (max (c .at) (openingOf d)) false (drop (max (c .at) (openingOf d)) d)) ≡ []
+          : (a : Bool) (k : Cut) → segmentAt (c .syntax) d (max (c .at) (openingOf (c .syntax) d)) ≡ k → cond a (stepped (c .syntax) k) step.Nothing ≡ step.Nothing
+          → onlyIf a (segmentsAt (c .syntax) d (max (c .at) (openingOf (c .syntax) d))) ≡ []
       go true (cut.Segment s e p) g h = absurd (let z : _≡_ {A = ℕ} 0 1 = cc in omega arith)
-      go true cut.Nothing g h = nothing (c .syntax) d (max (c .at) (openingOf d)) false g
+      go true cut.Nothing g h = none-ahead (c .syntax) d (max (c .at) (openingOf (c .syntax) d)) g
       go false k g h = refl

@@ -1,4 +1,5 @@
 pub mod Scanning
+pub mod Released
 pub mod Admitting
+pub mod Breaking
 pub mod Boundaries
-pub mod Alone

@@ -22,13 +22,13 @@ headCut (s ∷ ss) = cut.Segment (s .start) (endOf s) (s .piece)
 unfoldable pub cutFrom : Syntax → List ℕ → ℕ → Bool → Cut
 cutFrom y d at r = headCut (segmentsFrom y at r (drop at d))
 
--- the segment that is cut from its own first byte on
+-- cut_at: the segment that is cut from its own first byte on
 abbrev pub cutAt : Syntax → List ℕ → ℕ → Cut
 cutAt y d at = cutFrom y d at false
 
--- segment_at: the first of the segments from a place on; nothing at or past the end
-abbrev pub segmentAt : Syntax → List ℕ → ℕ → Cut
-segmentAt y d at = cutAt y d at
+-- segment_at: the first of the segments from a place on; nothing, if there is none
+unfoldable pub segmentAt : Syntax → List ℕ → ℕ → Cut
+segmentAt y d at = headCut (segmentsAt y d at)
 
 -- a segment as a step, with the cursor after it
 abbrev pub stepped : Syntax → Cut → Step
@@ -39,10 +39,10 @@ stepped y cut.Nothing = step.Nothing
 abbrev pub openedAt : Syntax → Cursor
 openedAt y = record { syntax = y; at = 0 }
 
--- Cursor::step: the segment from the cursor's place on, a place within UNA being before the first; nothing, if the delivery is not admitted
+-- Cursor::step: the segment from the cursor's place on, a place before the first or within UNA being before the first; nothing, if the delivery is not admitted
 unfoldable pub stepOf : Cursor → List ℕ → Step
 stepOf c d =
-    cond (eqb (admissionOf (c .syntax) d) 0) (stepped (c .syntax) (segmentAt (c .syntax) d (max (c .at) (openingOf d)))) step.Nothing
+    cond (eqb (admissionOf (c .syntax) d) 0) (stepped (c .syntax) (segmentAt (c .syntax) d (max (c .at) (openingOf (c .syntax) d)))) step.Nothing
 
 -- begins_segment: whether one of the delivery's segments begins at a place
 unfoldable pub beginsSegment : Syntax → List ℕ → ℕ → Bool

@@ -3,5 +3,6 @@ pub mod Since
 pub mod Admission
 pub mod Calls
 pub mod Fronts
+pub mod Laying
 pub mod Base
 pub mod workers

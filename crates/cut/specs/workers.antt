@@ -1,2 +1,3 @@
 pub mod Scanning
 pub mod Carrying
+pub mod Breaking

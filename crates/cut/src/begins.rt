@@ -1,6 +1,8 @@
 // Whether a segment begins at a place, told from the bytes just before it.
 use crate::admit::admission;
 use crate::admit::opening;
+use crate::breaks::before_breaks;
+use crate::breaks::is_break;
 use crate::scan::Cut;
 use crate::scan::cut_from;
 use crate::service::Syntax;
@@ -15,7 +17,8 @@ ghost use Rattle.cut.specs.Calls.{beginsSegment};
 ghost use Rattle.cut.specs.Fronts.{whole, after};
 ghost use Rattle.cut.specs.Since.{since};
 
-// Whether a segment of the delivery begins at `at`. The cost is the run of release characters before it, not the place.
+// Whether a segment of the delivery begins at `at`. The cost is the line breaks at the delivery's start, and the line breaks and release
+// characters right before the place.
 pub fn begins_segment(y: Syntax, d: &[u8], at: usize) -> bool
     ensures { λ r. ⌜ r ≡ beginsSegment y (now (d .entry)) at ⌝ }
 {
@@ -25,14 +28,17 @@ pub fn begins_segment(y: Syntax, d: &[u8], at: usize) -> bool
     if d.len() <= at {
         return false;
     }
-    let first = opening(d);
+    let first = opening(y, d);
     if at < first {
+        return false;
+    }
+    if is_break(y, d[at]) {
         return false;
     }
     follows_end(y, d, first, at)
 }
 
-// Where the first segment begins that begins at `from` or later, of those from `first` on; the end of the delivery, if none does.
+// A place from which on the segments are those that begin at `from` or later, of those from `first` on.
 pub fn first_from(y: Syntax, d: &[u8], first: usize, from: usize) -> usize
     ensures { λ r. ⌜ since from (segmentsAt y (now (d .entry)) first) ≡ segmentsAt y (now (d .entry)) r ⌝ }
 {
@@ -56,11 +62,11 @@ pub fn first_from(y: Syntax, d: &[u8], first: usize, from: usize) -> usize
     }
 }
 
-// Whether the bytes from `first` up to `at` end where a segment ends.
+// Whether the bytes from `first` up to `at` end where a segment ends, or with line breaks behind it.
 pub fn follows_end(y: Syntax, d: &[u8], first: usize, at: usize) -> bool
     ensures { λ r. ⌜ r ≡ whole (segmentsOf y first (part first at (now (d .entry)))) ⌝ }
 {
-    let end = limit_of(d, at);
+    let end = before_breaks(y, d, first, limit_of(d, at));
     if end <= first {
         return true;
     }

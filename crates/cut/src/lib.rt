@@ -2,6 +2,7 @@
 // answer by a definition of specs/.
 mod admit;
 mod begins;
+mod breaks;
 mod scan;
 mod service;
 mod steps;
@@ -12,7 +13,9 @@ pub use begins::begins_segment;
 pub use begins::first_from;
 pub use begins::follows_end;
 pub use begins::releases;
+pub use breaks::past_breaks;
 pub use scan::Cut;
+pub use scan::cut_at;
 pub use scan::segment_at;
 pub use service::Syntax;
 pub use service::strict;

@@ -1,4 +1,5 @@
 // The loop over bytes: where a segment ends.
+use crate::breaks::past_breaks;
 use crate::service::Syntax;
 use bytewise::alike;
 use bytewise::eight_at;
@@ -6,7 +7,7 @@ use bytewise::first_of;
 ghost use mathlib.Core.Path.{_≡_};
 ghost use Prim.Native.Nat.{_≤_};
 ghost use lib.ListN.{length};
-ghost use Rattle.cut.specs.Calls.{cutFrom, segmentAt};
+ghost use Rattle.cut.specs.Calls.{cutFrom, cutAt, segmentAt};
 ghost use Rattle.bytewise.specs.Eights.{Flagged};
 ghost use Rattle.cut.specs.workers.Scanning.{isMark, Marked, Released};
 
@@ -20,9 +21,16 @@ pub enum Cut {
     Nothing,
 }
 
-// The segment that the bytes from `at` on begin with.
+// The first segment from `at` on, without the line breaks before it.
 pub fn segment_at(y: Syntax, d: &[u8], at: usize) -> Cut
     ensures { λ r. ⌜ r ≡ segmentAt y (now (d .entry)) at ⌝ }
+{
+    cut_from(y, d, past_breaks(y, d, at), false)
+}
+
+// What is cut from `at` on, line breaks too: the segment whose own first byte is there.
+pub fn cut_at(y: Syntax, d: &[u8], at: usize) -> Cut
+    ensures { λ r. ⌜ r ≡ cutAt y (now (d .entry)) at ⌝ }
 {
     cut_from(y, d, at, false)
 }

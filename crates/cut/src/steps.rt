@@ -42,7 +42,7 @@ impl Cursor {
         if admission(y, d) != 0 {
             return Step::Nothing;
         }
-        let first = opening(d);
+        let first = opening(y, d);
         let c = segment_at(y, d, later(at, first));
         match c {
             Cut::Segment { start, end, piece } => Step::Segment {

@@ -1,13 +1,29 @@
 -- `cut::admit::admission` meets its contract.
 use mathlib.Core.Path.{sym, _∙_}
 use borrow.Author.Tests.{not-true, not-false}
-use Rattle.cut.proofs.cutting.Admitting.{admission-long, admission-plain, admission-right, admission-wrong}
+use Rattle.cut.proofs.cutting.Admitting.{start-fits, admission-long, admission-plain, admission-right, admission-wrong}
 use borrow.Author.Needs.{needs}
 use Rattle.cut.proofs.admit.admission.Statement.{statement}
 use Rattle.cut.proofs.admit.admission.Tie as tie
 
 returns : tie.Need-returns
 returns c = sym (admission-long _ _ (c .if1 .taken))
+
+past-breaks-requires : tie.Need-past-breaks-requires
+past-breaks-requires c κs = search needs
+
+sub-rest : tie.Need-sub-rest
+sub-rest c =
+    let f = start-fits _ _ _ (c .past-breaks .ensures) in
+    search needs
+
+part-rest-start : tie.Need-part-rest-start
+part-rest-start c =
+    let f = start-fits _ _ _ (c .past-breaks .ensures) in
+    search needs
+
+part-rest-end : tie.Need-part-rest-end
+part-rest-end c = search needs
 
 slice-aggregate-begins-with : tie.Need-slice-aggregate-begins-with
 slice-aggregate-begins-with c = search needs
@@ -16,7 +32,11 @@ begins-with-requires : tie.Need-begins-with-requires
 begins-with-requires c κs = search needs
 
 returns-2 : tie.Need-returns-2
-returns-2 c = sym (admission-plain _ _ (c .before .before .before .if1 .left) (sym (c .before .begins-with .ensures) ∙ not-true _ (c .if2 .taken)))
+returns-2 c =
+    let start = c .before .before .before .before in
+    sym
+    (admission-plain _ _ _ (start .past-breaks .ensures) (start .before .if1 .left)
+    (sym (c .before .begins-with .ensures) ∙ not-true _ (c .if2 .taken)))
 
 slice-aggregate-begins-with-2 : tie.Need-slice-aggregate-begins-with-2
 slice-aggregate-begins-with-2 c = search needs
@@ -26,18 +46,22 @@ begins-with-requires-2 c κs = search needs
 
 returns-3 : tie.Need-returns-3
 returns-3 c =
+    let una = c .before .before .before in
+    let start = una .before .before .before .before in
     sym
-    (admission-right _ _
-    (c .before .before .before .before .before .before .if1 .left)
-    (sym (c .before .before .before .before .begins-with .ensures) ∙ not-false _ (c .before .before .before .if2 .left))
+    (admission-right _ _ _ (start .past-breaks .ensures)
+    (start .before .if1 .left)
+    (sym (una .before .begins-with .ensures) ∙ not-false _ (una .if2 .left))
     (sym (c .before .begins-with2 .ensures) ∙ c .if3 .taken))
 
 returns-4 : tie.Need-returns-4
 returns-4 c =
+    let una = c .before .before .before in
+    let start = una .before .before .before .before in
     sym
-    (admission-wrong _ _
-    (c .before .before .before .before .before .before .if1 .left)
-    (sym (c .before .before .before .before .begins-with .ensures) ∙ not-false _ (c .before .before .before .if2 .left))
+    (admission-wrong _ _ _ (start .past-breaks .ensures)
+    (start .before .if1 .left)
+    (sym (una .before .begins-with .ensures) ∙ not-false _ (una .if2 .left))
     (sym (c .before .begins-with2 .ensures) ∙ c .if3 .left))
 
 pub admission-spec : {M : Type 1} → statement M
@@ -45,6 +69,10 @@ admission-spec =
     tie.close
     (tie.spec
     returns
+    past-breaks-requires
+    sub-rest
+    part-rest-start
+    part-rest-end
     slice-aggregate-begins-with
     begins-with-requires
     returns-2

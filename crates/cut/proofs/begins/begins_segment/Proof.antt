@@ -1,7 +1,7 @@
 -- `cut::begins::begins_segment` meets its contract.
 use mathlib.Core.Path.{sym, _∙_}
 use borrow.Author.Needs.{needs}
-use Rattle.cut.proofs.Places.{begins-refused, begins-beyond, begins-before, begins-answered}
+use Rattle.cut.proofs.Places.{begins-refused, begins-beyond, begins-before, begins-break, begins-answered}
 use Rattle.cut.proofs.begins.begins_segment.Statement.{statement}
 use Rattle.cut.proofs.begins.begins_segment.Tie as tie
 
@@ -24,14 +24,32 @@ returns-3 c =
     (sym (c .before .before .before .before .admission .ensures) ∙ c .before .before .before .if1 .left)
     (c .before .opening .ensures) (c .if3 .taken))
 
-follows-end-requires : tie.Need-follows-end-requires
-follows-end-requires c κs = search needs
+shared-slice-read-is-break : tie.Need-shared-slice-read-is-break
+shared-slice-read-is-break c = search needs
+
+is-break-requires : tie.Need-is-break-requires
+is-break-requires c κs = search needs
 
 returns-4 : tie.Need-returns-4
 returns-4 c =
-    begins-answered _ _ _ _ _
-    (sym (c .before .before .before .before .before .admission .ensures) ∙ c .before .before .before .before .if1 .left)
-    (c .before .before .opening .ensures) (c .before .if3 .left) (c .before .before .before .if2 .left) (c .follows-end .ensures)
+    let inside = c .before .before .before in
+    let first = inside .before in
+    let long = first .before in
+    sym
+    (begins-break _ _ _ _ _ (sym (long .before .before .admission .ensures) ∙ long .before .if1 .left) (first .opening .ensures)
+    (inside .if3 .left) (long .if2 .left) (c .before .is-break .ensures) (c .if4 .taken))
+
+follows-end-requires : tie.Need-follows-end-requires
+follows-end-requires c κs = search needs
+
+returns-5 : tie.Need-returns-5
+returns-5 c =
+    let told = c .before in
+    let inside = told .before .before .before in
+    let first = inside .before in
+    let long = first .before in
+    begins-answered _ _ _ _ _ _ (sym (long .before .before .admission .ensures) ∙ long .before .if1 .left) (first .opening .ensures)
+    (inside .if3 .left) (long .if2 .left) (told .before .is-break .ensures) (told .if4 .left) (c .follows-end .ensures)
 
 pub begins-segment-spec : {M : Type 1} → statement M
 begins-segment-spec =
@@ -42,5 +60,8 @@ begins-segment-spec =
     returns-2
     opening-requires
     returns-3
+    shared-slice-read-is-break
+    is-break-requires
+    returns-4
     follows-end-requires
-    returns-4)
+    returns-5)

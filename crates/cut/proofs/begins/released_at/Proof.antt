@@ -7,7 +7,7 @@ use borrow.Author.Tests.{not-true, not-false}
 use lib.ListN.{length}
 use Rattle.bytewise.specs.Bytes.{part}
 use Rattle.cut.specs.Fronts.{after}
-use Rattle.cut.proofs.cutting.Boundaries.{turned, run-on, run-over, run-out}
+use Rattle.cut.proofs.cutting.Released.{turned, run-on, run-over, run-out}
 use Rattle.cut.proofs.begins.released_at.Statement.{statement}
 use Rattle.cut.proofs.begins.released_at.Tie as tie
 

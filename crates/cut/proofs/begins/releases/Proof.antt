@@ -1,6 +1,6 @@
 -- `cut::begins::releases` meets its contract.
 use mathlib.Core.Path.{sym}
-use Rattle.cut.proofs.cutting.Boundaries.{frees-ended, frees-told}
+use Rattle.cut.proofs.cutting.Released.{frees-ended, frees-told}
 use Rattle.cut.proofs.begins.releases.Statement.{statement}
 use Rattle.cut.proofs.begins.releases.Tie as tie
 

@@ -1,0 +1,59 @@
+// The line breaks that are skipped.
+use crate::service::Syntax;
+ghost use Prim.Native.Nat.{_≤_};
+ghost use mathlib.Core.Path.{_≡_};
+ghost use lib.ListN.{length};
+ghost use Rattle.cut.specs.Segments.{isBreak, pastAt};
+ghost use Rattle.cut.specs.workers.Breaking.{Back};
+
+// CR or LF, where the reading skips them. Almost every byte is told by the first test.
+pub(crate) fn is_break(y: Syntax, x: u8) -> bool
+    ensures { λ r. ⌜ r ≡ isBreak y x ⌝ }
+{
+    if 13 < x {
+        return false;
+    }
+    if !y.skips {
+        return false;
+    }
+    if x == y.terminator {
+        return false;
+    }
+    if x == y.release {
+        return false;
+    }
+    if x == 13 {
+        return true;
+    }
+    x == 10
+}
+
+// The place behind the line breaks at `at`.
+pub fn past_breaks(y: Syntax, d: &[u8], at: usize) -> usize
+    ensures { λ r. ⌜ r ≡ pastAt y (now (d .entry)) at ⌝ }
+{
+    let mut i = at;
+    while i < d.len() {
+        if !is_break(y, d[i]) {
+            return i;
+        }
+        i += 1;
+    }
+    i
+}
+
+// The place before the line breaks that end at `at`, not before `first`.
+pub(crate) fn before_breaks(y: Syntax, d: &[u8], first: usize, at: usize) -> usize
+    requires { ⌜ at ≤ length (now d) ⌝ }
+    ensures { λ r. ⌜ Back y (now (d .entry)) first at r ⌝ }
+{
+    let mut i = at;
+    while first < i {
+        let k = i - 1;
+        if !is_break(y, d[k]) {
+            return i;
+        }
+        i = k;
+    }
+    i
+}
