@@ -4,5 +4,4 @@ pub mod Limits
 pub mod Words
 pub mod Every
 pub mod Bytewise
-pub mod Paired
 pub mod Clearing

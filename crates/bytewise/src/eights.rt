@@ -64,13 +64,6 @@ pub fn alike(w: u64, x: u8) -> u64
     (((v & LOW) + LOW | v) & HIGH) ^ HIGH
 }
 
-// The high bit of each place at which v has the byte a and w the byte b. Both differences are joined, so that one test serves both.
-pub fn both_alike(v: u64, a: u8, w: u64, b: u8) -> u64
-    ensures { λ r. ⌜ r ≡ flags (λ k. eqb (byteOf v k) a && eqb (byteOf w k) b) ⌝ }
-{
-    alike(v ^ ONES * (a as u64) | w ^ ONES * (b as u64), 0)
-}
-
 // The first of eight bytes that is not 0, as the first of those that are flagged; 8, if there is none.
 pub fn first_of(m: u64) -> usize
     ensures { λ r. ⌜ r ≡ firstByte m ⌝ }

@@ -5,7 +5,6 @@ mod limit;
 
 pub use beginning::begins_with;
 pub use eights::alike;
-pub use eights::both_alike;
 pub use eights::eight_at;
 pub use eights::first_of;
 pub use limit::limit_of;

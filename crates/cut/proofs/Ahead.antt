@@ -178,6 +178,16 @@ module _ (y : Syntax) (d : List ℕ) where
           (rw (drop-cons d at 0 h) at (nothing y d at false (sym (segment-past at ∙ ap (cutAt y d) (past-here at h k)) ∙ e)))
       go (cut.Segment s e p) f = nil≢cons (sym l ∙ cut-ahead at s e p f .list)
 
+  -- nothing is cut at the delivery's end alone
+  nothing-left : (e : ℕ) → e ≤ length d → segmentsFrom y e false (drop e d) ≡ [] → e ≡ length d
+  nothing-left e h l = go (ltb e (length d)) refl
+    where
+      go : (b : Bool) → ltb e (length d) ≡ b → e ≡ length d
+      go true k = absurd (some-segment y e false (getD d e 0) (drop (suc e) d) (rw (drop-cons d e 0 (ltb-true _ _ k)) at l))
+      go false k =
+          let n = ltb-false e (length d) k in
+          omega arith
+
   -- s is the first segment from `at` on, and ss are those after it
   pub record FirstAhead (at : ℕ) (s : Segment) (ss : List Segment) : Type 0 where
     pub starts : s .start ≡ pastAt y d at
@@ -189,6 +199,7 @@ module _ (y : Syntax) (d : List ℕ) where
     pub here : segmentsAt y d (s .start) ≡ s ∷ ss
     pub rest : ss ≡ segmentsAt y d (endOf s)
     pub last : s .piece ≡ true → ss ≡ []
+    pub piece-end : s .piece ≡ true → endOf s ≡ length d
     pub alone : segmentsOf y (s .start) (s .bytes) ≡ s ∷ []
     pub exact : cutAt y d (s .start) ≡ cut.Segment (s .start) (endOf s) (s .piece)
 
@@ -216,6 +227,7 @@ module _ (y : Syntax) (d : List ℕ) where
           here = ap (segmentsAt y d) (q .starts) ∙ sym (pasts at .list) ∙ q .list;
           rest = ap (segmentsAt y d) (sym found-end);
           last = λ i. segments-are y e (drop e d) ∙ ap (trimmed y) (f .last i);
+          piece-end = λ i. found-end ∙ nothing-left e (q .fits) (f .last i);
           alone = segments-are y s (part s e d) ∙ ap (trimmed y) (f .alone) ∙ kept-part s e p [] (q .some) (q .fits) found-kept;
           exact = ap headCut (q .exact .list);
         }

@@ -146,6 +146,28 @@ past-front y front (x ∷ xs) u =
     let e : x ≡ 85 = begins-at UNH (x ∷ xs) 0 u (lit< tt) in
     past-before y 0 front x xs (rw e (U-kept y))
 
+pub admission-short : (y : Syntax) (d : List ℕ) → admissionOf y d ≡ 0 → length d ≤ limit
+unfolding admissionOf
+admission-short y d e = admitted-length y (length d) (unbroken y d) e
+
+-- a delivery that begins UNH has no line break at its start and no UNA
+module _ (y : Syntax) (d : List ℕ) (u : begins UNH d ≡ true) where
+  unh-start : pastAt y d 0 ≡ 0
+  unfolding past
+  unh-start = past-front y [] d u
+
+  unh-unbroken : unbroken y d ≡ d
+  unh-unbroken = ap (λ (k : ℕ). drop k d) unh-start
+
+  pub unh-opening : openingOf y d ≡ 0
+  unfolding openingOf opens
+  unh-opening = rw (unh-start, unh-una d u)
+
+module _ (y : Syntax) (d : List ℕ) (h : length d ≤ limit) (u : begins UNH d ≡ true) where
+  pub unh-admitted : admissionOf y d ≡ 0
+  unfolding admissionOf
+  unh-admitted = ap (admits y (length d)) (unh-unbroken y d u) ∙ admitted-by y (length d) d h (λ v. absurd (true≢false (sym v ∙ unh-una d u)))
+
 module _ (y : Syntax) (front tail : List ℕ) (t : Tail y front tail) where
   abbrev start : ℕ
   start = pastAt y front 0
@@ -181,21 +203,15 @@ module _ (y : Syntax) (front tail : List ℕ) (t : Tail y front tail) where
   front-admitted =
       front-admits y _ (unbroken y front) tail (t .no-U) admits-append (t .begins-UNH) (length front) (omega (arith, length-append front tail))
 
-  tail-start : pastAt y tail 0 ≡ 0
-  unfolding past
-  tail-start = past-front y [] tail (t .begins-UNH)
+  pub tail-start : pastAt y tail 0 ≡ 0
+  tail-start = unh-start y tail (t .begins-UNH)
 
-  tail-unbroken : unbroken y tail ≡ tail
-  tail-unbroken = ap (λ (k : ℕ). drop k tail) tail-start
+  tail-short : length tail ≤ limit
+  unfolding admissionOf
+  tail-short = omega (arith, length-append front tail, admission-short y (front ++ tail) (t .admitted))
 
   pub tail-admitted : admissionOf y tail ≡ 0
-  unfolding admissionOf
-  tail-admitted =
-      ap (admits y (length tail)) tail-unbroken
-      ∙ admitted-by y (length tail) tail
-      (omega (arith, length-append front tail, admitted-length y (length (front ++ tail)) (unbroken y (front ++ tail)) (t .admitted)))
-      (λ v. absurd (true≢false (sym v ∙ unh-una tail (t .begins-UNH))))
+  tail-admitted = unh-admitted y tail tail-short (t .begins-UNH)
 
   pub tail-opening : openingOf y tail ≡ 0
-  unfolding openingOf opens
-  tail-opening = rw (tail-start, unh-una tail (t .begins-UNH))
+  tail-opening = unh-opening y tail (t .begins-UNH)

@@ -19,7 +19,7 @@ use Rattle.cut.proofs.Ahead.{pasts, some-ahead, first-ahead}
 use Rattle.cut.proofs.Fronting.{admitted-una}
 
 module _ (y : Syntax) (d : List ℕ) where
-  laid-none : (at : ℕ) → segmentsAt y d at ≡ [] → breaks y (drop at d) ≡ true
+  pub laid-none : (at : ℕ) → segmentsAt y d at ≡ [] → breaks y (drop at d) ≡ true
   laid-none at h = go (ltb (pastAt y d at) (length d)) refl
     where
       go : (b : Bool) → ltb (pastAt y d at) (length d) ≡ b → breaks y (drop at d) ≡ true

@@ -12,4 +12,5 @@ pub mod Stepping
 pub mod Fronting
 pub mod Demand3
 pub mod Kept
+pub mod Closing
 pub mod Carrying

@@ -174,10 +174,17 @@ module _ (y : Syntax) where
     abbrev freed : Bool
     freed = after y false xs
 
+    -- one byte more
+    pub segments-last
+        : segmentsOf y p (xs ++ (x ∷ []))
+        ≡ meet front (behind y (whole front) (record { start = p + length xs; bytes = x ∷ []; piece = not (ends y freed x) } ∷ []))
+    segments-last =
+        segments-meet p xs (x ∷ []) ∙ ap (λ (us : List Segment). meet front (behind y (whole front) us)) (one-cut (p + length xs) freed x)
+
     -- the last byte tells whether the bytes end where a segment ends; a line break changes nothing
     pub whole-last : whole (segmentsOf y p (xs ++ (x ∷ []))) ≡ cond (isBreak y x) (whole front) (ends y freed x)
     whole-last =
-        ap whole (segments-meet p xs (x ∷ []) ∙ ap (λ (us : List Segment). meet front (behind y (whole front) us)) (one-cut (p + length xs) freed x))
+        ap whole segments-last
         ∙ whole-by front (p + length xs) x (ends y freed x) (isBreak y x) (whole front) refl refl (λ i. break-ends y x i freed)
 
 -- the last of some bytes

@@ -7,12 +7,12 @@ use native.Mathlib.Nat.{le-refl}
 use native.Mathlib.Omega.{arith}
 use lib.ListN.{length, getD, drop, length-drop}
 use lib.Dec.{eqb, leb}
-use borrow.Author.Tests.{eq-eqb, ne-eqb, leb-true, leb-false, eqb-true, eqb-false}
+use borrow.Author.Tests.{eq-eqb, ne-eqb, leb-true, leb-false, eqb-true, eqb-false, not-true}
 use Rattle.cut.specs.declared.service.Syntax.{Syntax}
 use Rattle.cut.specs.declared.scan.Cut.the-variants as cut
 use Rattle.bytewise.specs.Bytes.{part}
 use Rattle.bytewise.proofs.Booleans.{and-both}
-use Rattle.cut.specs.Segments.{Segment, isBreak, trimmed, segmentsOf, segmentsAt, beginsIn}
+use Rattle.cut.specs.Segments.{Segment, isBreak, trimmed, segmentsOf, segmentsAt, pastAt, beginsIn}
 use Rattle.cut.specs.Admission.{admissionOf, openingOf, segments}
 use Rattle.cut.specs.Calls.{cutFrom, beginsSegment}
 use Rattle.cut.specs.Fronts.{whole, after}
@@ -21,7 +21,7 @@ use Rattle.cut.proofs.First.{cutting, nothing}
 use Rattle.cut.proofs.Starts.{Below, rising-weaken, begins-past, begins-append, below-more, since-all, since-none}
 use Rattle.cut.proofs.Skips.{segments-are}
 use Rattle.cut.proofs.Chains.{segments-rising, segments-below}
-use Rattle.cut.proofs.Ahead.{none-past}
+use Rattle.cut.proofs.Ahead.{none-past, past-end, past-here}
 use Rattle.cut.proofs.cutting.Boundaries.{begins-told, since-closed, since-open}
 
 module _ (y : Syntax) (d : List ℕ) where
@@ -126,3 +126,18 @@ module _ (y : Syntax) (d : List ℕ) where
           ap (since at) (admitted (eqb-true _ _ e))
           ∙ since-closed y d (openingOf y d) at h (omega arith) (and-both (not (isBreak y (getD d at 0))) (whole (segmentsOf y (openingOf y d) (part (openingOf y d) at d)))
           (sym (begins-at at (openingOf y d) (eqb-true _ _ e) refl h k) ∙ b) .1)
+
+  -- and no line break stands there
+  pub begins-kept : (at : ℕ) → beginsSegment y d at ≡ true → pastAt y d at ≡ at
+  begins-kept at b = go (eqb (admissionOf y d) 0) (leb (openingOf y d) at) (leb (length d) at) refl refl refl
+    where
+      go : (a o l : Bool) → eqb (admissionOf y d) 0 ≡ a → leb (openingOf y d) at ≡ o → leb (length d) at ≡ l → pastAt y d at ≡ at
+      go false o l e f g = absurd (true≢false (sym b ∙ begins-refused at (eqb-false _ _ e)))
+      go true o true e f g = past-end y d at (leb-true _ _ g)
+      go true false false e f g = absurd (true≢false (sym b ∙ begins-before at (openingOf y d) (eqb-true _ _ e) refl (leb-false _ _ f)))
+      go true true false e f g =
+          let k = leb-false _ _ g in
+          past-here y d at k
+          (not-true _
+          (and-both (not (isBreak y (getD d at 0))) (whole (segmentsOf y (openingOf y d) (part (openingOf y d) at d)))
+          (sym (begins-at at (openingOf y d) (eqb-true _ _ e) refl (leb-true _ _ f) k) ∙ b) .0))

@@ -6,7 +6,6 @@ use crate::breaks::is_break;
 use crate::scan::Cut;
 use crate::scan::cut_from;
 use crate::service::Syntax;
-use bytewise::limit_of;
 ghost use Prim.Native.Nat.{_<_};
 ghost use mathlib.Core.Bool.{false};
 ghost use mathlib.Core.Path.{_≡_};
@@ -66,7 +65,7 @@ pub fn first_from(y: Syntax, d: &[u8], first: usize, from: usize) -> usize
 pub fn follows_end(y: Syntax, d: &[u8], first: usize, at: usize) -> bool
     ensures { λ r. ⌜ r ≡ whole (segmentsOf y first (part first at (now (d .entry)))) ⌝ }
 {
-    let end = before_breaks(y, d, first, limit_of(d, at));
+    let end = before_breaks(y, d, first, at);
     if end <= first {
         return true;
     }

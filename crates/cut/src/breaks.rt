@@ -1,8 +1,7 @@
 // The line breaks that are skipped.
 use crate::service::Syntax;
-ghost use Prim.Native.Nat.{_≤_};
+use bytewise::limit_of;
 ghost use mathlib.Core.Path.{_≡_};
-ghost use lib.ListN.{length};
 ghost use Rattle.cut.specs.Segments.{isBreak, pastAt};
 ghost use Rattle.cut.specs.workers.Breaking.{Back};
 
@@ -42,12 +41,11 @@ pub fn past_breaks(y: Syntax, d: &[u8], at: usize) -> usize
     i
 }
 
-// The place before the line breaks that end at `at`, not before `first`.
-pub(crate) fn before_breaks(y: Syntax, d: &[u8], first: usize, at: usize) -> usize
-    requires { ⌜ at ≤ length (now d) ⌝ }
+// The place before the line breaks that end at `at`, or at the delivery's end if that comes first; not before `first`.
+pub fn before_breaks(y: Syntax, d: &[u8], first: usize, at: usize) -> usize
     ensures { λ r. ⌜ Back y (now (d .entry)) first at r ⌝ }
 {
-    let mut i = at;
+    let mut i = limit_of(d, at);
     while first < i {
         let k = i - 1;
         if !is_break(y, d[k]) {

@@ -13,6 +13,7 @@ pub use begins::begins_segment;
 pub use begins::first_from;
 pub use begins::follows_end;
 pub use begins::releases;
+pub use breaks::before_breaks;
 pub use breaks::past_breaks;
 pub use scan::Cut;
 pub use scan::cut_at;

@@ -1,25 +1,26 @@
 -- "Each message stands by itself": its bytes as a delivery of their own hold just this message, at the place 0.
-use Prim.Native.Nat.{ℕ}
+use Prim.Native.Nat.{ℕ, _≤_}
 use mathlib.Core.Path.{_≡_, refl, sym, _∙_, ap}
-use mathlib.Core.Bool.{Bool, true, false, true≢false, cond}
-use mathlib.Core.List.{List, [], _∷_, _++_, map, head-eq-of-cons-eq, tail-eq-of-cons-eq, nil≢cons}
+use mathlib.Core.Bool.{Bool, true, false, cond}
+use mathlib.Core.List.{List, [], _∷_, map, head-eq-of-cons-eq, tail-eq-of-cons-eq, nil≢cons}
 use native.Mathlib.Nat.{add-zero}
 use native.Mathlib.Omega.{arith}
+use lib.ListN.{length}
 use Rattle.cut.specs.declared.service.Syntax.{Syntax}
 use Rattle.messages.specs.declared.tags.Tag.{Tag}
 use Rattle.messages.specs.declared.tags.Tag.the-variants.{Unh, Unt, Unz, Other}
 use Rattle.bytewise.specs.Bytes.{bytesOf, part, begins}
-use Rattle.cut.specs.Segments.{Segment, segmentsFrom, joined}
-use Rattle.cut.specs.Admission.{admissionOf, openingOf, segments}
+use Rattle.cut.specs.Segments.{Segment, endOf, segmentsOf, segmentsAt}
+use Rattle.cut.specs.Admission.{limit, admissionOf, segments}
 use Rattle.messages.specs.Messages.{Message, startOf, closeOf, tagOf, follow, body, begin, messagesIn, messages}
 use Rattle.cut.specs.Fronts.{moved, UNH}
 use Rattle.messages.specs.Fronts.{movedMessage}
-use Rattle.cut.proofs.Appended.{segments-moved, segments-joined}
+use Rattle.cut.proofs.Moving.{segments-moved}
 use Rattle.bytewise.proofs.Words.{begins-more}
-use Rattle.cut.proofs.Fronting.{unh-una, admitted-length, admitted-by}
+use Rattle.cut.proofs.Fronting.{admission-short, unh-admitted, unh-opening}
 use Rattle.messages.proofs.walks.Grouping.{messages-moved}
 use Rattle.messages.proofs.Members.{Each, Lies, messages-lie}
-use Rattle.bytewise.proofs.Parts.{length-part}
+use Rattle.bytewise.proofs.Parts.{length-part, part-parts}
 use Rattle.cut.proofs.Places.{admitted}
 
 -- a message takes all of what it takes, and no other begins in that
@@ -86,41 +87,37 @@ module _ (y : Syntax) (d : List ℕ) (a : admissionOf y d ≡ 0) (m : Message) (
   abbrev own : List ℕ
   own = part (startOf m) (closeOf m) d
 
-  own-moved : map (moved (startOf m)) (segmentsFrom y 0 false own) ≡ m .first ∷ m .rest
+  own-moved : map (moved (startOf m)) (segmentsOf y 0 own) ≡ m .first ∷ m .rest
   own-moved =
-      sym (segments-moved y (startOf m) 0 false own) ∙ ap (λ (p : ℕ). segmentsFrom y p false own) (add-zero (startOf m)) ∙ l .alone
+      sym (segments-moved y (startOf m) 0 own) ∙ ap (λ (p : ℕ). segmentsOf y p own) (add-zero (startOf m)) ∙ l .alone
 
-  own-messages : map (movedMessage (startOf m)) (messagesIn (segmentsFrom y 0 false own)) ≡ m ∷ []
+  own-messages : map (movedMessage (startOf m)) (messagesIn (segmentsOf y 0 own)) ≡ m ∷ []
   unfolding messagesIn
   own-messages =
-      sym (messages-moved (startOf m) (segmentsFrom y 0 false own)) ∙ ap messagesIn own-moved ∙ rw (l .begins-UNH, c .all, c .none)
+      sym (messages-moved (startOf m) (segmentsOf y 0 own)) ∙ ap messagesIn own-moved ∙ rw (l .begins-UNH, c .all, c .none)
 
   own-begins : begins UNH own ≡ true
-  unfolding joined
   own-begins =
-      let j : m .first .bytes ++ joined (m .rest) ≡ own = ap joined (sym (l .alone)) ∙ segments-joined y (startOf m) false own in
-      ap (begins UNH) (sym j) ∙ begins-more UNH (m .first .bytes) (joined (m .rest)) (tag-unh (m .first .bytes) (l .begins-UNH))
+      let k = l .first-within in
+      ap (begins UNH)
+      (sym (part-parts d (startOf m) (endOf (m .first)) (closeOf m) (omega arith) k))
+      ∙ begins-more UNH (part (startOf m) (endOf (m .first)) d) (part (endOf (m .first)) (closeOf m) d)
+      (ap (begins UNH) (sym (l .first-bytes)) ∙ tag-unh (m .first .bytes) (l .begins-UNH))
 
-  own-admitted : admissionOf y own ≡ 0
-  own-admitted =
-      admitted-by y own (omega (arith, length-part d (startOf m) (closeOf m) (l .fits), l .fits, admitted-length y d a))
-      (λ u. absurd (true≢false (sym u ∙ unh-una own own-begins)))
+  own-short : length own ≤ limit
+  own-short = omega (arith, length-part d (startOf m) (closeOf m) (l .fits), l .fits, admission-short y d a)
 
-  own-opening : openingOf own ≡ 0
-  unfolding openingOf
-  own-opening = rw (unh-una own own-begins)
-
-  own-segments : segments y own ≡ segmentsFrom y 0 false own
-  own-segments = admitted y own own-admitted ∙ rw own-opening
+  own-segments : segments y own ≡ segmentsOf y 0 own
+  own-segments = admitted y own (unh-admitted y own own-short own-begins) ∙ ap (segmentsAt y own) (unh-opening y own own-begins)
 
   stands : (ms : List Message) → messages y own ≡ ms → map (movedMessage (startOf m)) ms ≡ m ∷ [] → ByItself y d m
   stands [] e h = absurd (nil≢cons h)
-  stands (n ∷ []) e h = record { alone = n; admits = own-admitted; only = e; same = head-eq-of-cons-eq h }
+  stands (n ∷ []) e h = record { alone = n; admits = unh-admitted y own own-short own-begins; only = e; same = head-eq-of-cons-eq h }
   stands (n ∷ o ∷ ms) e h = absurd (nil≢cons (sym (tail-eq-of-cons-eq h)))
 
   by-itself : ByItself y d m
   unfolding messages
-  by-itself = stands (messagesIn (segmentsFrom y 0 false own)) (ap messagesIn own-segments) own-messages
+  by-itself = stands (messagesIn (segmentsOf y 0 own)) (ap messagesIn own-segments) own-messages
 
 pub messages-by-themselves : (y : Syntax) (d : List ℕ) → admissionOf y d ≡ 0 → Each (ByItself y d) (messages y d)
 unfolding messages

@@ -11,7 +11,7 @@ use Rattle.cut.specs.declared.service.Syntax.{Syntax}
 use Rattle.messages.specs.declared.found.Found.the-variants as found
 use Rattle.messages.specs.declared.tags.Tag.the-variants.{Unh}
 use Rattle.bytewise.specs.Bytes.{part}
-use Rattle.cut.specs.Segments.{segmentsFrom}
+use Rattle.cut.specs.Segments.{segmentsOf, segmentsAt}
 use Rattle.messages.specs.Messages.{Message, startOf, closeOf, tagOf, messages}
 use Rattle.messages.specs.Held.{held}
 use Rattle.cut.specs.Calls.{beginsSegment}
@@ -134,9 +134,9 @@ pub record Next (y : Syntax) (d : List ℕ) (from s e : ℕ) : Type 0 where
   -- it is the message at its own place
   pub here : messageAt y d s ≡ found.Message s e
   -- its bytes alone hold its segments
-  pub alone : segmentsFrom y s false (part s e d) ≡ message .first ∷ message .rest
+  pub alone : segmentsOf y s (part s e d) ≡ message .first ∷ message .rest
   -- its segments are those that the message takes from its place on
-  pub takes : held (segmentsFrom y s false (drop s d)) ≡ message .first ∷ message .rest
+  pub takes : held (segmentsAt y d s) ≡ message .first ∷ message .rest
   -- the search from its end skips nothing
   pub next : messagesFrom from (messages y d) ≡ message ∷ messagesFrom e (messages y d)
 
@@ -165,8 +165,8 @@ module _ (y : Syntax) (d : List ℕ) where
         begins = begins-here s e (k .here);
         begins-UNH = l .begins-UNH;
         here = k .here;
-        alone = subst₂ (λ (a b : ℕ). segmentsFrom y a false (part a b d) ≡ k .message .first ∷ k .message .rest) (k .starts) (k .closes) (l .alone);
-        takes = subst (λ (a : ℕ). held (segmentsFrom y a false (drop a d)) ≡ k .message .first ∷ k .message .rest) (k .starts) (l .takes);
+        alone = subst₂ (λ (a b : ℕ). segmentsOf y a (part a b d) ≡ k .message .first ∷ k .message .rest) (k .starts) (k .closes) (l .alone);
+        takes = subst (λ (a : ℕ). held (segmentsAt y d a) ≡ k .message .first ∷ k .message .rest) (k .starts) (l .takes);
         next = k .next;
       }
 

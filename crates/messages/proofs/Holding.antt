@@ -1,26 +1,22 @@
 -- Going through one message: what `head_at` says of the list, what the whole message is, and what follows it.
-use Prim.Native.Nat.{ℕ, suc, _+_, _-_, _≤_, _<_}
-use mathlib.Core.Path.{_≡_, refl, sym, _∙_, ap, ap₂}
+use Prim.Native.Nat.{ℕ, _≤_}
+use mathlib.Core.Path.{_≡_, refl, sym, _∙_, ap}
 use mathlib.Core.Bool.{Bool, true, false, cond}
-use mathlib.Core.List.{List, [], _∷_, _++_, head-eq-of-cons-eq, tail-eq-of-cons-eq}
-use native.Mathlib.Nat.{add-zero, zero-add}
+use mathlib.Core.List.{List, [], _∷_, _++_}
 use native.Mathlib.Omega.{arith}
-use lib.ListN.{length, take, drop, length-append, length-drop}
-use lib.Seq.{drop-drop}
+use lib.ListN.{length, drop}
 use Rattle.cut.specs.declared.service.Syntax.{Syntax}
 use Rattle.messages.specs.declared.tags.Tag.{Tag}
 use Rattle.messages.specs.declared.tags.Tag.the-variants.{Unh, Unt, Unz, Other}
 use Rattle.cut.specs.declared.scan.Cut.the-variants as cut
 use Rattle.messages.specs.declared.head.Head.the-variants as head
 use Rattle.bytewise.specs.Bytes.{part}
-use Rattle.cut.specs.Segments.{Segment, endOf, segmentsAt, segmentsOf, lastEnd, joined}
-use Rattle.messages.specs.Messages.{tagOf, follow, body, messagesIn}
-use Rattle.cut.specs.Calls.{headCut, cutFrom}
+use Rattle.cut.specs.Segments.{Segment, segmentsAt, segmentsOf, lastEnd}
+use Rattle.messages.specs.Messages.{tagOf, follow, body}
+use Rattle.cut.specs.Calls.{segmentAt}
 use Rattle.messages.specs.Held.{isUnt, belongs, unless, held, members, headIn}
-use Rattle.bytewise.proofs.Parts.{length-part}
-use Rattle.cut.proofs.First.{First, first, Cutting, cutting, cutting-first, nothing}
-use Rattle.cut.proofs.cutting.Alone.{segments-alone, last-end}
-use Rattle.messages.proofs.Members.{body-front, joined-fits}
+use Rattle.cut.proofs.Ahead.{CutAhead, cut-ahead, last-fits, own-bytes}
+use Rattle.messages.proofs.Members.{body-front}
 
 -- a segment that belongs to an open message, and what of those after it does
 follow-belongs : (t : Tag) (s : Segment) (ss : List Segment) → belongs false t ≡ true → follow t s ss ≡ s ∷ unless (isUnt t) ss
@@ -78,37 +74,31 @@ module _ (y : Syntax) (d : List ℕ) (at : ℕ) (b : Bool) where
 
   -- the next segment of the message, and what of the message follows it
   pub record Taken (s e : ℕ) (p l : Bool) : Type 0 where
-    pub cuts : Cutting y d at false s e p
-    pub list : members b ahead ≡ record { start = at; bytes = part at e d; piece = p } ∷ unless l (body (segmentsAt y d e))
+    pub cuts : CutAhead y d at s e p
+    pub list : members b ahead ≡ record { start = s; bytes = part s e d; piece = p } ∷ unless l (body (segmentsAt y d e))
 
-  module _ (s e : ℕ) (p l : Bool) where
-    by-some : (ss : List Segment) → ahead ≡ ss → headCut ss ≡ cut.Segment s e p → headIn b ss ≡ head.Inside l → Taken s e p l
-    unfolding headCut headIn
-    by-some [] f c h = absurd (let z : _≡_ {A = ℕ} 0 1 = cc in omega arith)
-    by-some (x ∷ xs) f c h = go (belongs b (tagOf (x .bytes))) refl h
+  module _ (s e : ℕ) (p l : Bool) (q : CutAhead y d at s e p) where
+    by-some : headIn b (record { start = s; bytes = part s e d; piece = p } ∷ segmentsAt y d e) ≡ head.Inside l → Taken s e p l
+    unfolding headIn
+    by-some h = go (belongs b (tagOf (part s e d))) refl h
       where
-        here
-            : belongs b (tagOf (x .bytes)) ≡ true → x .start ≡ s → endOf x ≡ e → x .piece ≡ p → isUnt (tagOf (x .bytes)) ≡ l → Taken s e p l
-        here k a o g u =
-            let q = cutting-first y d at false x xs s e p f (first y at false (drop at d) x xs f) a o g in
-            let heads = sym f ∙ q .list in
-            let m = members-here b x xs k in
-            let same : x ≡ record { start = at; bytes = part at e d; piece = p } = head-eq-of-cons-eq heads in
-            let rest : xs ≡ segmentsAt y d e = tail-eq-of-cons-eq heads in
+        here : belongs b (tagOf (part s e d)) ≡ true → isUnt (tagOf (part s e d)) ≡ l → Taken s e p l
+        here k u =
             record {
               cuts = q;
-              list = rw f (m ∙ ap₂ _∷_ same (ap₂ unless u (ap body rest)));
+              list =
+                  ap (members b) (q .list) ∙ members-here b (record { start = s; bytes = part s e d; piece = p }) (segmentsAt y d e) k
+                  ∙ ap (λ (v : Bool). record { start = s; bytes = part s e d; piece = p } ∷ unless v (body (segmentsAt y d e))) u;
             }
 
-        go
-            : (u : Bool) → belongs b (tagOf (x .bytes)) ≡ u → cond u (head.Inside (isUnt (tagOf (x .bytes)))) head.Nothing ≡ head.Inside l
-            → Taken s e p l
-        go true k g = here k (cc) (cc) (cc) (cc)
+        go : (u : Bool) → belongs b (tagOf (part s e d)) ≡ u → cond u (head.Inside (isUnt (tagOf (part s e d)))) head.Nothing ≡ head.Inside l → Taken s e p l
+        go true k g = here k (cc)
         go false k g = absurd (let z : _≡_ {A = ℕ} 0 1 = cc in omega arith)
 
-    pub taken : cutFrom y d at false ≡ cut.Segment s e p → headIn b ahead ≡ head.Inside l → Taken s e p l
-    unfolding cutFrom
-    taken c h = by-some ahead refl c h
+  pub taken : (s e : ℕ) (p l : Bool) → segmentAt y d at ≡ cut.Segment s e p → headIn b ahead ≡ head.Inside l → Taken s e p l
+  taken s e p l c h =
+      let q = cut-ahead y d at s e p c in
+      by-some s e p l q (ap (headIn b) (sym (q .list)) ∙ h)
 
 unless-front : (b : Bool) (ss : List Segment) → ss ≡ unless b (body ss) ++ drop (length (unless b (body ss))) ss
 unless-front true ss = refl
@@ -124,18 +114,10 @@ module _ (y : Syntax) (d : List ℕ) (at : ℕ) where
   abbrev whole : List Segment
   whole = held (segmentsAt y d at)
 
-  pub held-closes : lastEnd at whole ≡ at + length (joined whole)
-  held-closes = last-end y at false (drop at d) whole _ (held-front _)
-
   -- the message's bytes alone hold its segments
   pub held-alone : segmentsOf y at (part at (lastEnd at whole) d) ≡ whole
-  unfolding part
-  held-alone =
-      let n : at + length (joined whole) - at ≡ length (joined whole) = omega arith in
-      rw (held-closes, n) (segments-alone y at false (drop at d) whole _ (held-front _))
+  held-alone = own-bytes y d at whole _ (held-front _)
 
   -- it does not end past the delivery, unless it begins there
   pub held-fits : at ≤ length d → lastEnd at whole ≤ length d
-  held-fits h =
-      let n = rw (length-drop at d) at (joined-fits y at false (drop at d) whole (segments-alone y at false (drop at d) whole _ (held-front _))) in
-      omega (arith, held-closes)
+  held-fits h = last-fits y d at whole _ h (held-front _)

@@ -1,14 +1,17 @@
 -- Segments and messages stand one after the other: each begins where the one before ends, or later.
 use Prim.Native.Nat.{ℕ, suc, _+_, _≤_, _<_}
-use mathlib.Core.Bool.{Bool, true, false}
+use mathlib.Core.Path.{_≡_, sym, subst}
+use mathlib.Core.Bool.{Bool, true, false, cond}
 use mathlib.Core.List.{List, [], _∷_}
-use native.Mathlib.Nat.{le-refl}
+use native.Mathlib.Nat.{add-zero, le-refl}
 use native.Mathlib.Omega.{arith}
 use lib.ListN.{length}
 use Rattle.cut.specs.declared.service.Syntax.{Syntax}
 use Rattle.messages.specs.declared.tags.Tag.{Tag}
 use Rattle.messages.specs.declared.tags.Tag.the-variants.{Unh, Unt, Unz, Other}
-use Rattle.cut.specs.Segments.{Segment, endOf, ends, frees, join, segmentsFrom, lastEnd}
+use Rattle.cut.specs.Segments.{Segment, endOf, isBreak, trim, trimmed, segmentsOf, lastEnd}
+use Rattle.cut.proofs.Skips.{segments-are}
+use Rattle.cut.proofs.Chains.{Chain, chained}
 use Rattle.messages.specs.Messages.{Message, startOf, closeOf, tagOf, follow, body, begin, messagesIn}
 
 -- each segment has a byte, and begins at q and at the end of the one before it, or later
@@ -35,17 +38,27 @@ unfolding InOrder
 order-weaken q q′ [] h k = tt
 order-weaken q q′ (m ∷ ms) h k = (omega (arith, k .0), k .1, k .2)
 
-join-apart : (e : Bool) (p x : ℕ) (ss : List Segment) → Apart (suc p) ss → Apart p (join e p x ss)
-unfolding Apart join
-join-apart true p x ss h = (le-refl p, omega arith, apart-weaken (p + 1) (suc p) ss (omega arith) h)
-join-apart false p x [] h = (le-refl p, omega arith, tt)
-join-apart false p x (s ∷ ss) h =
-    (le-refl p, omega arith, apart-weaken (p + suc (length (s .bytes))) (endOf s) ss (omega (arith, h .0)) (h .2))
+trim-apart : (y : Syntax) (p : ℕ) (bs : List ℕ) (b : Bool) (us : List Segment) → Apart (p + length bs) us → Apart p (trim y p bs b us)
+unfolding trim Apart
+trim-apart y p [] b us k = rw (add-zero p) at k
+trim-apart y p (x ∷ xs) b us k =
+    let z : p + suc (length xs) ≡ suc p + length xs = omega arith in
+    go (isBreak y x) (trim-apart y (suc p) xs b us (subst (λ (n : ℕ). Apart n us) z k))
+  where
+    go
+        : (c : Bool) → Apart (suc p) (trim y (suc p) xs b us) → Apart p (cond c (trim y (suc p) xs b us) (record { start = p; bytes = x ∷ xs; piece = b } ∷ us))
+    go true ih = apart-weaken p (suc p) (trim y (suc p) xs b us) (omega arith) ih
+    go false ih = (le-refl p, omega arith, k)
 
-pub segments-apart : (y : Syntax) (p : ℕ) (r : Bool) (xs : List ℕ) → Apart p (segmentsFrom y p r xs)
-unfolding Apart segmentsFrom
-segments-apart y p r [] = tt
-segments-apart y p r (x ∷ xs) = join-apart (ends y r x) p x _ (segments-apart y (suc p) (frees y r x) xs)
+trimmed-apart : (y : Syntax) (p : ℕ) (ss : List Segment) (q : ℕ) → Chain p ss q → Apart p (trimmed y ss)
+unfolding Chain trimmed Apart
+trimmed-apart y p [] q h = tt
+trimmed-apart y p (s ∷ ss) q h =
+    apart-weaken p (s .start) (trim y (s .start) (s .bytes) (s .piece) (trimmed y ss)) (omega (arith, h .0))
+    (trim-apart y (s .start) (s .bytes) (s .piece) (trimmed y ss) (trimmed-apart y (endOf s) ss q (h .3)))
+
+pub segments-apart : (y : Syntax) (p : ℕ) (xs : List ℕ) → Apart p (segmentsOf y p xs)
+segments-apart y p xs = subst (Apart p) (sym (segments-are y p xs)) (trimmed-apart y p _ (p + length xs) (chained y p false xs))
 
 follow-later
     : (q : ℕ) (t : Tag) (s : Segment) (ss : List Segment) → q ≤ s .start → endOf s ≤ lastEnd (endOf s) ss → q ≤ lastEnd q (follow t s ss)

@@ -1,24 +1,24 @@
 -- Going from message to message: what a message or a segment outside leaves for the place behind it.
-use Prim.Native.Nat.{ℕ, _+_, _≤_, _<_}
+use Prim.Native.Nat.{ℕ, _≤_, _<_}
 use mathlib.Core.Path.{_≡_, refl, sym, _∙_, ap, subst}
 use mathlib.Core.Bool.{Bool, true, false, true≢false, false≢true}
-use mathlib.Core.List.{List, [], _∷_, _++_, tail-eq-of-cons-eq}
+use mathlib.Core.List.{List, [], _∷_}
 use native.Mathlib.Omega.{arith}
-use lib.ListN.{length, drop, length-append}
+use lib.ListN.{length, drop}
 use Rattle.cut.specs.declared.service.Syntax.{Syntax}
 use Rattle.messages.specs.declared.tags.Tag.{Tag}
 use Rattle.messages.specs.declared.tags.Tag.the-variants.{Unh, Unt, Unz, Other}
 use Rattle.cut.specs.declared.scan.Cut.the-variants as cut
 use Rattle.messages.specs.declared.outer.Outer.the-variants as outer
 use Rattle.bytewise.specs.Bytes.{part}
-use Rattle.cut.specs.Segments.{Segment, endOf, segmentsFrom, joined, lastEnd, keepIf}
+use Rattle.cut.specs.Segments.{Segment, endOf, segmentsAt, pastAt, lastEnd, keepIf}
 use Rattle.messages.specs.Messages.{Message, startOf, tagOf, follow, body, begin, messagesIn}
-use Rattle.cut.specs.Calls.{cutFrom}
+use Rattle.cut.specs.Calls.{segmentAt}
 use Rattle.messages.specs.Held.{isUnt, unless, held, outerBy, headOuter}
 use Rattle.messages.specs.workers.Walks.{firstTag, isUnh, outBy, openBy, leftOver}
-use Rattle.bytewise.proofs.Parts.{length-part}
-use Rattle.cut.proofs.First.{Cutting, cutting, nothing, first, cutting-first}
-use Rattle.messages.proofs.Holding.{held-closes, held-fits}
+use Rattle.cut.proofs.Ahead.{cut-ahead, none-ahead, found-end, FirstAhead, first-ahead, last-later}
+use Rattle.messages.proofs.Members.{body-front}
+use Rattle.messages.proofs.Holding.{held-fits}
 
 pub outer-message : (t : Tag) (e : ℕ) → isUnh t ≡ true → outer.Message ≡ outerBy t e
 outer-message Unh e u = refl
@@ -97,15 +97,14 @@ left-behind (s ∷ ss) = left-step (tagOf (s .bytes)) s ss refl (left-behind ss)
 
 module _ (y : Syntax) (d : List ℕ) where
   abbrev from : ℕ → List Segment
-  from at = segmentsFrom y at false (drop at d)
+  from at = segmentsAt y d at
 
   -- the segments from where an open message ends
   behind-from : (at : ℕ) (ss : List Segment) → from at ≡ ss → from (lastEnd at (body ss)) ≡ behind ss
   unfolding behind body lastEnd
   behind-from at [] h = h
   behind-from at (s ∷ ss) h =
-      let q = cutting-first y d at false s ss (s .start) (endOf s) (s .piece) h (first y at false (drop at d) s ss h) refl refl refl in
-      let rest : ss ≡ from (endOf s) = tail-eq-of-cons-eq (sym h ∙ q .list) in
+      let rest : ss ≡ from (endOf s) = first-ahead y d at s ss h .rest in
       go (tagOf (s .bytes)) refl (behind-from (endOf s) ss (sym rest)) (sym rest)
     where
       go
@@ -117,23 +116,22 @@ module _ (y : Syntax) (d : List ℕ) where
       go Other e ih r = rw e ih
 
   module _ (at : ℕ) where
-    pub outer-none : cutFrom y d at false ≡ cut.Nothing → outer.Nothing ≡ headOuter (from at)
+    pub outer-none : segmentAt y d at ≡ cut.Nothing → outer.Nothing ≡ headOuter (from at)
     unfolding headOuter
-    outer-none h = rw (nothing y d at false h)
+    outer-none h = rw (none-ahead y d at h)
 
     pub outer-some
-        : (s e : ℕ) (p : Bool) → cutFrom y d at false ≡ cut.Segment s e p → (t : Tag) → t ≡ tagOf (part s e d) → (o : _) → o ≡ outerBy t e → o
+        : (s e : ℕ) (p : Bool) → segmentAt y d at ≡ cut.Segment s e p → (t : Tag) → t ≡ tagOf (part s e d) → (o : _) → o ≡ outerBy t e → o
         ≡ headOuter (from at)
     unfolding headOuter
     outer-some s e p h t k o g =
-        let q = cutting y d at false s e p h in
-        let n : at + length (part at e d) ≡ e = rw (length-part d at e (q .fits)) (omega (arith, q .some)) in
-        rw (q .list, n, ← q .starts, ← k) g
+        let q = cut-ahead y d at s e p h in
+        rw (q .list, found-end y d at s e p q, ← k) g
 
-    -- a message begins at the place
+    -- a message begins at the place, line breaks aside
     pub record Begun : Type 0 where
       pub message : Message
-      pub starts : startOf message ≡ at
+      pub starts : startOf message ≡ pastAt y d at
       pub takes : held (from at) ≡ message .first ∷ message .rest
       pub messages : messagesIn (from at) ≡ message ∷ messagesIn (from (lastEnd at (held (from at))))
       pub outside : leftOver false (from at) ≡ leftOver false (from (lastEnd at (held (from at))))
@@ -149,32 +147,30 @@ module _ (y : Syntax) (d : List ℕ) where
       pub fits : e ≤ length d
 
     module _ (x : Segment) (xs : List Segment) (h : from at ≡ x ∷ xs) where
-      cut-here : Cutting y d at false (x .start) (endOf x) (x .piece)
-      cut-here = cutting-first y d at false x xs (x .start) (endOf x) (x .piece) h (first y at false (drop at d) x xs h) refl refl refl
+      here : FirstAhead y d at x xs
+      here = first-ahead y d at x xs h
 
       rest-here : from (endOf x) ≡ xs
-      rest-here = sym (tail-eq-of-cons-eq (sym h ∙ cut-here .list))
+      rest-here = sym (here .rest)
 
       begun-here : tagOf (x .bytes) ≡ Unh → Begun
-      unfolding lastEnd joined
+      unfolding lastEnd
       begun-here e =
-          let q = cut-here in
-          let f = first y at false (drop at d) x xs h in
+          let f = here in
           let takes : held (from at) ≡ x ∷ body xs = ap held h ∙ held-here x xs Unh e in
           let ends : lastEnd at (held (from at)) ≡ lastEnd (endOf x) (body xs) = ap (lastEnd at) takes in
           let after : from (lastEnd at (held (from at))) ≡ behind xs = ap from ends ∙ behind-from (endOf x) xs rest-here in
-          let long : length (joined (held (from at))) ≡ length (x .bytes ++ joined (body xs)) = ap (λ (us : List Segment). length (joined us)) takes in
-          let sum = length-append (x .bytes) (joined (body xs)) in
+          let later = last-later y d (endOf x) (body xs) _ (rest-here ∙ body-front xs) in
           record {
             message = record { first = x; rest = body xs };
-            starts = q .starts;
+            starts = f .starts;
             takes = takes;
             messages =
                 ap messagesIn h ∙ messages-here x xs Unh e
                 ∙ ap (λ (ms : List Message). record { first = x; rest = body xs } ∷ ms) (messages-behind xs ∙ ap messagesIn (sym after));
             outside = ap (leftOver false) h ∙ left-here x xs Unh e false ∙ left-behind xs ∙ ap (leftOver false) (sym after);
-            some = omega (arith, held-closes y d at, long, sum, f .some);
-            fits = held-fits y d at (omega (arith, q .some, q .fits));
+            some = omega (arith, ends, f .later, f .some);
+            fits = held-fits y d at (omega (arith, f .later, f .some, f .fits));
           }
 
       left-other
@@ -185,8 +181,8 @@ module _ (y : Syntax) (d : List ℕ) where
             segment = x;
             messages = ap messagesIn h ∙ messages-here x xs t e ∙ m ∙ ap messagesIn (sym rest-here);
             outside = ap (leftOver false) h ∙ left-here x xs t e false ∙ l ∙ ap (λ (us : List Segment). x ∷ leftOver false us) (sym rest-here);
-            some = cut-here .some;
-            fits = cut-here .fits;
+            some = omega (arith, here .later, here .some);
+            fits = here .fits;
           }
 
     by-begun : (ss : List Segment) → from at ≡ ss → headOuter ss ≡ outer.Message → Begun

@@ -1,12 +1,12 @@
 -- The message that a tail begins with: demand 3's "that first message".
 use Prim.Native.Nat.{ℕ}
 use mathlib.Core.Path.{_≡_, sym, _∙_}
-use mathlib.Core.Bool.{false}
 use mathlib.Core.List.{List, _∷_}
 use Rattle.cut.specs.declared.service.Syntax.{Syntax}
 use Rattle.messages.specs.Messages.{Message, startOf, body, messagesIn, messages}
 use Rattle.cut.specs.Fronts.{Tail}
-use Rattle.cut.proofs.First.{first}
+use Rattle.cut.proofs.Ahead.{first-ahead}
+use Rattle.cut.proofs.Fronting.{tail-start}
 use Rattle.cut.proofs.Demand3.{tail-segments}
 use Rattle.messages.proofs.Demand3.{first-headed}
 
@@ -25,5 +25,5 @@ tail-opens y front tail t =
       message = record { first = h .head; rest = body (h .rest) };
       rest = messagesIn (h .rest);
       holds = rw (h .same, h .tag);
-      begins = first y 0 false tail (h .head) (h .rest) (sym (tail-segments y front tail t) ∙ h .same) .starts;
+      begins = first-ahead y tail 0 (h .head) (h .rest) (sym (tail-segments y front tail t) ∙ h .same) .starts ∙ tail-start y front tail t;
     }

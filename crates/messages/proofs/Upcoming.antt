@@ -1,7 +1,7 @@
 -- The next segment of a message, where only its head was looked at.
 use Prim.Native.Nat.{ℕ}
 use mathlib.Core.Path.{_≡_, refl}
-use mathlib.Core.Bool.{Bool, false}
+use mathlib.Core.Bool.{Bool}
 use mathlib.Core.List.{List, []}
 use native.Mathlib.Omega.{arith}
 use Rattle.cut.specs.Calls.{segmentAt}
@@ -9,7 +9,7 @@ use Rattle.cut.specs.Segments.{Segment, segmentsAt}
 use Rattle.cut.specs.declared.scan.Cut.{Cut}
 use Rattle.cut.specs.declared.scan.Cut.the-variants as cut
 use Rattle.cut.specs.declared.service.Syntax.{Syntax}
-use Rattle.cut.proofs.First.{nothing}
+use Rattle.cut.proofs.Ahead.{none-ahead}
 use Rattle.messages.specs.Held.{members, headIn}
 use Rattle.messages.specs.declared.head.Head.the-variants as head
 use Rattle.messages.proofs.Holding.{Taken, taken, no-member}
@@ -37,5 +37,5 @@ module _ (y : Syntax) (d : List ℕ) (at : ℕ) (b : Bool) where
       none ss e k = let z : _≡_ {A = ℕ} 0 1 = cc in omega arith
 
       go : (c : Cut) → segmentAt y d at ≡ c → Upcoming l
-      go cut.Nothing c = absurd (none ahead (nothing y d at false c) h)
+      go cut.Nothing c = absurd (none ahead (none-ahead y d at c) h)
       go (cut.Segment s e p) c = record { place = s; end = e; piece = p; cuts = c; takes = taken y d at b s e p l c h }

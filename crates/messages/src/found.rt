@@ -8,9 +8,7 @@ use cut::admission;
 use cut::begins_segment;
 use cut::first_from;
 use cut::opening;
-ghost use mathlib.Core.Bool.{false};
 ghost use mathlib.Core.Path.{_≡_};
-ghost use lib.ListN.{drop};
 ghost use Rattle.cut.specs.Segments.{lastEnd, segmentsAt};
 ghost use Rattle.messages.specs.Messages.{body, messagesIn};
 ghost use Rattle.messages.specs.Calls.{isFound, messageAt, nextMessage};
@@ -68,10 +66,10 @@ pub fn next_message(y: Syntax, d: &[u8], from: usize) -> Found
     if admission(y, d) != 0 {
         return Found::Nothing;
     }
-    next_from(y, d, first_from(y, d, opening(d), from))
+    next_from(y, d, first_from(y, d, opening(y, d), from))
 }
 
-// The first message of the segments that begin at `from`.
+// The first message of the segments from `from` on.
 fn next_from(y: Syntax, d: &[u8], from: usize) -> Found
     ensures { λ r. ⌜ r ≡ headFound (messagesIn (segmentsAt y (now (d .entry)) from)) ⌝ }
 {
@@ -103,7 +101,7 @@ pub fn message_end(y: Syntax, d: &[u8], from: usize) -> usize
             return at;
         };
         if !goes_on(tag) {
-            return last_end(tag, at, end);
+            return closed_at(tag, at, end);
         }
         next = end;
     }
@@ -121,8 +119,8 @@ fn goes_on(tag: Tag) -> bool
     }
 }
 
-// Where it ends, if it does not go on after the segment from `at` to `end`.
-fn last_end(tag: Tag, at: usize, end: usize) -> usize
+// Where it ends, if it does not go on after a segment that ends at `end`, where the one before ends at `at`.
+fn closed_at(tag: Tag, at: usize, end: usize) -> usize
     ensures { λ r. ⌜ r ≡ lastBy tag at end ⌝ }
 {
     match tag {

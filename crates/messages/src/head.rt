@@ -2,6 +2,7 @@
 use crate::tags::Tag;
 use crate::tags::tag_at;
 use cut::Syntax;
+use cut::past_breaks;
 ghost use mathlib.Core.Path.{_≡_};
 ghost use Rattle.cut.specs.Segments.{segmentsAt};
 ghost use Rattle.messages.specs.Held.{isUnt, belongs, headIn};
@@ -39,10 +40,11 @@ fn is_inside(tag: Tag, first: bool) -> bool
 pub fn head_at(y: Syntax, d: &[u8], at: usize, first: bool) -> Head
     ensures { λ r. ⌜ r ≡ headIn first (segmentsAt y (now (d .entry)) at) ⌝ }
 {
-    if d.len() <= at {
+    let place = past_breaks(y, d, at);
+    if d.len() <= place {
         return Head::Nothing;
     }
-    let tag = tag_at(y, d, at);
+    let tag = tag_at(y, d, place);
     if !is_inside(tag, first) {
         return Head::Nothing;
     }

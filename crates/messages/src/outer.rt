@@ -4,13 +4,13 @@ use crate::tags::Tag;
 use crate::tags::tag_of;
 use cut::Cut;
 use cut::Syntax;
+use cut::past_breaks;
 use cut::segment_at;
 ghost use mathlib.Core.Path.{_≡_};
-ghost use mathlib.Core.Bool.{true, false};
-ghost use lib.ListN.{drop};
+ghost use mathlib.Core.Bool.{true};
 ghost use Rattle.cut.specs.Segments.{segmentsAt};
 ghost use Rattle.messages.specs.Held.{outerBy, headOuter};
-ghost use Rattle.messages.specs.workers.Walks.{firstTag, isUnh};
+ghost use Rattle.messages.specs.workers.Walks.{tagAt, isUnh};
 
 // A message begins there; or a segment outside, which ends at `end`; or nothing.
 pub enum Outer {
@@ -28,9 +28,9 @@ fn by_tag(tag: Tag, end: usize) -> Outer
     Outer::Segment { end }
 }
 
-// Whether a message surely begins at `at`: where neither U nor N ends a segment, three bytes tell it, and nothing is cut.
+// Whether what is cut at `at` surely begins a message: where neither U nor N ends a segment, three bytes tell it, and nothing is cut.
 fn begins_unh(y: Syntax, d: &[u8], at: usize) -> bool
-    ensures { λ r. ⌜ (r ≡ true → isUnh (firstTag (segmentsAt y (now (d .entry)) at)) ≡ true) ⌝ }
+    ensures { λ r. ⌜ (r ≡ true → isUnh (tagAt y (now (d .entry)) at) ≡ true) ⌝ }
 {
     if y.terminator == 85 {
         return false;
@@ -44,11 +44,11 @@ fn begins_unh(y: Syntax, d: &[u8], at: usize) -> bool
     begins_message(tag_of(d, at, d.len()))
 }
 
-// What the bytes from `at` on begin with, where no message is open.
+// What stands from `at` on, where no message is open.
 pub fn outer_at(y: Syntax, d: &[u8], at: usize) -> Outer
     ensures { λ r. ⌜ r ≡ headOuter (segmentsAt y (now (d .entry)) at) ⌝ }
 {
-    if begins_unh(y, d, at) {
+    if begins_unh(y, d, past_breaks(y, d, at)) {
         return Outer::Message;
     }
     let c = segment_at(y, d, at);

@@ -1,16 +1,16 @@
 // What the first three bytes of a segment say.
 use cut::Cut;
 use cut::Syntax;
+use cut::cut_at;
 use cut::segment_at;
 ghost use Prim.Native.Nat.{_≤_};
-ghost use mathlib.Core.Bool.{false};
 ghost use mathlib.Core.List.{[], _∷_};
 ghost use mathlib.Core.Path.{_≡_};
-ghost use lib.ListN.{length, drop};
+ghost use lib.ListN.{length};
 ghost use Rattle.bytewise.specs.Bytes.{part};
 ghost use Rattle.cut.specs.Segments.{segmentsAt};
 ghost use Rattle.messages.specs.Messages.{tagOf};
-ghost use Rattle.messages.specs.workers.Walks.{headSpot, firstTag};
+ghost use Rattle.messages.specs.workers.Walks.{headSpot, tagAt};
 
 pub enum Tag {
     Unh,
@@ -25,7 +25,7 @@ pub enum Spot {
     Nothing,
 }
 
-// The segment that the bytes from `at` on begin with, by its tag.
+// The first segment from `at` on, by its tag.
 pub(crate) fn spot_at(y: Syntax, d: &[u8], at: usize) -> Spot
     ensures { λ r. ⌜ r ≡ headSpot (segmentsAt y (now (d .entry)) at) ⌝ }
 {
@@ -44,10 +44,10 @@ pub(crate) fn spot_at(y: Syntax, d: &[u8], at: usize) -> Spot
     }
 }
 
-// The tag of that segment. Where neither U nor N ends a segment, the first three bytes tell it, and nothing is cut.
+// The tag of what is cut at `at`. Where neither U nor N ends a segment, the first three bytes tell it, and nothing is cut.
 pub(crate) fn tag_at(y: Syntax, d: &[u8], at: usize) -> Tag
     requires { ⌜ at ≤ length (now d) ⌝ }
-    ensures { λ r. ⌜ r ≡ firstTag (segmentsAt y (now (d .entry)) at) ⌝ }
+    ensures { λ r. ⌜ r ≡ tagAt y (now (d .entry)) at ⌝ }
 {
     if y.terminator == 85 {
         return cut_tag(y, d, at);
@@ -59,16 +59,16 @@ pub(crate) fn tag_at(y: Syntax, d: &[u8], at: usize) -> Tag
 }
 
 fn cut_tag(y: Syntax, d: &[u8], at: usize) -> Tag
-    ensures { λ r. ⌜ r ≡ firstTag (segmentsAt y (now (d .entry)) at) ⌝ }
+    ensures { λ r. ⌜ r ≡ tagAt y (now (d .entry)) at ⌝ }
 {
-    let s = spot_at(y, d, at);
-    match s {
-        Spot::At {
-            start: _,
-            tag,
-            end: _,
-        } => tag,
-        Spot::Nothing => Tag::Other,
+    let c = cut_at(y, d, at);
+    match c {
+        Cut::Segment {
+            start,
+            end,
+            piece: _,
+        } => tag_of(d, start, end),
+        Cut::Nothing => Tag::Other,
     }
 }
 

@@ -86,7 +86,8 @@ module _ (y : Syntax) (d : List ℕ) (from at : ℕ) (h : from ≤ at) (k : at �
   front-below : Below at upto
   front-below = segments-below y from (part from at d) at (omega (arith, length-part d from at k))
 
-  parted-closed : whole upto ≡ true → segmentsAt y d from ≡ upto ++ segmentsAt y d at
+  -- where the bytes up to the place end where a segment ends
+  pub parted-closed : whole upto ≡ true → segmentsAt y d from ≡ upto ++ segmentsAt y d at
   unfolding behind
   parted-closed w =
       parted ∙ meet-whole upto _ w

@@ -8,7 +8,9 @@ use Rattle.cut.specs.declared.service.Syntax.{Syntax}
 use Rattle.messages.specs.declared.tags.Tag.{Tag}
 use Rattle.messages.specs.declared.tags.Tag.the-variants.{Unh, Unt, Unz, Other}
 use Rattle.bytewise.specs.Bytes.{begins}
-use Rattle.cut.specs.Segments.{Segment, ends, frees, join, segmentsFrom}
+use Rattle.cut.specs.Segments.{Segment, ends, frees, join, segmentsFrom, trimmed, segmentsOf}
+use Rattle.cut.proofs.Skips.{trim-kept}
+use Rattle.cut.proofs.Fronting.{U-kept}
 use Rattle.messages.specs.Messages.{Message, tagOf, follow, body, begin, messagesIn}
 use Rattle.cut.specs.Fronts.{moved, glued, meet}
 use Rattle.messages.specs.Fronts.{movedMessage, begunIn}
@@ -82,19 +84,36 @@ pub record Headed (ss : List Segment) : Type 0 where
   pub same : ss ≡ head ∷ rest
   pub tag : tagOf (head .bytes) ≡ Unh
 
-headed-join : (e : Bool) (p q r : ℕ) (ss : List Segment) → Headed (join false p 85 (join false q 78 (join e r 72 ss)))
-unfolding join tagOf begins
-headed-join true p q r ss = record { head = record { start = p; bytes = 85 ∷ 78 ∷ 72 ∷ []; piece = false }; rest = ss; same = refl; tag = refl }
-headed-join false p q r [] = record { head = record { start = p; bytes = 85 ∷ 78 ∷ 72 ∷ []; piece = true }; rest = []; same = refl; tag = refl }
-headed-join false p q r (s ∷ ss) =
-    record { head = record { start = p; bytes = 85 ∷ 78 ∷ 72 ∷ s .bytes; piece = s .piece }; rest = ss; same = refl; tag = refl }
+headed-join : (y : Syntax) (e : Bool) (p q r : ℕ) (ss : List Segment) → Headed (trimmed y (join false p 85 (join false q 78 (join e r 72 ss))))
+unfolding join tagOf begins trimmed
+headed-join y true p q r ss =
+    record {
+      head = record { start = p; bytes = 85 ∷ 78 ∷ 72 ∷ []; piece = false };
+      rest = trimmed y ss;
+      same = trim-kept y p 85 (78 ∷ 72 ∷ []) false (trimmed y ss) (U-kept y);
+      tag = refl;
+    }
+headed-join y false p q r [] =
+    record {
+      head = record { start = p; bytes = 85 ∷ 78 ∷ 72 ∷ []; piece = true };
+      rest = [];
+      same = trim-kept y p 85 (78 ∷ 72 ∷ []) true [] (U-kept y);
+      tag = refl;
+    }
+headed-join y false p q r (s ∷ ss) =
+    record {
+      head = record { start = p; bytes = 85 ∷ 78 ∷ 72 ∷ s .bytes; piece = s .piece };
+      rest = trimmed y ss;
+      same = trim-kept y p 85 (78 ∷ 72 ∷ s .bytes) (s .piece) (trimmed y ss) (U-kept y);
+      tag = refl;
+    }
 
 -- bytes that begin UNH, where neither U nor N ends a segment
 pub headed
     : (y : Syntax) (p : ℕ) (xs : List ℕ) → ends y false 85 ≡ false → frees y false 85 ≡ false → ends y false 78 ≡ false
-    → Headed (segmentsFrom y p false (85 ∷ 78 ∷ 72 ∷ xs))
-unfolding segmentsFrom
-headed y p xs a b c = rw (a, b, c) (headed-join _ _ _ _ _)
+    → Headed (segmentsOf y p (85 ∷ 78 ∷ 72 ∷ xs))
+unfolding segmentsOf segmentsFrom
+headed y p xs a b c = rw (a, b, c) (headed-join y _ _ _ _ _)
 
 module _ (ss : List Segment) (h : Headed ss) where
   -- nothing of them continues a message that is open before them

@@ -1,17 +1,18 @@
 -- What `head_at` says of the next segment of a message, by its tag.
 use Prim.Native.Nat.{ℕ, _≤_, _<_}
-use mathlib.Core.Path.{_≡_, refl}
+use mathlib.Core.Path.{_≡_, refl, sym, _∙_, ap}
 use mathlib.Core.Bool.{Bool, true, false}
 use mathlib.Core.List.{List, [], _∷_}
-use lib.ListN.{length, drop-of-length-le}
-use lib.Seq.{drop-cons}
+use native.Mathlib.Omega.{arith}
+use lib.ListN.{length, getD}
 use Rattle.cut.specs.declared.service.Syntax.{Syntax}
-use Rattle.cut.specs.Segments.{Segment, segmentsFrom, segmentsAt}
-use Rattle.cut.proofs.First.{some-segment}
+use Rattle.cut.specs.Segments.{Segment, isBreak, segmentsAt, pastAt}
+use Rattle.cut.proofs.Ahead.{none-past, pasts, some-ahead}
 use Rattle.messages.specs.declared.tags.Tag.{Tag}
 use Rattle.messages.specs.declared.head.Head.the-variants as head
 use Rattle.messages.specs.Held.{isUnt, belongs, headIn}
-use Rattle.messages.specs.workers.Walks.{firstTag}
+use Rattle.messages.specs.workers.Walks.{firstTag, tagAt}
+use Rattle.messages.proofs.walks.Tagging.{tag-past}
 
 by-tag-not : (b : Bool) (ss : List Segment) (t : Tag) → t ≡ firstTag ss → belongs b t ≡ false → head.Nothing ≡ headIn b ss
 unfolding headIn firstTag
@@ -25,16 +26,22 @@ unfolding headIn firstTag
 by-tag-here b [] some t k n l u = absurd (some refl)
 by-tag-here b (s ∷ ss) some t k n l u = rw (← k, n, u)
 
-module _ (y : Syntax) (d : List ℕ) (at : ℕ) (b : Bool) where
+module _ (y : Syntax) (d : List ℕ) (at : ℕ) (b : Bool) (s : ℕ) (o : s ≡ pastAt y d at) where
   abbrev ahead : List Segment
   ahead = segmentsAt y d at
 
-  pub head-past : length d ≤ at → head.Nothing ≡ headIn b ahead
-  unfolding segmentsFrom headIn
-  head-past h = rw (drop-of-length-le d h)
+  same : ahead ≡ segmentsAt y d s
+  same = pasts y d at .list ∙ ap (segmentsAt y d) (sym o)
 
-  pub head-not : (t : Tag) → t ≡ firstTag ahead → belongs b t ≡ false → head.Nothing ≡ headIn b ahead
-  head-not t k n = by-tag-not b ahead t k n
+  kept : s < length d → isBreak y (getD d s 0) ≡ false
+  kept h = ap (λ (t : ℕ). isBreak y (getD d t 0)) o ∙ pasts y d at .stops (omega arith)
 
-  pub head-here : at < length d → (t : Tag) → t ≡ firstTag ahead → belongs b t ≡ true → (l : Bool) → l ≡ isUnt t → head.Inside l ≡ headIn b ahead
-  head-here h t k n l u = by-tag-here b ahead (λ e. some-segment y at false _ _ (rw (drop-cons d at 0 h) at e)) t k n l u
+  pub head-past : length d ≤ s → head.Nothing ≡ headIn b ahead
+  unfolding headIn
+  head-past h = sym (ap (headIn b) (same ∙ none-past y d s h))
+
+  pub head-not : (t : Tag) → t ≡ tagAt y d s → belongs b t ≡ false → head.Nothing ≡ headIn b ahead
+  head-not t k n = by-tag-not b ahead t (k ∙ tag-past y d at s o) n
+
+  pub head-here : s < length d → (t : Tag) → t ≡ tagAt y d s → belongs b t ≡ true → (l : Bool) → l ≡ isUnt t → head.Inside l ≡ headIn b ahead
+  head-here h t k n l u = by-tag-here b ahead (λ e. some-ahead y d s h (kept h) (sym same ∙ e)) t (k ∙ tag-past y d at s o) n l u

@@ -1,35 +1,39 @@
 -- The tag of a segment, read off the delivery; and that of the first segment, read off the first three bytes.
 use Prim.Native.Nat.{ℕ, suc, _+_, _-_, _≤_, _<_}
-use mathlib.Core.Path.{_≡_, refl, sym, _∙_}
+use mathlib.Core.Path.{_≡_, refl, sym, _∙_, ap}
 use mathlib.Core.Bool.{Bool, true, false, and-false, false≢true}
 use mathlib.Core.List.{List, [], _∷_}
 use native.Mathlib.Omega.{arith}
 use native.Mathlib.Nat.{le-refl}
 use lib.ListN.{length, getD, drop, length-drop}
 use lib.Seq.{take-all}
-use borrow.Author.Tests.{ne-eqb, eqb-true}
+use lib.Dec.{ltb}
+use borrow.Author.Tests.{ne-eqb, eqb-true, ltb-true, ltb-false}
 use Rattle.cut.specs.declared.service.Syntax.{Syntax}
 use Rattle.cut.specs.declared.scan.Cut.the-variants as cut
 use Rattle.messages.specs.declared.tags.Tag.{Tag}
 use Rattle.messages.specs.declared.tags.Tag.the-variants.{Other}
 use Rattle.messages.specs.declared.tags.Spot.the-variants as spot
 use Rattle.bytewise.specs.Bytes.{part, begins}
-use Rattle.cut.specs.Segments.{Segment, ends, frees, join, segmentsFrom}
+use Rattle.cut.specs.Segments.{Segment, ends, frees, join, segmentsFrom, isBreak, trimmed, segmentsAt, pastAt}
 use Rattle.messages.specs.Messages.{tagOf}
-use Rattle.cut.specs.Calls.{segmentAt}
-use Rattle.messages.specs.workers.Walks.{headSpot, firstTag}
+use Rattle.cut.specs.Calls.{cutAt, segmentAt}
+use Rattle.messages.specs.workers.Walks.{headSpot, firstTag, tagAt}
 use Rattle.bytewise.proofs.Parts.{part-next, length-part}
 use Rattle.bytewise.proofs.Words.{begins-short}
 use Rattle.cut.proofs.First.{cutting, nothing}
+use Rattle.cut.proofs.Skips.{trim-kept, segments-are}
+use Rattle.cut.proofs.Ahead.{none-past, pasts, cut-ahead, none-ahead, found-end}
+use Rattle.cut.proofs.cutting.Scanning.{segments-at, segments-none}
 
 -- fewer than three bytes say nothing
-pub tag-short : (bs : List ℕ) → length bs < 3 → tagOf bs ≡ Other
+tag-short : (bs : List ℕ) → length bs < 3 → tagOf bs ≡ Other
 unfolding tagOf
 tag-short bs h =
     rw (begins-short (85 ∷ 78 ∷ 72 ∷ []) bs h, begins-short (85 ∷ 78 ∷ 84 ∷ []) bs h, begins-short (85 ∷ 78 ∷ 90 ∷ []) bs h)
 
 -- no byte after the third counts
-pub tag-first : (a b c : ℕ) (bs : List ℕ) → tagOf (a ∷ b ∷ c ∷ bs) ≡ tagOf (a ∷ b ∷ c ∷ [])
+tag-first : (a b c : ℕ) (bs : List ℕ) → tagOf (a ∷ b ∷ c ∷ bs) ≡ tagOf (a ∷ b ∷ c ∷ [])
 unfolding tagOf begins
 tag-first a b c bs = refl
 
@@ -64,26 +68,52 @@ module _ (d : List ℕ) (s e : ℕ) where
 -- a segment's answer, as a spot
 pub spot-of
     : (y : Syntax) (d : List ℕ) (at s e : ℕ) (p : Bool) (t : Tag) → segmentAt y d at ≡ cut.Segment s e p → t ≡ tagOf (part s e d)
-    → headSpot (segmentsFrom y at false (drop at d)) ≡ spot.At s t e
+    → headSpot (segmentsAt y d at) ≡ spot.At s t e
 unfolding headSpot
 spot-of y d at s e p t h k =
-    let q = cutting y d at false s e p h in
-    let n : at + length (part at e d) ≡ e = omega (arith, length-part d at e (q .fits), q .some) in
-    rw (q .list, n, k, q .starts)
+    let q = cut-ahead y d at s e p h in
+    rw (q .list, found-end y d at s e p q, k)
 
-pub spot-none : (y : Syntax) (d : List ℕ) (at : ℕ) → segmentAt y d at ≡ cut.Nothing → headSpot (segmentsFrom y at false (drop at d)) ≡ spot.Nothing
+pub spot-none : (y : Syntax) (d : List ℕ) (at : ℕ) → segmentAt y d at ≡ cut.Nothing → headSpot (segmentsAt y d at) ≡ spot.Nothing
 unfolding headSpot
-spot-none y d at h = rw (nothing y d at false h)
+spot-none y d at h = rw (none-ahead y d at h)
 
-pub tag-spotted : (ss : List Segment) (s : ℕ) (t : Tag) (e : ℕ) → headSpot ss ≡ spot.At s t e → t ≡ firstTag ss
-unfolding headSpot firstTag
-tag-spotted [] s t e h = absurd (let z : _≡_ {A = ℕ} 0 1 = cc in omega arith)
-tag-spotted (x ∷ xs) s t e h = cc
+-- what is cut at a place, by its tag
+pub tag-cut : (y : Syntax) (d : List ℕ) (at s e : ℕ) (p : Bool) (t : Tag) → cutAt y d at ≡ cut.Segment s e p → t ≡ tagOf (part s e d) → t ≡ tagAt y d at
+unfolding tagAt firstTag
+tag-cut y d at s e p t h k =
+    let q = cutting y d at false s e p h in
+    rw (q .list, ← q .starts) k
 
-pub tag-none : (ss : List Segment) → headSpot ss ≡ spot.Nothing → Other ≡ firstTag ss
-unfolding headSpot firstTag
-tag-none [] h = refl
-tag-none (x ∷ xs) h = absurd (let z : _≡_ {A = ℕ} 0 1 = cc in omega arith)
+pub tag-uncut : (y : Syntax) (d : List ℕ) (at : ℕ) → cutAt y d at ≡ cut.Nothing → Other ≡ tagAt y d at
+unfolding tagAt firstTag
+tag-uncut y d at h = rw (nothing y d at false h)
+
+first-kept : (y : Syntax) (e : Bool) (p x : ℕ) (ss : List Segment) → isBreak y x ≡ false → firstTag (trimmed y (join e p x ss)) ≡ firstTag (join e p x ss)
+unfolding firstTag trimmed join
+first-kept y true p x ss n = ap firstTag (trim-kept y p x [] false (trimmed y ss) n)
+first-kept y false p x [] n = ap firstTag (trim-kept y p x [] true [] n)
+first-kept y false p x (s ∷ ss) n = ap firstTag (trim-kept y p x (s .bytes) (s .piece) (trimmed y ss) n)
+
+-- the tag of the first segment from a place on is that of what is cut behind the line breaks there
+pub tag-past : (y : Syntax) (d : List ℕ) (at s : ℕ) → s ≡ pastAt y d at → tagAt y d s ≡ firstTag (segmentsAt y d at)
+unfolding tagAt firstTag
+tag-past y d at s e = go (ltb s (length d)) refl
+  where
+    same : segmentsAt y d at ≡ segmentsAt y d s
+    same = pasts y d at .list ∙ ap (segmentsAt y d) (sym e)
+
+    kept : s < length d → isBreak y (getD d s 0) ≡ false
+    kept h = ap (λ (t : ℕ). isBreak y (getD d t 0)) e ∙ pasts y d at .stops (omega arith)
+
+    go : (b : Bool) → ltb s (length d) ≡ b → tagAt y d s ≡ firstTag (segmentsAt y d at)
+    go true l =
+        let h = ltb-true s (length d) l in
+        ap firstTag (segments-at y d s false h)
+        ∙ sym (ap firstTag (same ∙ segments-are y s (drop s d) ∙ ap (trimmed y) (segments-at y d s false h)) ∙ first-kept y _ s (getD d s 0) _ (kept h))
+    go false l =
+        let h = ltb-false s (length d) l in
+        ap firstTag (segments-none y d s false h) ∙ sym (ap firstTag (same ∙ none-past y d s h))
 
 -- a segment of three bytes or more, whatever follows them
 third : (e : Bool) (p q o x z w : ℕ) (ss : List Segment) (ws : List ℕ) → firstTag (join false p x (join false q z (join e o w ss))) ≡ tagOf (x ∷ z ∷ w ∷ ws)
@@ -92,7 +122,7 @@ third true p q o x z w ss ws = sym (tag-first x z w ws)
 third false p q o x z w [] ws = sym (tag-first x z w ws)
 third false p q o x z w (s ∷ ss) ws = tag-first x z w (s .bytes) ∙ sym (tag-first x z w ws)
 
-pub ends-terminator : (y : Syntax) (r : Bool) (x : ℕ) → ends y r x ≡ true → x ≡ y .terminator
+ends-terminator : (y : Syntax) (r : Bool) (x : ℕ) → ends y r x ≡ true → x ≡ y .terminator
 unfolding ends
 ends-terminator y true x h = absurd (false≢true h)
 ends-terminator y false x h = eqb-true _ _ h
@@ -117,13 +147,13 @@ module _ (y : Syntax) (no-U : y .terminator ≡ 85 → ⊥) (no-N : y .terminato
   leading false p x (z ∷ zs) h = second (ends y (frees y false x) z) p x z (frees y false x) zs refl
 
   -- a terminator among the first two bytes is neither U nor N: these three say no tag then, as the short segment says none
-  pub tag-leads : (p : ℕ) (xs : List ℕ) → firstTag (segmentsFrom y p false xs) ≡ tagOf xs
+  tag-leads : (p : ℕ) (xs : List ℕ) → firstTag (segmentsFrom y p false xs) ≡ tagOf xs
   unfolding firstTag segmentsFrom tagOf begins
   tag-leads p [] = refl
   tag-leads p (x ∷ xs) = leading (ends y false x) p x xs refl
 
-  pub tag-ahead : (d : List ℕ) (at : ℕ) (t : Tag) → t ≡ tagOf (part at (length d) d) → t ≡ firstTag (segmentsFrom y at false (drop at d))
-  unfolding part
+  pub tag-ahead : (d : List ℕ) (at : ℕ) (t : Tag) → t ≡ tagOf (part at (length d) d) → t ≡ tagAt y d at
+  unfolding part tagAt
   tag-ahead d at t h =
       let n : length (drop at d) ≤ length d - at = rw (length-drop at d) (le-refl _) in
       h ∙ rw (take-all (length d - at) (drop at d) n) (sym (tag-leads at (drop at d)))

@@ -1,12 +1,11 @@
 -- What the workers of the walks promise each other: one segment by its tag, and what it does to a count, to a message's end and to a search.
-use Prim.Native.Nat.{ℕ, _+_, _≤_, _<_}
+use Prim.Native.Nat.{ℕ, _≤_, _<_}
 use mathlib.Core.Path.{_≡_}
-use mathlib.Core.Bool.{Bool, true, false, _&&_}
+use mathlib.Core.Bool.{Bool, true, false}
 use mathlib.Core.List.{List, [], _∷_}
 use lib.ListN.{length, getD, drop}
-use lib.Dec.{eqb}
 use Rattle.cut.specs.declared.service.Syntax.{Syntax}
-use Rattle.cut.specs.Segments.{Segment, endOf, segmentsAt, lastEnd, keepIf}
+use Rattle.cut.specs.Segments.{Segment, endOf, segmentsFrom, segmentsAt, lastEnd, keepIf}
 use Rattle.messages.specs.declared.tags.Tag.{Tag}
 use Rattle.messages.specs.declared.tags.Tag.the-variants.{Unh, Unt, Unz, Other}
 use Rattle.messages.specs.declared.tags.Spot.{Spot}
@@ -16,17 +15,13 @@ use Rattle.messages.specs.declared.found.Found.the-variants as found
 use Rattle.messages.specs.Messages.{Message, tagOf, body}
 use Rattle.messages.specs.Calls.{asFound}
 
--- whether the terminator stands at k and U (85) behind it
-unfoldable pub beforeU : Syntax → List ℕ → ℕ → Bool
-beforeU y d k = eqb (getD d k 0) (y .terminator) && eqb (getD d (k + 1) 0) 85
-
--- from i up to j it stands nowhere so
-pub record NoU (y : Syntax) (d : List ℕ) (i j : ℕ) : Type 0 where
+-- from i up to j no byte is U (85)
+pub record NoU (d : List ℕ) (i j : ℕ) : Type 0 where
   pub onward : i ≤ j
   pub inside : j ≤ length d
-  pub none : (k : ℕ) → i ≤ k → k < j → beforeU y d k ≡ false
+  pub none : (k : ℕ) → i ≤ k → k < j → getD d k 0 ≡ 85 → ⊥
 
--- a message that is open before the segment at i ends where one does that is open before the segment at j, not before i
+-- a message that is open before the segments from i on ends where one does that is open before those from j on, not before i
 pub record Skipped (y : Syntax) (d : List ℕ) (i j : ℕ) : Type 0 where
   pub onward : i ≤ j
   pub same : lastEnd i (body (segmentsAt y d i)) ≡ lastEnd j (body (segmentsAt y d j))
@@ -40,6 +35,10 @@ headSpot (s ∷ ss) = spot.At (s .start) (tagOf (s .bytes)) (endOf s)
 unfoldable pub firstTag : List Segment → Tag
 firstTag [] = Other
 firstTag (s ∷ ss) = tagOf (s .bytes)
+
+-- that of what is cut at a place, line breaks too
+unfoldable pub tagAt : Syntax → List ℕ → ℕ → Tag
+tagAt y d at = firstTag (segmentsFrom y at false (drop at d))
 
 -- the first of some messages
 unfoldable pub headFound : List Message → Found

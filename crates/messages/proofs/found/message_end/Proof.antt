@@ -5,7 +5,7 @@ use mathlib.Core.Path.{_≡_, refl, sym, _∙_}
 use borrow.Author.Tests.{not-true, not-false}
 use native.Mathlib.Omega.{arith}
 use lib.ListN.{length, drop}
-use Rattle.cut.specs.Segments.{segmentsFrom, lastEnd}
+use Rattle.cut.specs.Segments.{segmentsAt, lastEnd}
 use Rattle.messages.specs.Messages.{body}
 use Rattle.messages.proofs.walks.Spots.{spotted, end-none, end-on, end-stop}
 use borrow.Author.Needs.{needs}
@@ -14,7 +14,7 @@ use Rattle.messages.proofs.found.message_end.Tie as tie
 
 abbrev Inv-loop : tie.InvT-loop
 Inv-loop y d from next₀ next =
-    lastEnd from (body (segmentsFrom y from false (drop from d))) ≡ lastEnd next (body (segmentsFrom y next false (drop next d)))
+    lastEnd from (body (segmentsAt y d from)) ≡ lastEnd next (body (segmentsAt y d next))
 
 abbrev μ-loop : tie.MeasureT-loop
 μ-loop y d from next₀ next = length d - next
@@ -29,8 +29,8 @@ next-u-requires c κs = search needs
 ahead
     : (c : tie.After-next-u Inv-loop μ-loop)
     → let a = c .before .before .before .args in
-    lastEnd (a .from) (body (segmentsFrom (a .y) (a .from) false (drop (a .from) (a .d .now))))
-    ≡ lastEnd (c .next-u .result) (body (segmentsFrom (a .y) (c .next-u .result) false (drop (c .next-u .result) (a .d .now))))
+    lastEnd (a .from) (body (segmentsAt (a .y) (a .d .now) (a .from)))
+    ≡ lastEnd (c .next-u .result) (body (segmentsAt (a .y) (a .d .now) (c .next-u .result)))
 ahead c = c .before .loop .inv ∙ c .next-u .ensures .same
 
 spot-at-requires : tie.Need-spot-at-requires Inv-loop μ-loop
@@ -48,13 +48,13 @@ returns c = sym (ahead (c .before .before .before) ∙ end-none _ _ _ (sym (c .b
 goes-on-requires : tie.Need-goes-on-requires Inv-loop μ-loop
 goes-on-requires c κs = search needs
 
-last-end-requires : tie.Need-last-end-requires Inv-loop μ-loop
-last-end-requires c κs = search needs
+closed-at-requires : tie.Need-closed-at-requires Inv-loop μ-loop
+closed-at-requires c κs = search needs
 
 returns-2 : tie.Need-returns-2 Inv-loop μ-loop
 returns-2 c =
     let q = spotted _ _ _ _ _ _ (sym (c .before .before .before .before .before .before .spot-at .ensures) ∙ c .before .before .before .before .s .given .1) in
-    c .last-end .ensures
+    c .closed-at .ensures
     ∙ sym (ahead (c .before .before .before .before .before .before .before)
     ∙ end-stop _ _ _ _ _ _ q (sym (c .before .before .goes-on .ensures) ∙ not-true _ (c .before .if1 .taken)))
 
@@ -82,7 +82,7 @@ message-end-spec =
     enum-told
     returns
     goes-on-requires
-    last-end-requires
+    closed-at-requires
     returns-2
     loop-less
     loop-again)

@@ -4,7 +4,7 @@ use mathlib.Core.Bool.{false}
 use mathlib.Core.Path.{_≡_, refl, sym, _∙_}
 use native.Mathlib.Omega.{arith}
 use lib.ListN.{length, drop}
-use Rattle.cut.specs.Segments.{segmentsFrom}
+use Rattle.cut.specs.Segments.{segmentsAt}
 use Rattle.messages.specs.Messages.{messagesIn}
 use Rattle.messages.specs.workers.Walks.{headFound}
 use Rattle.messages.proofs.walks.Spots.{spotted, found-none, found-on, found-here}
@@ -14,7 +14,7 @@ use Rattle.messages.proofs.found.next_from.Tie as tie
 
 abbrev Inv-loop : tie.InvT-loop
 Inv-loop y d from at₀ at =
-    headFound (messagesIn (segmentsFrom y from false (drop from d))) ≡ headFound (messagesIn (segmentsFrom y at false (drop at d)))
+    headFound (messagesIn (segmentsAt y d from)) ≡ headFound (messagesIn (segmentsAt y d at))
 
 abbrev μ-loop : tie.MeasureT-loop
 μ-loop y d from at₀ at = length d - at

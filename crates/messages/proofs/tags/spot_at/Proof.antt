@@ -1,6 +1,6 @@
 -- `messages::tags::spot_at` meets its contract.
 use mathlib.Core.Path.{sym, _∙_}
-use Rattle.cut.proofs.First.{cutting}
+use Rattle.cut.proofs.Ahead.{cut-ahead}
 use Rattle.messages.proofs.walks.Tagging.{spot-of, spot-none}
 use borrow.Author.Needs.{needs}
 use Rattle.messages.proofs.tags.spot_at.Statement.{statement}
@@ -14,7 +14,7 @@ enum-known-c c = search needs
 
 tag-of-requires : tie.Need-tag-of-requires
 tag-of-requires c κs =
-    let q = cutting _ _ _ _ _ _ _ (sym (c .before .before .before .segment-at .ensures) ∙ c .before .c .given .1) in
+    let q = cut-ahead _ _ _ _ _ _ (sym (c .before .before .before .segment-at .ensures) ∙ c .before .c .given .1) in
     search needs
 
 enum-told : tie.Need-enum-told
