@@ -3,7 +3,6 @@ ghost use mathlib.Core.Path.{_≡_};
 ghost use Prim.Native.Nat.{_+_, _≤_};
 ghost use lib.ListN.{length};
 ghost use lib.Dec.{eqb};
-ghost use mathlib.Core.Bool.{_&&_};
 ghost use Rattle.bytewise.specs.Eights.{eightAt, eightOf, byteOf, flags, Flagged, firstByte};
 
 const ONES: u64 = 0x0101_0101_0101_0101;
