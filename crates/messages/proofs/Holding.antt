@@ -8,14 +8,12 @@ use lib.ListN.{length, drop}
 use Rattle.cut.specs.declared.service.Syntax.{Syntax}
 use Rattle.messages.specs.declared.tags.Tag.{Tag}
 use Rattle.messages.specs.declared.tags.Tag.the-variants.{Unh, Unt, Unz, Other}
-use Rattle.cut.specs.declared.scan.Cut.the-variants as cut
 use Rattle.messages.specs.declared.head.Head.the-variants as head
 use Rattle.bytewise.specs.Bytes.{part}
 use Rattle.cut.specs.Segments.{Segment, segmentsAt, segmentsOf, lastEnd}
 use Rattle.messages.specs.Messages.{tagOf, follow, body}
-use Rattle.cut.specs.Calls.{segmentAt}
 use Rattle.messages.specs.Held.{isUnt, belongs, unless, held, members, headIn}
-use Rattle.cut.proofs.Ahead.{CutAhead, cut-ahead, last-fits, own-bytes}
+use Rattle.cut.proofs.Ahead.{last-fits, own-bytes}
 use Rattle.messages.proofs.Members.{body-front}
 
 -- a segment that belongs to an open message, and what of those after it does
@@ -37,7 +35,7 @@ first-belongs Unt = refl
 first-belongs Unz = refl
 first-belongs Other = refl
 
-members-here
+pub members-here
     : (b : Bool) (s : Segment) (ss : List Segment) → belongs b (tagOf (s .bytes)) ≡ true → members b (s ∷ ss) ≡ s ∷ unless (isUnt (tagOf (s .bytes))) (body ss)
 unfolding held body
 members-here true s ss h = refl
@@ -64,41 +62,13 @@ module _ (y : Syntax) (d : List ℕ) (at : ℕ) (b : Bool) where
   by-none (x ∷ xs) h = go (belongs b (tagOf (x .bytes))) refl h
     where
       go
-          : (u : Bool) → belongs b (tagOf (x .bytes)) ≡ u → cond u (head.Inside (isUnt (tagOf (x .bytes)))) head.Nothing ≡ head.Nothing
+          : (u : Bool) → belongs b (tagOf (x .bytes)) ≡ u → cond u (head.Inside (x .start) (isUnt (tagOf (x .bytes)))) head.Nothing ≡ head.Nothing
           → members b (x ∷ xs) ≡ []
       go true k f = absurd (let z : _≡_ {A = ℕ} 0 1 = cc in omega arith)
       go false k f = members-not b x xs k
 
   pub no-member : headIn b ahead ≡ head.Nothing → members b ahead ≡ []
   no-member h = by-none ahead h
-
-  -- the next segment of the message, and what of the message follows it
-  pub record Taken (s e : ℕ) (p l : Bool) : Type 0 where
-    pub cuts : CutAhead y d at s e p
-    pub list : members b ahead ≡ record { start = s; bytes = part s e d; piece = p } ∷ unless l (body (segmentsAt y d e))
-
-  module _ (s e : ℕ) (p l : Bool) (q : CutAhead y d at s e p) where
-    by-some : headIn b (record { start = s; bytes = part s e d; piece = p } ∷ segmentsAt y d e) ≡ head.Inside l → Taken s e p l
-    unfolding headIn
-    by-some h = go (belongs b (tagOf (part s e d))) refl h
-      where
-        here : belongs b (tagOf (part s e d)) ≡ true → isUnt (tagOf (part s e d)) ≡ l → Taken s e p l
-        here k u =
-            record {
-              cuts = q;
-              list =
-                  ap (members b) (q .list) ∙ members-here b (record { start = s; bytes = part s e d; piece = p }) (segmentsAt y d e) k
-                  ∙ ap (λ (v : Bool). record { start = s; bytes = part s e d; piece = p } ∷ unless v (body (segmentsAt y d e))) u;
-            }
-
-        go : (u : Bool) → belongs b (tagOf (part s e d)) ≡ u → cond u (head.Inside (isUnt (tagOf (part s e d)))) head.Nothing ≡ head.Inside l → Taken s e p l
-        go true k g = here k (cc)
-        go false k g = absurd (let z : _≡_ {A = ℕ} 0 1 = cc in omega arith)
-
-  pub taken : (s e : ℕ) (p l : Bool) → segmentAt y d at ≡ cut.Segment s e p → headIn b ahead ≡ head.Inside l → Taken s e p l
-  taken s e p l c h =
-      let q = cut-ahead y d at s e p c in
-      by-some s e p l q (ap (headIn b) (sym (q .list)) ∙ h)
 
 unless-front : (b : Bool) (ss : List Segment) → ss ≡ unless b (body ss) ++ drop (length (unless b (body ss))) ss
 unless-front true ss = refl

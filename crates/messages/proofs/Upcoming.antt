@@ -1,18 +1,20 @@
 -- The next segment of a message, where only its head was looked at.
-use Prim.Native.Nat.{ℕ}
-use mathlib.Core.Path.{_≡_, refl}
-use mathlib.Core.Bool.{Bool}
-use mathlib.Core.List.{List, []}
+use Prim.Native.Nat.{ℕ, _≤_, _<_}
+use mathlib.Core.Path.{_≡_, refl, _∙_, ap, subst, subst₂}
+use mathlib.Core.Bool.{Bool, true, false, cond}
+use mathlib.Core.List.{List, [], _∷_}
 use native.Mathlib.Omega.{arith}
-use Rattle.cut.specs.Calls.{segmentAt}
-use Rattle.cut.specs.Segments.{Segment, segmentsAt}
-use Rattle.cut.specs.declared.scan.Cut.{Cut}
+use lib.ListN.{length}
+use Rattle.bytewise.specs.Bytes.{part}
+use Rattle.cut.specs.Calls.{cutAt}
+use Rattle.cut.specs.Segments.{Segment, endOf, segmentsAt}
 use Rattle.cut.specs.declared.scan.Cut.the-variants as cut
 use Rattle.cut.specs.declared.service.Syntax.{Syntax}
-use Rattle.cut.proofs.Ahead.{none-ahead}
-use Rattle.messages.specs.Held.{members, headIn}
+use Rattle.cut.proofs.Ahead.{first-ahead}
+use Rattle.messages.specs.Messages.{tagOf, body}
+use Rattle.messages.specs.Held.{isUnt, belongs, unless, members, headIn}
 use Rattle.messages.specs.declared.head.Head.the-variants as head
-use Rattle.messages.proofs.Holding.{Taken, taken, no-member}
+use Rattle.messages.proofs.Holding.{members-here, no-member}
 
 module _ (y : Syntax) (d : List ℕ) (at : ℕ) (b : Bool) where
   abbrev ahead : List Segment
@@ -21,21 +23,42 @@ module _ (y : Syntax) (d : List ℕ) (at : ℕ) (b : Bool) where
   pub no-upcoming : headIn b ahead ≡ head.Nothing → members b ahead ≡ []
   no-upcoming h = no-member y d at b h
 
-  -- its place, its end, and whether it is a piece
-  pub record Upcoming (l : Bool) : Type 0 where
-    pub place : ℕ
+  -- the segment that begins at `place`: its end, and whether it is a piece; l: it is the UNT
+  pub record Upcoming (place : ℕ) (l : Bool) : Type 0 where
     pub end : ℕ
     pub piece : Bool
-    pub cuts : segmentAt y d at ≡ cut.Segment place end piece
-    pub takes : Taken y d at b place end piece l
+    pub cuts : cutAt y d place ≡ cut.Segment place end piece
+    pub later : at ≤ place
+    pub some : place < end
+    pub fits : end ≤ length d
+    pub list : members b ahead ≡ record { start = place; bytes = part place end d; piece = piece } ∷ unless l (body (segmentsAt y d end))
 
-  pub upcoming : (l : Bool) → headIn b ahead ≡ head.Inside l → Upcoming l
+  upcoming-first : (x : Segment) (xs : List Segment) → ahead ≡ x ∷ xs → belongs b (tagOf (x .bytes)) ≡ true → Upcoming (x .start) (isUnt (tagOf (x .bytes)))
+  upcoming-first x xs e k =
+      let f = first-ahead y d at x xs e in
+      record {
+        end = endOf x;
+        piece = x .piece;
+        cuts = f .exact;
+        later = f .later;
+        some = f .some;
+        fits = f .fits;
+        list =
+            ap (members b) e ∙ members-here b x xs k
+            ∙ ap (λ (us : List Segment). x ∷ unless (isUnt (tagOf (x .bytes))) (body us)) (f .rest)
+            ∙ ap (λ (bs : List ℕ). record { start = x .start; bytes = bs; piece = x .piece } ∷ unless (isUnt (tagOf (x .bytes))) (body (segmentsAt y d (endOf x)))) (f .bytes);
+      }
+
+  pub upcoming : (place : ℕ) (l : Bool) → headIn b ahead ≡ head.Inside place l → Upcoming place l
   unfolding headIn
-  upcoming l h = go (segmentAt y d at) refl
+  upcoming place l h = go ahead refl h
     where
-      none : (ss : List Segment) → ss ≡ [] → headIn b ss ≡ head.Inside l → ⊥
-      none ss e k = let z : _≡_ {A = ℕ} 0 1 = cc in omega arith
-
-      go : (c : Cut) → segmentAt y d at ≡ c → Upcoming l
-      go cut.Nothing c = absurd (none ahead (none-ahead y d at c) h)
-      go (cut.Segment s e p) c = record { place = s; end = e; piece = p; cuts = c; takes = taken y d at b s e p l c h }
+      go : (ss : List Segment) → ahead ≡ ss → headIn b ss ≡ head.Inside place l → Upcoming place l
+      go [] e k = absurd (let z : _≡_ {A = ℕ} 0 1 = cc in omega arith)
+      go (x ∷ xs) e k = told (belongs b (tagOf (x .bytes))) refl k
+        where
+          told
+              : (u : Bool) → belongs b (tagOf (x .bytes)) ≡ u
+              → cond u (head.Inside (x .start) (isUnt (tagOf (x .bytes)))) head.Nothing ≡ head.Inside place l → Upcoming place l
+          told true u g = subst₂ Upcoming (cc) (cc) (upcoming-first x xs e u)
+          told false u g = absurd (let z : _≡_ {A = ℕ} 0 1 = cc in omega arith)

@@ -39,10 +39,10 @@ abbrev pub members : Bool → List Segment → List Segment
 members true ss = held ss
 members false ss = body ss
 
--- head_at: whether the message has a segment that is the first of these, and whether that is the UNT
+-- head_at: whether the message has a segment that is the first of these, where that begins, and whether it is the UNT
 unfoldable pub headIn : Bool → List Segment → Head
 headIn b [] = head.Nothing
-headIn b (s ∷ ss) = cond (belongs b (tagOf (s .bytes))) (head.Inside (isUnt (tagOf (s .bytes)))) head.Nothing
+headIn b (s ∷ ss) = cond (belongs b (tagOf (s .bytes))) (head.Inside (s .start) (isUnt (tagOf (s .bytes)))) head.Nothing
 
 -- a segment that lies in no message, by its tag; "A segment whose first three bytes are `UNH` begins a message"
 abbrev pub outerBy : Tag → ℕ → Outer

@@ -7,9 +7,9 @@ ghost use mathlib.Core.Path.{_≡_};
 ghost use Rattle.cut.specs.Segments.{segmentsAt};
 ghost use Rattle.messages.specs.Held.{isUnt, belongs, headIn};
 
-// Whether the message has a further segment, and whether that is the UNT.
+// A further segment of the message, by its first byte and whether it is the UNT; or nothing.
 pub enum Head {
-    Inside { last: bool },
+    Inside { place: usize, last: bool },
     Nothing,
 }
 
@@ -36,7 +36,7 @@ fn is_inside(tag: Tag, first: bool) -> bool
     }
 }
 
-// Whether the message that is open at `at`, or that begins there (`first`), has a segment there. Its end is not looked for.
+// The next segment of the message that is open at `at`, or that begins there (`first`). Its end is not looked for.
 pub fn head_at(y: Syntax, d: &[u8], at: usize, first: bool) -> Head
     ensures { λ r. ⌜ r ≡ headIn first (segmentsAt y (now (d .entry)) at) ⌝ }
 {
@@ -49,5 +49,5 @@ pub fn head_at(y: Syntax, d: &[u8], at: usize, first: bool) -> Head
         return Head::Nothing;
     }
     let last = ends_message(tag);
-    Head::Inside { last }
+    Head::Inside { place, last }
 }

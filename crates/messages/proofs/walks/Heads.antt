@@ -7,7 +7,7 @@ use native.Mathlib.Omega.{arith}
 use lib.ListN.{length, getD}
 use Rattle.cut.specs.declared.service.Syntax.{Syntax}
 use Rattle.cut.specs.Segments.{Segment, isBreak, segmentsAt, pastAt}
-use Rattle.cut.proofs.Ahead.{none-past, pasts, some-ahead}
+use Rattle.cut.proofs.Ahead.{none-past, pasts, some-ahead, first-ahead}
 use Rattle.messages.specs.declared.tags.Tag.{Tag}
 use Rattle.messages.specs.declared.head.Head.the-variants as head
 use Rattle.messages.specs.Held.{isUnt, belongs, headIn}
@@ -20,11 +20,11 @@ by-tag-not b [] t k n = refl
 by-tag-not b (s ∷ ss) t k n = rw (← k, n)
 
 by-tag-here
-    : (b : Bool) (ss : List Segment) → (ss ≡ [] → ⊥) → (t : Tag) → t ≡ firstTag ss → belongs b t ≡ true → (l : Bool) → l ≡ isUnt t
-    → head.Inside l ≡ headIn b ss
+    : (b : Bool) (ss : List Segment) → (ss ≡ [] → ⊥) → (p : ℕ) → ((x : Segment) (xs : List Segment) → ss ≡ x ∷ xs → x .start ≡ p)
+    → (t : Tag) → t ≡ firstTag ss → belongs b t ≡ true → (l : Bool) → l ≡ isUnt t → head.Inside p l ≡ headIn b ss
 unfolding headIn firstTag
-by-tag-here b [] some t k n l u = absurd (some refl)
-by-tag-here b (s ∷ ss) some t k n l u = rw (← k, n, u)
+by-tag-here b [] some p s t k n l u = absurd (some refl)
+by-tag-here b (x ∷ xs) some p s t k n l u = rw (← k, n, u, s x xs refl)
 
 module _ (y : Syntax) (d : List ℕ) (at : ℕ) (b : Bool) (s : ℕ) (o : s ≡ pastAt y d at) where
   abbrev ahead : List Segment
@@ -43,5 +43,7 @@ module _ (y : Syntax) (d : List ℕ) (at : ℕ) (b : Bool) (s : ℕ) (o : s ≡ 
   pub head-not : (t : Tag) → t ≡ tagAt y d s → belongs b t ≡ false → head.Nothing ≡ headIn b ahead
   head-not t k n = by-tag-not b ahead t (k ∙ tag-past y d at s o) n
 
-  pub head-here : s < length d → (t : Tag) → t ≡ tagAt y d s → belongs b t ≡ true → (l : Bool) → l ≡ isUnt t → head.Inside l ≡ headIn b ahead
-  head-here h t k n l u = by-tag-here b ahead (λ e. some-ahead y d s h (kept h) (sym same ∙ e)) t (k ∙ tag-past y d at s o) n l u
+  pub head-here : s < length d → (t : Tag) → t ≡ tagAt y d s → belongs b t ≡ true → (l : Bool) → l ≡ isUnt t → head.Inside s l ≡ headIn b ahead
+  head-here h t k n l u =
+      by-tag-here b ahead (λ e. some-ahead y d s h (kept h) (sym same ∙ e)) s (λ x xs e. first-ahead y d at x xs e .starts ∙ sym o) t
+      (k ∙ tag-past y d at s o) n l u
