@@ -4,7 +4,7 @@ use mathlib.Core.Bool.{false}
 use mathlib.Core.Path.{_≡_, refl}
 use Rattle.cut.specs.Base.{edifact}
 use Rattle.bytewise.specs.Bytes.{bytesOf, begins}
-use Rattle.cut.specs.Segments.{ends, frees, join, segmentsFrom}
+use Rattle.cut.specs.Segments.{ends, frees, join, segmentsFrom, isBreak, trim, trimmed, segmentsOf}
 use Rattle.element.specs.Elements.{endingOf, stays, releases, before, splitFrom, elements}
 use Rattle.plain.specs.Plain.{unlessMark, plain, same}
 use Rattle.agree.specs.Agreement.{sameText, allEmpty, sameComponents, emptyElements, sameElements, agreeBut, agreeIn, agree}
@@ -15,9 +15,9 @@ use Rattle.agree.specs.declared.first.Agreeing.the-variants.{At, Nothing
 -- what is found among some segments, with the base's service characters
 foundIn : String → Agreeing
 unfolding
-    begins ends frees join segmentsFrom endingOf stays releases before splitFrom elements unlessMark plain same sameText allEmpty sameComponents
+    begins ends frees join segmentsFrom isBreak trim trimmed segmentsOf endingOf stays releases before splitFrom elements unlessMark plain same sameText allEmpty sameComponents
     emptyElements sameElements agreeBut agreeIn agree nextIf behindIf headingFrom positionsFrom positionsOf agreesAny firstAfter firstAgreeing
-foundIn segments = firstAgreeing edifact (positionsOf (segmentsFrom edifact 0 false (bytesOf segments)))
+foundIn segments = firstAgreeing edifact (positionsOf (segmentsOf edifact 0 (bytesOf segments)))
 
 -- "a missing component equals an empty one", of either position and of any of the three segments
 empty-parts

@@ -2,6 +2,7 @@
 use crate::agreement::segments_agree;
 use cut::Cut;
 use cut::Syntax;
+use cut::past_breaks;
 use cut::segment_at;
 use element::Span;
 ghost use Prim.Native.Nat.{_≤_};
@@ -49,11 +50,11 @@ fn stands_at(d: &[u8], at: usize, a: u8, b: u8, c: u8) -> bool
     has_tag(d, at, d.len(), a, b, c)
 }
 
-// The segment from `at` on if it has this tag, and else the empty part at `at`. Only one that begins so is cut.
+// The first segment from `at` on if it has this tag, and else the empty part at `at`. Only one that begins so is cut.
 fn optional_at(y: Syntax, d: &[u8], at: usize, a: u8, b: u8, c: u8) -> Span
     ensures { λ r. ⌜ Optional y (now (d .entry)) at (a ∷ b ∷ c ∷ []) r ⌝ }
 {
-    if !stands_at(d, at, a, b, c) {
+    if !stands_at(d, past_breaks(y, d, at), a, b, c) {
         return Span { start: at, end: at };
     }
     let s = segment_at(y, d, at);

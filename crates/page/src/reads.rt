@@ -6,7 +6,7 @@ use clean::allowed;
 use clean::tagged;
 use cut::Cut;
 use cut::Syntax;
-use cut::segment_at;
+use cut::cut_at;
 use element::Span;
 use guide::Edition;
 ghost use mathlib.Core.Path.{_≡_};
@@ -53,7 +53,7 @@ fn stopped(number: u32, start: usize, end: usize) -> Reading
 fn read_through(y: Syntax, edition: Edition, node: usize, d: &[u8], start: usize) -> Reading
     ensures { λ r. ⌜ r ≡ readingOf y edition node (now (d .entry)) start ⌝ }
 {
-    let s = segment_at(y, d, start);
+    let s = cut_at(y, d, start);
     let Cut::Segment {
         start: _,
         end,

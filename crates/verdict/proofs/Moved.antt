@@ -7,11 +7,11 @@ use native.Mathlib.Nat.{add-zero, add-assoc}
 use lib.ListN.{length}
 use Rattle.cut.specs.declared.service.Syntax.{Syntax}
 use Rattle.bytewise.specs.Bytes.{bytesOf, begins}
-use Rattle.cut.specs.Segments.{Segment, endOf, segmentsFrom}
+use Rattle.cut.specs.Segments.{Segment, endOf, segmentsOf}
 use Rattle.messages.specs.Messages.{Message, startOf}
 use Rattle.cut.specs.Fronts.{moved}
 use Rattle.messages.specs.Fronts.{movedMessage}
-use Rattle.cut.proofs.Appended.{segments-moved}
+use Rattle.cut.proofs.Moving.{segments-moved}
 use Rattle.guide.specs.Answers.{Answer, placed, refused, Verdict, accepts, refuses}
 use Rattle.guide.specs.Nodes.{View, Guide}
 use Rattle.guide.specs.Views.{viewOf}
@@ -188,8 +188,8 @@ module _ (y : Syntax) (g : Guide) (pages : ℕ → Page) where
   -- the verdict of bytes that stand from the place a on is that of the bytes by themselves, a places later
   pub verdict-alone
       : (a : ℕ) (bytes : List ℕ)
-      → verdictFrom y g pages a (segmentsFrom y a false bytes) ≡ movedVerdict a (verdictFrom y g pages 0 (segmentsFrom y 0 false bytes))
-  verdict-alone a bytes = rw (← segments-moved y a 0 false bytes, add-zero a) at (verdict-from-moved a 0 (segmentsFrom y 0 false bytes))
+      → verdictFrom y g pages a (segmentsOf y a bytes) ≡ movedVerdict a (verdictFrom y g pages 0 (segmentsOf y 0 bytes))
+  verdict-alone a bytes = rw (← segments-moved y a 0 bytes, add-zero a) at (verdict-from-moved a 0 (segmentsOf y 0 bytes))
 
 -- a message that is moved names the same guide, so the verdict by that guide moves with it
 pub named-moved : (y : Syntax) (k : ℕ) (m : Message) → namedOf y (movedMessage k m) ≡ movedVerdict k (namedOf y m)

@@ -1,5 +1,6 @@
 // Which guide judges a message: the edition that its UNH names.
 use cut::Syntax;
+use cut::past_breaks;
 use element::component_at;
 use guide::Edition;
 use plain::is_code;
@@ -22,9 +23,9 @@ fn edition_in(y: Syntax, d: &[u8], start: usize, end: usize) -> Edition
     Edition::D
 }
 
-// The edition of the message that the segment at `start` begins: its end is not looked for, since what stands from its first byte on is what stands in it.
+// The edition of the message that the first segment from `start` on begins: its end is not looked for, since what stands from its first byte on is what stands in it.
 pub(crate) fn edition_at(y: Syntax, d: &[u8], start: usize) -> Edition
     ensures { λ r. ⌜ r ≡ editionOf y (held (segmentsAt y (now (d .entry)) start)) ⌝ }
 {
-    edition_in(y, d, start, d.len())
+    edition_in(y, d, past_breaks(y, d, start), d.len())
 }

@@ -74,8 +74,8 @@ fn stopped(edition: Edition, segment: usize, place: usize, row: usize, end: usiz
     Walked::Refused(with_end(refused(edition, 23, segment, place, row), end))
 }
 
-// The segments of the message that begins at `start`, one after the other; at one that begins at `stop` and has no fault it ends with 23. It returns before
-// positions are compared: that takes a table of its own, and the compiler lays it over `came`.
+// The segments of the message that the first one from `start` on begins, one after the other; at one that begins at `stop` and has no fault it ends with
+// 23. It returns before positions are compared: that takes a table of its own, and the compiler lays it over `came`.
 fn walk(y: Syntax, edition: Edition, d: &[u8], start: usize, stop: usize) -> Walked
     ensures { λ r. ⌜ (length (now (d .entry)) ≤ stop → closedBy edition y (now (d .entry)) start r ≡ judgedAt edition y (now (d .entry)) start) ⌝ }
     ensures { λ r. ⌜ Closable edition y (now (d .entry)) start r ⌝ }
@@ -89,20 +89,20 @@ fn walk(y: Syntax, edition: Edition, d: &[u8], start: usize, stop: usize) -> Wal
     let mut first = true;
     loop {
         let s = head_at(y, d, at, first);
-        let Head::Inside { last } = s else {
+        let Head::Inside { place, last } = s else {
             return Walked::Fits(kept, n, at);
         };
-        let answer = segment_answer(y, edition, d, at, n + 1, kept, &mut counts);
+        let answer = segment_answer(y, edition, d, place, n + 1, kept, &mut counts);
         let end = match answer {
             Answered::Fits(found, end) => {
-                if at == stop {
-                    return stopped(edition, n + 1, at, found.node, end);
+                if place == stop {
+                    return stopped(edition, n + 1, place, found.node, end);
                 }
                 kept = keep(y, d, found, kept, &mut came);
                 end
             }
             Answered::Refused { number, node, end } => {
-                let verdict = refused(edition, number, n + 1, at, node);
+                let verdict = refused(edition, number, n + 1, place, node);
                 return Walked::Refused(with_end(verdict, close_of(y, d, end, last)));
             }
         };
@@ -126,7 +126,7 @@ fn told_by(told: Judged, again: bool, close: usize) -> Judged
     told
 }
 
-// The verdict and the end of the message that the segment at `start` begins, by the guide of an edition. No segment begins at the end of `d`, so the
+// The verdict and the end of the message that the first segment from `start` on begins, by the guide of an edition. No segment begins at the end of `d`, so the
 // first walk goes through. Where a position agrees with an earlier one, a second walk up to it names its node. Both are one call, and `place` has no other,
 // so that the compiler makes it part of the walk.
 fn judged_by(y: Syntax, edition: Edition, d: &[u8], start: usize) -> Judged
@@ -154,7 +154,7 @@ fn judged_by(y: Syntax, edition: Edition, d: &[u8], start: usize) -> Judged
     }
 }
 
-// The verdict and the end of the message that the segment at `start` begins, by the guide named in UNH.
+// The verdict and the end of the message that the first segment from `start` on begins, by the guide named in UNH.
 pub fn judged(y: Syntax, d: &[u8], start: usize) -> Judged
     ensures { λ r. ⌜ r ≡ judgedAs (declared (verdictNamed y start (heldAt y (now (d .entry)) start))) (lastEnd start (heldAt y (now (d .entry)) start)) ⌝ }
 {

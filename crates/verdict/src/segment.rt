@@ -5,7 +5,7 @@ use crate::roles::Role;
 use crate::roles::role_of;
 use cut::Cut;
 use cut::Syntax;
-use cut::segment_at;
+use cut::cut_at;
 use element::Span;
 use guide::Edition;
 use judge::Placed;
@@ -102,7 +102,7 @@ fn page_refused(number: u32, n: usize, end: usize) -> Answered
 fn misplaced(y: Syntax, edition: Edition, d: &[u8], at: usize, number: u32, node: usize) -> Answered
     ensures { λ r. ⌜ r ≡ answerAt edition y (now (d .entry)) at (λ _. refused number node) ⌝ }
 {
-    let s = segment_at(y, d, at);
+    let s = cut_at(y, d, at);
     let Cut::Segment {
         start: _,
         end,

@@ -9,8 +9,8 @@ use lib.ListN.{length, take, drop, drop-of-length-le}
 use lib.Seq.{drop-drop}
 use Rattle.cut.specs.declared.service.Syntax.{Syntax}
 use Rattle.bytewise.specs.Bytes.{part, begins, bytesOf}
-use Rattle.cut.specs.Segments.{Segment, segmentsFrom, segmentsAt}
-use Rattle.cut.proofs.First.{Cutting}
+use Rattle.cut.specs.Segments.{Segment, segmentsOf, segmentsAt}
+use Rattle.cut.proofs.Ahead.{none-past, CutAhead}
 use Rattle.bytewise.proofs.Limits.{part-out, part-front}
 use Rattle.agree.specs.Agreement.{Heading, agree}
 use Rattle.agree.specs.Positions.{headingFrom, positionsFrom, positionsOf, agreesAny, firstAfter, firstAgreeing}
@@ -62,12 +62,12 @@ module _ {f : List Heading → Bool} {g : Heading → Bool} (k : Seeks f g) wher
   pub any-none : (n : ℕ) (ss : List Segment) → ss ≡ [] → any n ss ≡ false
   any-none n ss l = rw l (any-nil n)
 
-  module _ (y : Syntax) (d : List ℕ) (at n s e : ℕ) (p : Bool) (q : Cutting y d at false s e p) (some : 0 < n) (r : Bool)
+  module _ (y : Syntax) (d : List ℕ) (at n s e : ℕ) (p : Bool) (q : CutAhead y d at s e p) (some : 0 < n) (r : Bool)
       (is : r ≡ isLin (part s e d) && g (headingFrom (part s e d) (segmentsAt y d e))) where
     any-first : any n (segmentsAt y d at) ≡ r || any (n - 1) (segmentsAt y d e)
     any-first =
         let z : n ≡ suc (n - 1) = omega arith in
-        ap₂ any z (q .list) ∙ any-step (n - 1) _ (segmentsAt y d e) ∙ rw (is, q .starts)
+        ap₂ any z (q .list) ∙ any-step (n - 1) _ (segmentsAt y d e) ∙ rw is
 
     pub any-found : r ≡ true → any n (segmentsAt y d at) ≡ true
     any-found t = any-first ∙ rw t
@@ -144,19 +144,13 @@ module _ (y : Syntax) (d : List ℕ) (start : ℕ) where
     search-none h = rw h at (i .found)
 
     pub search-end : length d ≤ at → Nothing ≡ firstAgreeing y (positionsOf (segmentsAt y d start))
-    unfolding segmentsFrom
-    search-end h =
-        let n : segmentsAt y d at ≡ [] = rw (drop-of-length-le d h) in
-        search-none n
+    search-end h = search-none (none-past y d at h)
 
-    module _ (s e : ℕ) (p : Bool) (q : Cutting y d at false s e p) (r : Bool)
+    module _ (s e : ℕ) (p : Bool) (q : CutAhead y d at s e p) (r : Bool)
         (is : r ≡ isLin (part s e d) && agreesAny y (headingFrom (part s e d) (segmentsAt y d e)) (headingsIn n (segmentsAt y d start))) where
       -- the segment that comes next
       abbrev next : Segment
-      next = record { start = at; bytes = part at e d; piece = p }
-
-      is-next : r ≡ isLin (next .bytes) && agreesAny y (headingFrom (next .bytes) (segmentsAt y d e)) (headingsIn n (segmentsAt y d start))
-      is-next = rw (← q .starts) is
+      next = record { start = s; bytes = part s e d; piece = p }
 
       from-next
           : firstAfter y (headingsIn n (segmentsAt y d start)) (positionsFrom (n + 1) (next ∷ segmentsAt y d e))
@@ -165,22 +159,22 @@ module _ (y : Syntax) (d : List ℕ) (start : ℕ) where
 
       pub search-found : r ≡ true → At (n + 1) s ≡ firstAgreeing y (positionsOf (segmentsAt y d start))
       search-found t =
-          rw (q .starts) (sym (first-here y (headingsIn n (segmentsAt y d start)) (n + 1) next (segmentsAt y d e) r is-next t) ∙ from-next)
+          sym (first-here y (headingsIn n (segmentsAt y d start)) (n + 1) next (segmentsAt y d e) r is t) ∙ from-next
 
       pub search-on : r ≡ false → Searched y d start e (n + 1)
       search-on f =
           let l : drop n (segmentsAt y d start) ≡ next ∷ segmentsAt y d e = i .passed ∙ q .list in
           let g = headings-next n (segmentsAt y d start) next (segmentsAt y d e) l in
           record {
-            found = rw g (sym (first-on y (headingsIn n (segmentsAt y d start)) (n + 1) next (segmentsAt y d e) r is-next f) ∙ from-next);
+            found = rw g (sym (first-on y (headingsIn n (segmentsAt y d start)) (n + 1) next (segmentsAt y d e) r is f) ∙ from-next);
             passed = sym (drop-drop 1 n (segmentsAt y d start)) ∙ ap (λ (ss : List Segment). drop 1 ss) l;
-            few = omega (arith, i .few, q .some);
+            few = omega (arith, i .few, q .later, q .some);
           }
 
 -- the answer for a part, from the answer for all segments from its start on
 module _ (y : Syntax) (d : List ℕ) (start end : ℕ) (r : Agreeing) where
   abbrev InPart : Type 0
-  InPart = r ≡ firstAgreeing y (positionsOf (segmentsFrom y start false (part start end d)))
+  InPart = r ≡ firstAgreeing y (positionsOf (segmentsOf y start (part start end d)))
 
   pub answer-all : length d ≤ end → r ≡ firstAgreeing y (positionsOf (segmentsAt y d start)) → InPart
   answer-all h a = rw (part-out d start end h) a

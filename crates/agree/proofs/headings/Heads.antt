@@ -1,6 +1,6 @@
 -- The parts of a position, read off the delivery, and their comparison.
 use Prim.Native.Nat.{ℕ, _+_, _-_, _≤_, _<_}
-use mathlib.Core.Path.{_≡_, refl, sym, _∙_}
+use mathlib.Core.Path.{_≡_, refl, sym, _∙_, ap}
 use mathlib.Core.Bool.{Bool, true, false, cond, _&&_, and-true, true≢false}
 use mathlib.Core.List.{List, [], _∷_}
 use native.Mathlib.Omega.{arith}
@@ -12,13 +12,13 @@ use Rattle.cut.specs.declared.scan.Cut.{Cut}
 use Rattle.cut.specs.declared.scan.Cut.the-variants as cut
 use Rattle.bytewise.specs.Bytes.{part, begins}
 use Rattle.cut.specs.Calls.{segmentAt}
-use Rattle.cut.proofs.First.{Cutting, cutting, nothing}
+use Rattle.cut.proofs.Ahead.{CutAhead, cut-ahead, none-ahead}
 use Rattle.bytewise.proofs.Words.{begins-more, begins-short}
 use Rattle.bytewise.proofs.Parts.{part-next, part-parts, length-part}
 use Rattle.element.specs.declared.components.Span.{Span}
 use Rattle.agree.specs.Agreement.{agreeBut, agreeIn, agree}
 use Rattle.agree.specs.Positions.{nextIf, behindIf, headingFrom}
-use Rattle.cut.specs.Segments.{segmentsAt}
+use Rattle.cut.specs.Segments.{segmentsAt, pastAt}
 use Rattle.sieve.specs.workers.Prints.{partIn}
 use Rattle.agree.specs.workers.Parts.{headingIn, Optional}
 use Rattle.agree.specs.declared.headings.Head.{Head}
@@ -62,39 +62,35 @@ module _ (y : Syntax) (d : List ℕ) (at : ℕ) (t : List ℕ) where
   pub optional-none : segmentAt y d at ≡ cut.Nothing → Optional y d at t (span at at)
   unfolding nextIf behindIf
   optional-none h =
-      let n = nothing y d at false h in
+      let n = none-ahead y d at h in
       record { shows = part-missing d at ∙ rw n; behind = rw n }
 
-  module _ (s e : ℕ) (p : Bool) (q : Cutting y d at false s e p) where
+  module _ (s e : ℕ) (p : Bool) (q : CutAhead y d at s e p) where
     pub optional-here : begins t (part s e d) ≡ true → Optional y d at t (span s e)
     unfolding nextIf behindIf
     optional-here h =
-        let k : begins t (part at e d) ≡ true = rw (← q .starts) h in
-        let l : s < e = omega (arith, q .starts, q .some) in
-        record { shows = part-stands d (span s e) l ∙ rw (q .list, k, q .starts); behind = rw (q .list, k) }
+        record { shows = part-stands d (span s e) (q .some) ∙ rw (q .list, h); behind = rw (q .list, h) }
 
     pub optional-other : begins t (part s e d) ≡ false → Optional y d at t (span at at)
     unfolding nextIf behindIf
     optional-other h =
-        let k : begins t (part at e d) ≡ false = rw (← q .starts) h in
-        record { shows = part-missing d at ∙ rw (q .list, k); behind = rw (q .list, k) }
+        record { shows = part-missing d at ∙ rw (q .list, h); behind = rw (q .list, h) }
 
-  -- a segment has no tag that the bytes from its place on do not begin with
-  pub optional-unlike : begins t (part at (length d) d) ≡ false → Optional y d at t (span at at)
-  optional-unlike h = go (segmentAt y d at) refl
+  -- a segment has no tag that the bytes from its first one on do not begin with
+  pub optional-unlike : (place : ℕ) → place ≡ pastAt y d at → begins t (part place (length d) d) ≡ false → Optional y d at t (span at at)
+  optional-unlike place o h = go (segmentAt y d at) refl
     where
-      other : (s e : ℕ) (p : Bool) → Cutting y d at false s e p → (b : Bool) → begins t (part s e d) ≡ b → b ≡ false
+      other : (s e : ℕ) (p : Bool) → CutAhead y d at s e p → (b : Bool) → begins t (part s e d) ≡ b → b ≡ false
       other s e p q true k =
-          let l : begins t (part at e d) ≡ true = rw (← q .starts) k in
-          let m : begins t (part at (length d) d) ≡ true = rw (← part-parts d at e (length d) (omega (arith, q .some)) (q .fits))
-          (begins-more t (part at e d) (part e (length d) d) l) in
-          absurd (true≢false (sym m ∙ h))
+          let m : begins t (part s (length d) d) ≡ true = rw (← part-parts d s e (length d) (omega (arith, q .some)) (q .fits))
+          (begins-more t (part s e d) (part e (length d) d) k) in
+          absurd (true≢false (sym m ∙ ap (λ (i : ℕ). begins t (part i (length d) d)) (q .starts ∙ sym o) ∙ h))
       other s e p q false k = refl
 
       go : (c : Cut) → segmentAt y d at ≡ c → Optional y d at t (span at at)
       go cut.Nothing k = optional-none k
       go (cut.Segment s e p) k =
-          let q = cutting y d at false s e p k in
+          let q = cut-ahead y d at s e p k in
           optional-other s e p q (other s e p q (begins t (part s e d)) refl)
 
 -- the position whose LIN stands from start to end

@@ -11,7 +11,7 @@ use borrow.Author.Tests.{not-true}
 use Rattle.cut.specs.declared.service.Syntax.{Syntax}
 use Rattle.bytewise.specs.Bytes.{part}
 use Rattle.cut.specs.Segments.{Segment, segmentsAt}
-use Rattle.cut.proofs.First.{Cutting}
+use Rattle.cut.proofs.Ahead.{CutAhead}
 use Rattle.agree.specs.Agreement.{Heading, agree}
 use Rattle.agree.specs.Positions.{headingFrom, positionsFrom, agreesAny, firstAfter}
 use Rattle.agree.specs.workers.Parts.{headingsIn}
@@ -221,24 +221,24 @@ module _ (y : Syntax) (d : List ℕ) (at : ℕ) where
           go false = rw append-nil (k .marked)
 
     pub run-on
-        : (s e : ℕ) (p : Bool) → Cutting y d here false s e p → (r : Bool)
+        : (s e : ℕ) (p : Bool) → CutAhead y d here s e p → (r : Bool)
         → r ≡ isLin (part s e d) && agreesAny y (headingFrom (part s e d) (segmentsAt y d e)) inside → r ≡ false
         → (t′ : List ℕ) → t′ ≡ cond r t (notedIn y d e (part s e d) t) → Growing y d at t′ (n + 1) e
     unfolding notedIn
     run-on s e p q r is f t′ w =
         let m : t′ ≡ notedIn y d e (part s e d) t = rw f at w in
-        let next : Segment = record { start = here; bytes = part here e d; piece = p } in
+        let next : Segment = record { start = s; bytes = part s e d; piece = p } in
         let l : drop n (segmentsAt y d at) ≡ next ∷ segmentsAt y d e = k .passed ∙ q .list in
         let o = headings-next n (segmentsAt y d at) next (segmentsAt y d e) l in
-        let a : isLin (next .bytes) && agreesAny y (headingFrom (next .bytes) (segmentsAt y d e)) inside ≡ false = rw (← q .starts) (sym is ∙ f) in
+        let a : isLin (next .bytes) && agreesAny y (headingFrom (next .bytes) (segmentsAt y d e)) inside ≡ false = sym is ∙ f in
         record {
           is =
               record {
                 passed = sym (drop-drop 1 n (segmentsAt y d at)) ∙ ap (λ (ss : List Segment). drop 1 ss) l;
-                few = omega (arith, k .few, q .some);
+                few = omega (arith, k .few, q .later, q .some);
                 fits = omega (arith, q .fits);
                 apart = rw o (more-apart next (segmentsAt y d e) a);
-                marked = rw (o, m, q .starts) (more-marked next (segmentsAt y d e) a);
+                marked = rw (o, m) (more-marked next (segmentsAt y d e) a);
               };
           size = ap length m ∙ noted-length y d t (part s e d) e ∙ g .size;
         }

@@ -75,7 +75,7 @@ module _ (y : Syntax) (d : List ℕ) (start k : ℕ) where
       pub seeking-some : (at < e) × (e ≤ length d)
       seeking-some =
           let q = took .cuts in
-          (q .some, q .fits)
+          (omega (arith, q .later, q .some), q .fits)
 
       -- the price of this segment, if it gives one, and those behind it
       abbrev here-price : Listed
@@ -93,7 +93,7 @@ module _ (y : Syntax) (d : List ℕ) (start k : ℕ) where
         seeking-found t =
             let q = took .cuts in
             let w : here-price ∷ left-prices ≡ wanted = sym (finds kind left here-price left-prices (sym found ∙ t)) ∙ all-left in
-            subst (λ (qs : List Listed). HeldFirst start d qs p) w (i .stands .holds, omega (arith, i .stands .ends, q .some, q .fits))
+            subst (λ (qs : List Listed). HeldFirst start d qs p) w (i .stands .holds, omega (arith, i .stands .ends, q .later, q .some, q .fits))
 
         module _ (f : b ≡ false) (n : ℕ) (adds : n ≡ addBy kind) where
           pub seeking-less : n ≤ left

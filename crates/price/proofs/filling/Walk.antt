@@ -33,8 +33,6 @@ use Rattle.price.proofs.spots.Steps.{
   standing-on,
   standing-within,
   this,
-  this-starts,
-  this-bytes,
   price,
   behind,
   step,
@@ -171,20 +169,20 @@ module _ (y : Syntax) (d : List ℕ) (start k : ℕ) where
       pub filling-place : (start ≤ s) × (s ≤ length d)
       filling-place =
           let q = took .cuts in
-          (omega (arith, i .stands .from, i .stands .to, q .starts), omega (arith, q .some, q .fits, q .starts))
+          (omega (arith, i .stands .from, i .stands .to, q .later), omega (arith, q .some, q .fits))
 
       pub filling-few : (n : ℕ) → n ≡ addBy kind → seen + n ≤ length d
       filling-few n h =
           let q = took .cuts in
-          omega (arith, h, few-next kind seen (i .at) e (i .few) (q .some), q .fits)
+          omega (arith, h, few-next kind seen (i .at) e (i .few) (omega (arith, q .later, q .some)), q .fits)
 
       module _ (next : Spot) (then : next ≡ headSpot (segmentsAt y d e)) where
         pub filling-next : length d < 2 ^ 63 → NextWithin start next
         filling-next l =
             let q = took .cuts in
             record {
-              from = λ a b c f. let z = spotted y d e a b c (sym f ∙ then) .cuts in omega (arith, z .starts, q .some, i .stands .from, i .stands .to);
-              fits = λ a b c f. let z = spotted y d e a b c (sym f ∙ then) .cuts in omega (arith, z .starts, z .some, z .fits);
+              from = λ a b c f. let z = spotted y d e a b c (sym f ∙ then) .cuts in omega (arith, z .later, q .later, q .some, i .stands .from, i .stands .to);
+              fits = λ a b c f. let z = spotted y d e a b c (sym f ∙ then) .cuts in omega (arith, z .some, z .fits);
             }
 
         pub filling-less : leftTo d next < leftTo d spot
@@ -196,7 +194,7 @@ module _ (y : Syntax) (d : List ℕ) (start k : ℕ) where
             go (At a b c) f =
                 let q = took .cuts in
                 let z = spotted y d e a b c (sym f ∙ then) .cuts in
-                omega (arith, q .starts, q .some, q .fits, z .starts)
+                omega (arith, q .some, q .fits, z .later)
 
         pub filling-on
             : (row′ : List ℤ) (n : ℕ) (p′ : Held) → row′ ≡ putFound kind k seen (numbersOf y start (listedIn d p s e next)) row → length row′ ≡ length row
@@ -208,8 +206,7 @@ module _ (y : Syntax) (d : List ℕ) (start k : ℕ) where
             let left = behind y d (i .at) s kind e took start p (i .lin) (i .stands) in
             let on = step y d (i .at) s kind e took start p (i .lin) (i .stands) in
             let g =
-            numbers-here y d start p (i .lin) here s e (segmentsAt y d e) next (i .stands .holds) (this-starts y d (i .at) s kind e took)
-            (this-bytes y d (i .at) s kind e took) then in
+            numbers-here y d start p (i .lin) here s e (segmentsAt y d e) next (i .stands .holds) refl refl then in
             let o : row′ ≡ putFound kind k seen (numbersOf y start found) row = rw g a in
             rw (c, f)
             (record {
@@ -220,5 +217,5 @@ module _ (y : Syntax) (d : List ℕ) (start k : ℕ) where
               total = sym (count-next kind found left seen) ∙ rw on at (i .total);
               filled = rw o (sym (fill-next y start k seen row found left kind) ∙ rw on at (i .filled));
               size = b ∙ i .size;
-              few = few-next kind seen (i .at) e (i .few) (q .some);
+              few = few-next kind seen (i .at) e (i .few) (omega (arith, q .later, q .some));
             })

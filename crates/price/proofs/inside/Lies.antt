@@ -1,16 +1,16 @@
 -- Where the prices of a message lie: within it.
 use Prim.Native.Nat.{ℕ, _+_, _-_, _≤_, _<_, min, max}
-use mathlib.Core.Path.{_≡_, refl, sym, subst, _∙_}
+use mathlib.Core.Path.{_≡_, refl, sym, ap, subst, _∙_}
 use mathlib.Core.Bool.{Bool, false}
 use mathlib.Core.List.{List, [], _∷_}
 use native.Mathlib.Omega.{arith}
 use native.Mathlib.Decide.{decLe}
-use lib.ListN.{length, drop, length-drop}
-use lib.Seq.{drop-drop}
+use lib.ListN.{length, drop}
 use Rattle.cut.specs.declared.service.Syntax.{Syntax}
 use Rattle.bytewise.specs.Bytes.{part}
-use Rattle.cut.specs.Segments.{Segment, endOf, segmentsFrom}
-use Rattle.cut.proofs.First.{First, first}
+use Rattle.cut.specs.Segments.{Segment, endOf, segmentsOf, segmentsAt}
+use Rattle.cut.proofs.Skips.{segments-of-none}
+use Rattle.cut.proofs.Ahead.{first-ahead}
 use Rattle.bytewise.proofs.Parts.{part-none, part-part, length-part}
 use Rattle.element.specs.Components.{componentAt, spanIn}
 use Rattle.element.proofs.ComponentFace as face
@@ -34,18 +34,6 @@ pub record Stands (d : List ℕ) (a z : ℕ) (s : Segment) : Type 0 where
   pub lies : Lies d a z s
   pub some : 0 < length (s .bytes)
 
-lies-first
-    : (y : Syntax) (d : List ℕ) (at : ℕ) (r : Bool) (s : Segment) (ss : List Segment) → First y at r (drop at d) s ss → Lies d at (length d) s
-unfolding part
-lies-first y d at r s ss f =
-    let n = rw (length-drop at d) at (f .fits) in
-    let k : endOf s - s .start ≡ length (s .bytes) = omega arith in
-    record {
-      from = omega (arith, f .starts);
-      to = omega (arith, f .starts, f .some);
-      bytes = rw (k, f .starts) (f .bytes);
-    }
-
 each-from : (d : List ℕ) (a b z : ℕ) (ss : List Segment) → a ≤ b → Each (Stands d b z) ss → Each (Stands d a z) ss
 unfolding Each
 each-from d a b z [] h e = tt
@@ -54,16 +42,13 @@ each-from d a b z (s ∷ ss) h e =
     (record { lies = record { from = omega (arith, l .from); to = l .to; bytes = l .bytes }; some = e .0 .some }, each-from d a b z ss h (e .1))
 
 -- the segments from a place on
-segments-lie : (y : Syntax) (d : List ℕ) (at : ℕ) (r : Bool) (ss : List Segment) → segmentsFrom y at r (drop at d) ≡ ss → Each (Stands d at (length d)) ss
+segments-lie : (y : Syntax) (d : List ℕ) (at : ℕ) (ss : List Segment) → segmentsAt y d at ≡ ss → Each (Stands d at (length d)) ss
 unfolding Each
-segments-lie y d at r [] h = tt
-segments-lie y d at r (s ∷ ss) h =
-    let f = first y at r (drop at d) s ss h in
-    let behind = at + length (s .bytes) in
-    let e : segmentsFrom y behind false (drop behind d) ≡ ss = rw (← drop-drop (length (s .bytes)) at d) (sym (f .rest)) in (
-      record { lies = lies-first y d at r s ss f; some = f .some },
-      each-from d at (at + length (s .bytes)) (length d) ss (omega arith)
-          (segments-lie y d (at + length (s .bytes)) false ss e),
+segments-lie y d at [] h = tt
+segments-lie y d at (s ∷ ss) h =
+    let f = first-ahead y d at s ss h in (
+      record { lies = record { from = f .later; to = f .fits; bytes = f .bytes }; some = omega (arith, f .some) },
+      each-from d at (endOf s) (length d) ss (omega (arith, f .later, f .some)) (segments-lie y d (endOf s) ss (sym (f .rest))),
     )
 
 -- a price whose segments stand in d between the places a and z
@@ -125,28 +110,28 @@ module _ (y : Syntax) (d : List ℕ) (start end : ℕ) where
   abbrev pub close : ℕ
   close = min end (length d)
 
-  segments-in : start ≤ close → Each (Stands d start close) (segmentsFrom y start false (part start end d))
+  segments-in : start ≤ close → Each (Stands d start close) (segmentsOf y start (part start end d))
   segments-in h =
       let l : length (part 0 close d) ≡ close = length-part d 0 close (omega arith) ∙ omega arith in
       let z : 0 + start ≡ start = omega arith in
       let p : drop start (part 0 close d) ≡ part start end d = drop-part d 0 close start (omega arith) (omega arith) ∙ rw z (limited d start end close refl) in
       each-front d close start _ (omega arith)
-      (subst (λ (m : ℕ). Each (Stands (part 0 close d) start m) (segmentsFrom y start false (part start end d))) l
-      (segments-lie y (part 0 close d) start false _ (rw p)))
+      (subst (λ (m : ℕ). Each (Stands (part 0 close d) start m) (segmentsOf y start (part start end d))) l
+      (segments-lie y (part 0 close d) start _ (ap (segmentsOf y start) p)))
 
   -- the prices of a message lie in it
   pub prices-in-lie : Each (PriceLies d start close) (pricesIn y d start end)
-  unfolding pricesIn pricesOf pricesFrom segmentsFrom Each
+  unfolding pricesIn pricesOf pricesFrom Each
   prices-in-lie = go (decLe start close)
     where
-      go : Dec (start ≤ close) → Each (PriceLies d start close) (pricesFrom 0 (noLin start) (segmentsFrom y start false (part start end d)))
+      go : Dec (start ≤ close) → Each (PriceLies d start close) (pricesFrom 0 (noLin start) (segmentsOf y start (part start end d)))
       go (yes h) =
           let e : start + 0 ≤ start = omega arith in
-          prices-lie d start close 0 (noLin start) (segmentsFrom y start false (part start end d))
+          prices-lie d start close 0 (noLin start) (segmentsOf y start (part start end d))
           (record { from = omega arith; to = omega arith; bytes = sym (part-none d start (start + 0) e) }) (segments-in h)
       go (no h) =
           let n : part start end d ≡ [] = sym (limited d start end close refl) ∙ part-none d start close (omega arith) in
-          rw n tt
+          rw (n, segments-of-none y start) tt
 
 -- the article of a price lies in its LIN
 pub article-lies

@@ -11,7 +11,8 @@ use lib.Dec.{ltb}
 use borrow.Author.Tests.{lt-ltb, le-ltb}
 use Rattle.cut.specs.declared.service.Syntax.{Syntax}
 use Rattle.bytewise.specs.Bytes.{part}
-use Rattle.cut.specs.Segments.{segmentsFrom, segmentsAt}
+use Rattle.cut.specs.Segments.{segmentsAt}
+use Rattle.cut.proofs.Skips.{segments-of-none}
 use Rattle.bytewise.proofs.Parts.{part-part, length-part}
 use Rattle.element.specs.Components.{componentAt, spanIn}
 use Rattle.element.specs.declared.components.Span.{Span}
@@ -84,12 +85,12 @@ module _ (y : Syntax) (d : List ℕ) (start end : ℕ) where
 
     -- behind the delivery's end there are no prices
     pub article-past : length d < start → empty (length d) ≡ articleAt y d start end k
-    unfolding articleAt firstArticle pricesIn pricesOf pricesFrom segmentsFrom part
+    unfolding articleAt firstArticle pricesIn pricesOf pricesFrom part
     article-past h =
         let l : length d ≤ start = omega arith in
         let n : drop start d ≡ [] = drop-of-length-le d l in
         let m : min start (length d) ≡ length d = omega arith in
-        rw (n, take-nil (end - start), drop-nil k, m)
+        rw (n, take-nil (end - start), segments-of-none y start, drop-nil k, m)
 
     module _ (p : Held) (s : Span) (inside : start ≤ length d) (held : HeldAt start d k (pricesIn y d start end) p)
         (is : s ≡ componentAt y d (p .start) (p .end) 3 0) where

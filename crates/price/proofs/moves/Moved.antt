@@ -12,9 +12,9 @@ use lib.IntN.{ℤ}
 use borrow.Author.Tests.{lt-ltb, le-ltb}
 use Rattle.cut.specs.declared.service.Syntax.{Syntax}
 use Rattle.bytewise.specs.Bytes.{part}
-use Rattle.cut.specs.Segments.{Segment, segmentsFrom}
+use Rattle.cut.specs.Segments.{Segment, segmentsOf}
 use Rattle.cut.specs.Fronts.{moved}
-use Rattle.cut.proofs.Appended.{segments-moved}
+use Rattle.cut.proofs.Moving.{segments-moved}
 use Rattle.element.specs.Elements.{elements}
 use Rattle.element.specs.Components.{Component, endOf, inElement, width, inElements, components, spanIn}
 use Rattle.element.specs.declared.components.Span.{Span}
@@ -153,7 +153,7 @@ map-same f g h e (x ∷ xs) = ap₂ _∷_ (e x) (map-same f g h e xs)
 module _ (y : Syntax) (d d′ : List ℕ) (k start end : ℕ) (bytes : part (k + start) (k + end) d′ ≡ part start end d) where
   pub prices-later : pricesIn y d′ (k + start) (k + end) ≡ map (laterPrice k) (pricesIn y d start end)
   unfolding pricesIn
-  prices-later = rw (bytes, segments-moved y k start false (part start end d)) (prices-moved k start (segmentsFrom y start false (part start end d)))
+  prices-later = rw (bytes, segments-moved y k start (part start end d)) (prices-moved k start (segmentsOf y start (part start end d)))
 
   numbers-later : (n : ℕ) → numbersFrom y (k + start) n (pricesIn y d′ (k + start) (k + end)) ≡ numbersFrom y start n (pricesIn y d start end)
   unfolding numbersFrom

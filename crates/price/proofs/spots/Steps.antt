@@ -53,7 +53,7 @@ number-next Other p s e = refl
 
 standing-next
     : (d : List ℕ) (start : ℕ) (p : Held) (lin t : Segment) (at s e : ℕ) (k : Kind) → Standing d start at p lin → t .start ≡ s → t .bytes ≡ part s e d
-    → s ≡ at → at < e → Standing d start e (movedBy k p s e) (linBy k t lin)
+    → at ≤ s → s < e → Standing d start e (movedBy k p s e) (linBy k t lin)
 standing-next d start p lin t at s e Lin w a b z l =
     record {
       holds = record { starts = a; bytes = b };
@@ -72,24 +72,18 @@ standing-next d start p lin t at s e Other w a b z l =
 module _ (y : Syntax) (d : List ℕ) (at s : ℕ) (kind : Kind) (e : ℕ) (q : Spotted y d at s kind e) where
   -- the segment that stands there
   abbrev pub this : Segment
-  this = record { start = at; bytes = part at e d; piece = q .piece }
-
-  pub this-starts : this .start ≡ s
-  this-starts = sym (q .cuts .starts)
-
-  pub this-bytes : this .bytes ≡ part s e d
-  this-bytes = rw (q .cuts .starts)
+  this = record { start = s; bytes = part s e d; piece = q .piece }
 
   module _ (start : ℕ) (p : Held) (lin : Segment) (w : Standing d start at p lin) where
     pub standing-on : Standing d start e (movedBy kind p s e) (linBy kind this lin)
     standing-on =
         let c = q .cuts in
-        standing-next d start p lin this at s e kind w this-starts this-bytes (c .starts) (c .some)
+        standing-next d start p lin this at s e kind w refl refl (c .later) (c .some)
 
     pub standing-within : Within start p d
     standing-within =
         let c = q .cuts in
-        record { number = omega (arith, w .number, c .some, c .fits); from = w .from; to = omega (arith, w .to, c .some, c .fits) }
+        record { number = omega (arith, w .number, c .later, c .some, c .fits); from = w .from; to = omega (arith, w .to, c .later, c .some, c .fits) }
 
     -- its price, if it gives one, and the prices behind it
     abbrev pub price : Listed
@@ -101,5 +95,4 @@ module _ (y : Syntax) (d : List ℕ) (at s : ℕ) (kind : Kind) (e : ℕ) (q : S
     pub step : pricesFrom (p .number) lin (segmentsAt y d at) ≡ priceBy kind price behind
     step =
         let c = q .cuts in
-        let f : kindOf (part at e d) ≡ kind = rw (← c .starts) (sym (q .kind)) in
-        ap (pricesFrom (p .number) lin) (c .list) ∙ prices-next (p .number) lin this (segmentsAt y d e) kind f ∙ rw (number-next kind p s e)
+        ap (pricesFrom (p .number) lin) (c .list) ∙ prices-next (p .number) lin this (segmentsAt y d e) kind (sym (q .kind)) ∙ rw (number-next kind p s e)

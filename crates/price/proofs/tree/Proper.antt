@@ -12,7 +12,8 @@ use lib.IntN.{ℤ, pos}
 use borrow.Author.Tests.{lt-ltb}
 use Rattle.cut.specs.declared.service.Syntax.{Syntax}
 use Rattle.bytewise.specs.Bytes.{bytesOf, part}
-use Rattle.cut.specs.Segments.{Segment, endOf, segmentsFrom}
+use Rattle.cut.specs.Segments as cut
+use Rattle.cut.specs.Segments.{Segment, endOf}
 use Rattle.messages.specs.Messages.{Message}
 use Rattle.bytewise.proofs.Parts.{part-none}
 use Rattle.element.specs.Elements.{component}
@@ -139,11 +140,11 @@ module _ (y : Syntax) (g : Guide) (pages : ℕ → Page) (t : Priced g) (w : Pri
 
   -- every price of a proper message
   pub prices-exact
-      : (d : List ℕ) (start end : ℕ) (m : Message) → segmentsFrom y start false (part start end d) ≡ segmentsOf m → Proper y g pages m
+      : (d : List ℕ) (start end : ℕ) (m : Message) → cut.segmentsOf y start (part start end d) ≡ segmentsOf m → Proper y g pages m
       → Each (Exact y start) (pricesIn y d start end)
   unfolding pricesIn
   prices-exact d start end m e p =
-      let q : pricesOf start (segmentsFrom y start false (part start end d)) ≡ pricesInTree g (p .sheet .tree) =
+      let q : pricesOf start (cut.segmentsOf y start (part start end d)) ≡ pricesInTree g (p .sheet .tree) =
       ap (pricesOf start) e ∙ prices-tree y g t start (segmentsOf m) (p .sheet) in
       each-exact d start (min end (length d)) (pricesIn y d start end) (prices-in-lie y d start end)
       (subst (Each (Comes g Page-holds)) (sym q) (tree-come g Page-holds (p .sheet .tree) (p .holds)))

@@ -1,6 +1,6 @@
 -- Which edition a message names, and its verdict by that edition's guide.
 use Prim.Native.Nat.{ℕ}
-use mathlib.Core.Path.{_≡_, refl, _∙_}
+use mathlib.Core.Path.{_≡_, refl, sym, _∙_, ap}
 use mathlib.Core.Bool.{Bool, true, false}
 use mathlib.Core.List.{List, [], _∷_}
 use native.Mathlib.Nat.{le-refl}
@@ -10,9 +10,10 @@ use Rattle.cut.specs.declared.scan.Cut.the-variants as cut
 use Rattle.cut.specs.declared.service.Syntax.{Syntax}
 use Rattle.bytewise.specs.Bytes.{bytesOf, part}
 use Rattle.messages.specs.Held.{held}
-use Rattle.cut.specs.Calls.{cutAt}
-use Rattle.cut.specs.Segments.{Segment, segmentsFrom, segmentsAt}
+use Rattle.cut.specs.Calls.{cutAt, segmentAt}
+use Rattle.cut.specs.Segments.{Segment, segmentsFrom, segmentsAt, pastAt}
 use Rattle.cut.proofs.First.{some-segment, cutting, nothing}
+use Rattle.cut.proofs.Ahead.{segment-past, CutAhead, cut-ahead, none-ahead}
 use Rattle.element.specs.Elements.{elements, component}
 use Rattle.plain.specs.Plain.{plain, same}
 use Rattle.element.proofs.Cuts.{component-cut}
@@ -47,24 +48,28 @@ no-named : (y : Syntax) (ss : List Segment) → ss ≡ [] → D ≡ editionOf y 
 unfolding editionOf held
 no-named y ss h = rw h
 
-none-names : (y : Syntax) (d : List ℕ) (at : ℕ) → cutAt y d at ≡ cut.Nothing → editionIn y (part at (length d) d) ≡ editionOf y (held (segmentsAt y d at))
-none-names y d at h =
-    let none = nothing y d at false h in
-    no-name y _ (part-out d at (length d) (le-refl (length d)) ∙ no-bytes y at (drop at d) none) ∙ no-named y _ none
+module _ (y : Syntax) (d : List ℕ) (at s : ℕ) (o : s ≡ pastAt y d at) where
+  abbrev named : Type 0
+  named = editionIn y (part s (length d) d) ≡ editionOf y (held (segmentsAt y d at))
 
-first-names
-    : (y : Syntax) (d : List ℕ) (at s e : ℕ) (p : Bool) → cutAt y d at ≡ cut.Segment s e p
-    → editionIn y (part at (length d) d) ≡ editionOf y (held (segmentsAt y d at))
-unfolding editionIn editionOf held text
-first-names y d at s e p h = rw (cutting y d at false s e p h .list, component-cut y d at s e p h 2 4)
+  none-names : cutAt y d s ≡ cut.Nothing → segmentsAt y d at ≡ [] → named
+  none-names h e =
+      no-name y _ (part-out d s (length d) (le-refl (length d)) ∙ no-bytes y s (drop s d) (nothing y d s false h)) ∙ no-named y _ e
 
--- what the bytes from a place on name is what the first segment among them names
-pub edition-cut : (y : Syntax) (d : List ℕ) (at : ℕ) → editionIn y (part at (length d) d) ≡ editionOf y (held (segmentsAt y d at))
-edition-cut y d at = go (cutAt y d at) refl
-  where
-    go : (c : Cut) → cutAt y d at ≡ c → editionIn y (part at (length d) d) ≡ editionOf y (held (segmentsAt y d at))
-    go cut.Nothing h = none-names y d at h
-    go (cut.Segment s e p) h = first-names y d at s e p h
+  first-names : (a e : ℕ) (p : Bool) → cutAt y d s ≡ cut.Segment a e p → CutAhead y d at a e p → named
+  unfolding editionIn editionOf held text
+  first-names a e p h q = rw (q .list, component-cut y d s a e p h 2 4, cutting y d s false a e p h .starts)
+
+  -- what the bytes behind the line breaks at a place name is what the first segment from there on names
+  pub edition-cut : named
+  edition-cut = go (segmentAt y d at) refl
+    where
+      here : segmentAt y d at ≡ cutAt y d s
+      here = segment-past y d at ∙ ap (cutAt y d) (sym o)
+
+      go : (c : Cut) → segmentAt y d at ≡ c → named
+      go cut.Nothing h = none-names (sym here ∙ h) (none-ahead y d at h)
+      go (cut.Segment a e p) h = first-names a e p (sym here ∙ h) (cut-ahead y d at a e p h)
 
 pub judged-named
     : (y : Syntax) (a : ℕ) (ss : List Segment) (ed : Edition) → ed ≡ editionOf y ss → (c : ℕ) (j : Judged)

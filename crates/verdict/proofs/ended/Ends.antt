@@ -7,9 +7,10 @@ use native.Mathlib.Omega.{arith}
 use lib.ListN.{length}
 use Rattle.cut.specs.declared.service.Syntax.{Syntax}
 use Rattle.bytewise.specs.Bytes.{bytesOf, part}
-use Rattle.cut.specs.Segments.{Segment, segmentsFrom, lastEnd}
+use Rattle.cut.specs.Segments.{Segment, segmentsOf, lastEnd}
 use Rattle.messages.specs.Held.{unless}
-use Rattle.cut.proofs.Starts.{Rising, segments-rising}
+use Rattle.cut.proofs.Chains.{segments-rising}
+use Rattle.cut.proofs.Starts.{Rising}
 use Rattle.guide.specs.Editions.{guideOf, pagesOf}
 use Rattle.guide.specs.Answers.{accepts, refuses}
 use Rattle.guide.specs.declared.edition.Edition.{Edition}
@@ -34,7 +35,7 @@ use Rattle.verdict.proofs.message.Until.{until-agrees}
 
 module _ (ed : Edition) (y : Syntax) (d : List ℕ) (start n at : ℕ) where
   abbrev ss : List Segment
-  ss = segmentsFrom y start false (part start at d)
+  ss = segmentsOf y start (part start at d)
 
   module _ (a : Agreeing) (is : a ≡ firstAgreeing y (positionsOf ss)) where
     -- a position agrees with an earlier one, and w is the walk up to it
@@ -47,7 +48,7 @@ module _ (ed : Edition) (y : Syntax) (d : List ℕ) (start n at : ℕ) where
       tells =
           told
           ∙ ap declared (until-agrees y (guideOf ed) (pagesOf ed) (heldAt y d start) n at start start i p
-          (subst (Rising start) (through .0) (segments-rising y start false (part start at d))) (through .1) named)
+          (subst (Rising start) (through .0) (segments-rising y start (part start at d))) (through .1) named)
 
       agreement-told : Refused 23 i p (numberOf (guideOf ed) (nodeOf y (guideOf ed) (heldAt y d start) i)) ≡ declared (agreementAt ed y d start n at)
       unfolding agreementAt unlessAgreeing

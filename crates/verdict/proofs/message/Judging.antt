@@ -11,7 +11,7 @@ use Rattle.cut.specs.declared.scan.Cut.the-variants as cut
 use Rattle.cut.specs.declared.service.Syntax.{Syntax}
 use Rattle.bytewise.specs.Bytes.{bytesOf, begins, part}
 use Rattle.cut.specs.Calls.{cutAt}
-use Rattle.cut.specs.Segments.{Segment, endOf, segmentsFrom, segmentsAt, lastEnd}
+use Rattle.cut.specs.Segments.{Segment, endOf, segmentsOf, segmentsAt, lastEnd}
 use Rattle.messages.specs.Held.{unless, held}
 use Rattle.cut.proofs.First.{Cutting, cutting}
 use Rattle.messages.proofs.Holding.{held-alone}
@@ -140,8 +140,8 @@ module _ (ed : Edition) (y : Syntax) (d : List ℕ) (start stop : ℕ) where
       unfolding lastEnd
       is-end = rw none at (p .closes)
 
-      alone : segmentsFrom y start false (part start at d) ≡ all
-      alone = ap (λ (e : ℕ). segmentsFrom y start false (part start e d)) is-end ∙ held-alone y d start
+      alone : segmentsOf y start (part start at d) ≡ all
+      alone = ap (λ (e : ℕ). segmentsOf y start (part start e d)) is-end ∙ held-alone y d start
 
       -- where there is no doubt, no position agrees with an earlier one
       none-agree : k .doubt ≡ false → NoneAgrees y d start at
@@ -164,26 +164,26 @@ module _ (ed : Edition) (y : Syntax) (d : List ℕ) (start stop : ℕ) where
       all-fit h = (λ far. ap₂ judgedAs (ap declared is-ended) is-end, ((h, (none-agree, (alone, is-judged))), ap declared (sym is-until)))
 
     -- the next segment, and the message's others after it, which its end tells
-    module _ (s e : ℕ) (piece : Bool) (cuts : cutAt y d at ≡ cut.Segment s e piece)
-        (rest : ℕ → List Segment) (next : ss ≡ segmentIn at e piece d ∷ rest e) where
+    module _ (s e : ℕ) (piece : Bool) (cuts : cutAt y d s ≡ cut.Segment s e piece) (later : at ≤ s)
+        (rest : ℕ → List Segment) (next : ss ≡ segmentIn s e piece d ∷ rest e) where
       abbrev here : Segment
-      here = segmentIn at e piece d
+      here = segmentIn s e piece d
 
-      abbrev q : Cutting y d at false s e piece
-      q = cutting y d at false s e piece cuts
+      abbrev q : Cutting y d s false s e piece
+      q = cutting y d s false s e piece cuts
 
       abbrev answer : Answer
       answer = segmentAnswer y (guideOf ed) (pagesOf ed) (suc n) (noted y k cs d) here
 
       judged-here
-          : decide y (guideOf ed) (pagesOf ed) (suc n) at answer
+          : decide y (guideOf ed) (pagesOf ed) (suc n) s answer
           (judgeFrom y (guideOf ed) (pagesOf ed) (suc n) (endOf here) (remember y (guideOf ed) (pagesOf ed) answer here (noted y k cs d)) (rest e))
           ≡ judgeFrom y (guideOf ed) (pagesOf ed) 0 start fresh all
       unfolding judgeFrom
       judged-here = rw next at (p .judged)
 
       until-here
-          : decideUntil y (guideOf ed) (pagesOf ed) stop (eqb at stop) (suc n) at answer
+          : decideUntil y (guideOf ed) (pagesOf ed) stop (eqb s stop) (suc n) s answer
           (judgeUntil y (guideOf ed) (pagesOf ed) stop (suc n) (endOf here) (remember y (guideOf ed) (pagesOf ed) answer here (noted y k cs d)) (rest e))
           ≡ untilStop
       unfolding judgeUntil
@@ -191,7 +191,7 @@ module _ (ed : Edition) (y : Syntax) (d : List ℕ) (start stop : ℕ) where
 
       ends : endOf here ≡ e
       ends =
-          let l : length (part at e d) ≡ e - at = length-part d at e (q .fits) in
+          let l : length (part s e d) ≡ e - s = length-part d s e (q .fits) in
           let h = q .some in
           rw l (omega arith)
 
@@ -199,26 +199,26 @@ module _ (ed : Edition) (y : Syntax) (d : List ℕ) (start stop : ℕ) where
       unfolding lastEnd
       more-closes = ap (λ (a : ℕ). lastEnd a (rest e)) (sym ends) ∙ (rw next at (p .closes))
 
-      module _ (r : Answered) (is : r ≡ cutAnswer ed y d at (placedAnswer ed y d (n + 1) k cs) (cutAt y d at)) where
-        is-answer : r ≡ answered ed y d at e answer
+      module _ (r : Answered) (is : r ≡ cutAnswer ed y d s (placedAnswer ed y d (n + 1) k cs) (cutAt y d s)) where
+        is-answer : r ≡ answered ed y d s e answer
         unfolding cutAnswer segmentAnswer
         is-answer =
             let z : n + 1 ≡ suc n = omega arith in
             is ∙ rw (cuts, z)
 
         is-refused
-            : (j m : ℕ) → answer ≡ refused j m → Refused j (n + 1) at (numberOf (guideOf ed) m) ≡ declared (verdictFrom y (guideOf ed) (pagesOf ed) start all)
+            : (j m : ℕ) → answer ≡ refused j m → Refused j (n + 1) s (numberOf (guideOf ed) m) ≡ declared (verdictFrom y (guideOf ed) (pagesOf ed) start all)
         unfolding verdictFrom settled
         is-refused j m a =
             let z : n + 1 ≡ suc n = omega arith in
             rw (← judged-here, a, z)
 
         pub passed-refused
-            : (j m t : ℕ) → r ≡ outcome.Refused j m t → (v : Told) → v ≡ Refused j (n + 1) at (numberOf (guideOf ed) m) → (c : ℕ)
+            : (j m t : ℕ) → r ≡ outcome.Refused j m t → (v : Told) → v ≡ Refused j (n + 1) s (numberOf (guideOf ed) m) → (c : ℕ)
             → c ≡ lastEnd t (rest t) → (o : Judged)
             → o ≡ judgedAs v c → Promised (walked.Refused o)
         passed-refused j m t h v u c l o g =
-            let a = answered-refused ed y d at e answer j m t (sym is-answer ∙ h) in
+            let a = answered-refused ed y d s e answer j m t (sym is-answer ∙ h) in
             let i : n + 1 ≡ suc n = omega arith in (
               λ far. g ∙ ap₂ judgedAs (u ∙ is-refused j m (a .0)) (l ∙ ap (λ (x : ℕ). lastEnd x (rest x)) (sym (a .1)) ∙ more-closes),
               (tt, ap (λ (x : Judged). x .verdict) g ∙ u ∙ rw (← until-here, a .0, i)),
@@ -226,29 +226,29 @@ module _ (ed : Edition) (y : Syntax) (d : List ℕ) (start stop : ℕ) where
 
         -- the walk ends at this one, which fits
         pub passed-stopped
-            : (f : Found) (u : ℕ) → r ≡ outcome.Fits f u → at ≡ stop → (w : Walked)
-            → w ≡ walked.Refused (judgedAs (Refused 23 (n + 1) at (numberOf (guideOf ed) (f .node))) u)
+            : (f : Found) (u : ℕ) → r ≡ outcome.Fits f u → s ≡ stop → (w : Walked)
+            → w ≡ walked.Refused (judgedAs (Refused 23 (n + 1) s (numberOf (guideOf ed) (f .node))) u)
             → Promised w
         passed-stopped f u h b w g =
-            let a = answered-fits ed y d at e answer f u (sym is-answer ∙ h) in
+            let a = answered-fits ed y d s e answer f u (sym is-answer ∙ h) in
             let i : n + 1 ≡ suc n = omega arith in
             let some = q .some in
             let fits = q .fits in
-            rw g (λ far. absurd (omega (arith, b)), (tt, rw (← until-here, a .0, eq-eqb at stop b, i)))
+            rw g (λ far. absurd (omega (arith, b)), (tt, rw (← until-here, a .0, eq-eqb s stop b, i)))
 
         module _ (f : Found) (u : ℕ) (taken : r ≡ outcome.Fits f u) (cs′ t′ : List ℕ) (k′ : Kept) (keeps : k′ ≡ keptAfter y d f k (k′ .doubt))
-            (notes : k′ .doubt ≡ false → UndoubtedBy y d f k t t′) (left : CountedOn ed r cs cs′) (goes : at ≡ stop → ⊥) where
+            (notes : k′ .doubt ≡ false → UndoubtedBy y d f k t t′) (left : CountedOn ed r cs cs′) (goes : s ≡ stop → ⊥) where
           abbrev m : ℕ
           m = f .node
 
-          fits : (answer ≡ placed m) × (f ≡ foundAt ed y d at e m) × (e ≡ u)
-          fits = answered-fits ed y d at e answer f u (sym is-answer ∙ taken)
+          fits : (answer ≡ placed m) × (f ≡ foundAt ed y d s e m) × (e ≡ u)
+          fits = answered-fits ed y d s e answer f u (sym is-answer ∙ taken)
 
           is-placed : answer ≡ placed m
           is-placed = fits .0
 
-          after-it : KeptAfter ed y d at e m k k′
-          after-it = kept-after ed y d at e m k (k′ .doubt) f (fits .1) k′ keeps
+          after-it : KeptAfter ed y d s e m k k′
+          after-it = kept-after ed y d s e m k (k′ .doubt) f (fits .1) k′ keeps
 
           sound : (bytesFault y here ≡ 0) × (sought ed y (suc n) (noted y k cs d) here ≡ placed m)
           sound = answer-placed ed y (suc n) (noted y k cs d) here m is-placed
@@ -267,7 +267,7 @@ module _ (ed : Edition) (y : Syntax) (d : List ℕ) (start stop : ℕ) where
           more-until : judgeUntil y (guideOf ed) (pagesOf ed) stop (suc n) e (noted y k′ cs′ d) (rest e) ≡ untilStop
           more-until =
               ap₂ (λ (a : ℕ) (v : Memory). judgeUntil y (guideOf ed) (pagesOf ed) stop (suc n) a v (rest e)) (sym ends) (sym is-kept)
-              ∙ (rw (is-placed, ne-eqb at stop goes) at until-here)
+              ∙ (rw (is-placed, ne-eqb s stop goes) at until-here)
 
           more-document : k′ .intervals || aheadFor (rest e) k′ cs′ ≡ forIntervals y (guideOf ed) (nodesOf y (guideOf ed) all) all
           unfolding lastAfter given forIntervals
@@ -280,7 +280,7 @@ module _ (ed : Edition) (y : Syntax) (d : List ℕ) (start stop : ℕ) where
               given-begins ed y here (k .last) cs m (sound .1) (bytesOf "LIN") refl ∙ sym (ap (λ (x : Found). isLin (x .role)) (fits .1) ∙ role-lin ed m)
 
           article : spanned y (f .third) d ≡ text y (here .bytes) 3 0
-          article = spanned-text y d at e 3 0 (f .third) (ap (λ (x : Found). x .third) (fits .1))
+          article = spanned-text y d s e 3 0 (f .third) (ap (λ (x : Found). x .third) (fits .1))
 
           more-sized : k′ .doubt ≡ false → length t′ ≡ 256
           more-sized h =

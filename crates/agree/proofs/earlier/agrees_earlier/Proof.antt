@@ -1,7 +1,7 @@
 -- `agree::earlier::agrees_earlier` meets its contract. The loop's invariant: the segments that are left give the answer.
 use mathlib.Core.Path.{_≡_, refl, sym, _∙_}
 use mathlib.Core.Bool.{false}
-use Rattle.cut.proofs.First.{Cutting, cutting, nothing}
+use Rattle.cut.proofs.Ahead.{CutAhead, cut-ahead, none-ahead}
 use Rattle.agree.specs.Positions.{agreesAny}
 use Rattle.cut.specs.Segments.{segmentsAt}
 use Rattle.agree.specs.workers.Parts.{headingIn, headingsIn}
@@ -19,10 +19,10 @@ abbrev μ-loop : tie.MeasureT-loop
 
 took
     : (c : tie.After-known-told Inv-loop μ-loop)
-    → Cutting (c .before .before .before .before .before .before .before .args .y)
-    (c .before .before .before .before .before .before .before .args .d .now) (c .before .before .before .before .before .loop .at) false
+    → CutAhead (c .before .before .before .before .before .before .before .args .y)
+    (c .before .before .before .before .before .before .before .args .d .now) (c .before .before .before .before .before .loop .at)
     (c .before .s .given .0 .0) (c .before .s .given .0 .1 .0) (c .before .s .given .0 .1 .1 .0)
-took c = cutting _ _ _ _ _ _ _ (sym (c .before .before .before .segment-at .ensures) ∙ c .before .s .given .1)
+took c = cut-ahead _ _ _ _ _ _ (sym (c .before .before .before .segment-at .ensures) ∙ c .before .s .given .1)
 
 loop-holds : tie.Need-loop-holds Inv-loop μ-loop
 loop-holds c = refl
@@ -38,7 +38,7 @@ enum-told c = search needs
 
 returns : tie.Need-returns Inv-loop μ-loop
 returns c =
-    sym (any-none (seeks-agree _ _) _ _ (nothing _ _ _ _ (sym (c .before .before .segment-at .ensures) ∙ c .enum-told .given .1)))
+    sym (any-none (seeks-agree _ _) _ _ (none-ahead _ _ _ (sym (c .before .before .segment-at .ensures) ∙ c .enum-told .given .1)))
     ∙ c .before .before .before .before .loop .inv
 
 agrees-at-requires : tie.Need-agrees-at-requires Inv-loop μ-loop

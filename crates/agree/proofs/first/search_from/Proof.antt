@@ -4,7 +4,7 @@ use mathlib.Core.Bool.{false}
 use mathlib.Core.Path.{sym, _∙_}
 use native.Mathlib.Omega.{arith}
 use lib.ListN.{length}
-use Rattle.cut.proofs.First.{Cutting, cutting, nothing}
+use Rattle.cut.proofs.Ahead.{CutAhead, cut-ahead, none-ahead}
 use Rattle.agree.specs.workers.Runs.{Searched}
 use Rattle.agree.proofs.earlier.Search.{search-none, search-found, search-on}
 use borrow.Author.Needs.{needs}
@@ -19,10 +19,10 @@ abbrev μ-loop : tie.MeasureT-loop
 
 took
     : (c : tie.After-known-told Inv-loop μ-loop)
-    → Cutting (c .before .before .before .before .before .before .args .y) (c .before .before .before .before .before .before .args .d .now)
-    (c .before .before .before .before .loop .at) false
+    → CutAhead (c .before .before .before .before .before .before .args .y) (c .before .before .before .before .before .before .args .d .now)
+    (c .before .before .before .before .loop .at)
     (c .before .s .given .0 .0) (c .before .s .given .0 .1 .0) (c .before .s .given .0 .1 .1 .0)
-took c = cutting _ _ _ _ _ _ _ (sym (c .before .before .before .segment-at .ensures) ∙ c .before .s .given .1)
+took c = cut-ahead _ _ _ _ _ _ (sym (c .before .before .before .segment-at .ensures) ∙ c .before .s .given .1)
 
 loop-holds : tie.Need-loop-holds Inv-loop μ-loop
 loop-holds c = c .before .pre
@@ -38,7 +38,7 @@ enum-told c = search needs
 
 returns : tie.Need-returns Inv-loop μ-loop
 returns c =
-    search-none _ _ _ _ _ (c .before .before .before .loop .inv) (nothing _ _ _ _ (sym (c .before .before .segment-at .ensures) ∙ c .enum-told .given .1))
+    search-none _ _ _ _ _ (c .before .before .before .loop .inv) (none-ahead _ _ _ (sym (c .before .before .segment-at .ensures) ∙ c .enum-told .given .1))
 
 repeats-requires : tie.Need-repeats-requires Inv-loop μ-loop
 repeats-requires c κs =

@@ -2,7 +2,7 @@
 use mathlib.Core.Path.{sym, _∙_}
 use mathlib.Core.Bool.{false}
 use borrow.Author.Tests.{not-true}
-use Rattle.cut.proofs.First.{Cutting, cutting}
+use Rattle.cut.proofs.Ahead.{CutAhead, cut-ahead}
 use Rattle.agree.proofs.headings.Heads.{optional-none, optional-here, optional-other, optional-unlike}
 use borrow.Author.Needs.{needs}
 use Rattle.agree.proofs.headings.optional_at.Statement.{statement}
@@ -10,16 +10,19 @@ use Rattle.agree.proofs.headings.optional_at.Tie as tie
 
 took
     : (c : tie.After-known-told)
-    → Cutting (c .before .before .before .before .before .before .before .args .y)
-    (c .before .before .before .before .before .before .before .args .d .now) (c .before .before .before .before .before .before .before .args .at) false
+    → CutAhead (c .before .before .before .before .before .before .before .before .args .y)
+    (c .before .before .before .before .before .before .before .before .args .d .now) (c .before .before .before .before .before .before .before .before .args .at)
     (c .before .s .given .0 .0) (c .before .s .given .0 .1 .0) (c .before .s .given .0 .1 .1 .0)
-took c = cutting _ _ _ _ _ _ _ (sym (c .before .before .before .segment-at .ensures) ∙ c .before .s .given .1)
+took c = cut-ahead _ _ _ _ _ _ (sym (c .before .before .before .segment-at .ensures) ∙ c .before .s .given .1)
+
+past-breaks-requires : tie.Need-past-breaks-requires
+past-breaks-requires c κs = search needs
 
 stands-at-requires : tie.Need-stands-at-requires
 stands-at-requires c κs = search needs
 
 returns : tie.Need-returns
-returns c = optional-unlike _ _ _ _ (sym (c .before .stands-at .ensures) ∙ not-true _ (c .if1 .taken))
+returns c = optional-unlike _ _ _ _ _ (c .before .before .past-breaks .ensures) (sym (c .before .stands-at .ensures) ∙ not-true _ (c .if1 .taken))
 
 segment-at-requires : tie.Need-segment-at-requires
 segment-at-requires c κs = search needs
@@ -50,6 +53,7 @@ pub optional-at-spec : {M : Type 1} → statement M
 optional-at-spec =
     tie.close
     (tie.spec
+    past-breaks-requires
     stands-at-requires
     returns
     segment-at-requires

@@ -3,7 +3,7 @@ use borrow.Author.Needs.{needs}
 use mathlib.Core.Path.{_≡_, refl, sym, _∙_}
 use mathlib.Core.Bool.{false}
 use native.Mathlib.Omega.{arith}
-use Rattle.cut.proofs.First.{Cutting, cutting, nothing}
+use Rattle.cut.proofs.Ahead.{CutAhead, cut-ahead, none-ahead}
 use Rattle.cut.specs.Segments.{segmentsAt}
 use Rattle.agree.specs.workers.Parts.{headingsIn}
 use Rattle.agree.specs.workers.Runs.{meets}
@@ -21,10 +21,10 @@ abbrev μ-loop : tie.MeasureT-loop
 
 took
     : (c : tie.After-known-told Inv-loop μ-loop)
-    → Cutting (c .before .before .before .before .before .before .before .args .y)
-    (c .before .before .before .before .before .before .before .args .d .now) (c .before .before .before .before .before .loop .here) false
+    → CutAhead (c .before .before .before .before .before .before .before .args .y)
+    (c .before .before .before .before .before .before .before .args .d .now) (c .before .before .before .before .before .loop .here)
     (c .before .s .given .0 .0) (c .before .s .given .0 .1 .0) (c .before .s .given .0 .1 .1 .0)
-took c = cutting _ _ _ _ _ _ _ (sym (c .before .before .before .segment-at .ensures) ∙ c .before .s .given .1)
+took c = cut-ahead _ _ _ _ _ _ (sym (c .before .before .before .segment-at .ensures) ∙ c .before .s .given .1)
 
 loop-holds : tie.Need-loop-holds Inv-loop μ-loop
 loop-holds c = refl
@@ -40,13 +40,13 @@ enum-told c = search needs
 
 returns : tie.Need-returns Inv-loop μ-loop
 returns c =
-    sym (any-none (seeks-meet _ _) _ _ (nothing _ _ _ _ (sym (c .before .before .segment-at .ensures) ∙ c .enum-told .given .1)))
+    sym (any-none (seeks-meet _ _) _ _ (none-ahead _ _ _ (sym (c .before .before .segment-at .ensures) ∙ c .enum-told .given .1)))
     ∙ c .before .before .before .before .loop .inv
 
 agrees-in-requires : tie.Need-agrees-in-requires Inv-loop μ-loop
 agrees-in-requires c κs =
     let q = took c in
-    ((omega (arith, q .starts, q .some), q .fits), c .before .before .before .before .before .before .before .pre)
+    ((omega (arith, q .some), q .fits), c .before .before .before .before .before .before .before .pre)
 
 returns-2 : tie.Need-returns-2 Inv-loop μ-loop
 returns-2 c =

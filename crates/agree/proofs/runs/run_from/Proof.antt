@@ -5,7 +5,7 @@ use mathlib.Core.Path.{sym, _∙_}
 use mathlib.Core.Bool.{false}
 use native.Mathlib.Omega.{arith}
 use lib.ListN.{length}
-use Rattle.cut.proofs.First.{Cutting, cutting}
+use Rattle.cut.proofs.Ahead.{CutAhead, cut-ahead}
 use Rattle.agree.proofs.runs.Running.{Growing, run-begins, run-stops, run-on}
 use Rattle.agree.proofs.runs.run_from.Statement.{statement}
 use Rattle.agree.proofs.runs.run_from.Tie as tie
@@ -18,10 +18,10 @@ abbrev μ-loop : tie.MeasureT-loop
 
 took
     : (c : tie.After-known-told Inv-loop μ-loop)
-    → Cutting (c .before .before .before .before .before .before .before .args .y)
-    (c .before .before .before .before .before .before .before .args .d .now) (c .before .before .before .before .before .loop .here) false
+    → CutAhead (c .before .before .before .before .before .before .before .args .y)
+    (c .before .before .before .before .before .before .before .args .d .now) (c .before .before .before .before .before .loop .here)
     (c .before .s .given .0 .0) (c .before .s .given .0 .1 .0) (c .before .s .given .0 .1 .1 .0)
-took c = cutting _ _ _ _ _ _ _ (sym (c .before .before .before .segment-at .ensures) ∙ c .before .s .given .1)
+took c = cut-ahead _ _ _ _ _ _ (sym (c .before .before .before .segment-at .ensures) ∙ c .before .s .given .1)
 
 loop-holds : tie.Need-loop-holds Inv-loop μ-loop
 loop-holds c = run-begins _ _ _ _ (c .before .pre)
@@ -41,7 +41,7 @@ returns c = c .before .before .before .before .loop .inv .is
 join-requires : tie.Need-join-requires Inv-loop μ-loop
 join-requires c κs =
     let q = took (c .before) in
-    ((omega (arith, q .starts, q .some), q .fits), c .before .before .before .before .before .before .loop .inv .is .marked)
+    ((omega (arith, q .some), q .fits), c .before .before .before .before .before .before .loop .inv .is .marked)
 
 returns-2 : tie.Need-returns-2 Inv-loop μ-loop
 returns-2 c =
@@ -50,12 +50,12 @@ returns-2 c =
 add-n : tie.Need-add-n Inv-loop μ-loop
 add-n c =
     let q = took (c .before .before .before) in
-    omega (arith, q .some, c .before .before .before .before .before .before .before .before .loop .inv .is .few)
+    omega (arith, q .later, q .some, c .before .before .before .before .before .before .before .before .loop .inv .is .few)
 
 loop-less : tie.Need-loop-less Inv-loop μ-loop
 loop-less c =
     let q = took (c .before .before .before) in
-    omega (arith, q .some, q .fits)
+    omega (arith, q .later, q .some, q .fits)
 
 loop-again : tie.Need-loop-again Inv-loop μ-loop
 loop-again c =

@@ -1,7 +1,6 @@
 -- `price::spots::spot_at` meets its contract.
 use mathlib.Core.Path.{sym, _∙_}
-use mathlib.Core.Bool.{false}
-use Rattle.cut.proofs.First.{Cutting, cutting}
+use Rattle.cut.proofs.Ahead.{CutAhead, cut-ahead}
 use Rattle.price.proofs.spots.Heads.{spot-none, spot-here}
 use borrow.Author.Needs.{needs}
 use Rattle.price.proofs.spots.spot_at.Statement.{statement}
@@ -9,10 +8,10 @@ use Rattle.price.proofs.spots.spot_at.Tie as tie
 
 took
     : (c : tie.After-known-told)
-    → Cutting (c .before .before .before .before .before .args .y) (c .before .before .before .before .before .args .d .now)
-    (c .before .before .before .before .before .args .at) false
+    → CutAhead (c .before .before .before .before .before .args .y) (c .before .before .before .before .before .args .d .now)
+    (c .before .before .before .before .before .args .at)
     (c .before .c .given .0 .0) (c .before .c .given .0 .1 .0) (c .before .c .given .0 .1 .1 .0)
-took c = cutting _ _ _ _ _ _ _ (sym (c .before .before .before .segment-at .ensures) ∙ c .before .c .given .1)
+took c = cut-ahead _ _ _ _ _ _ (sym (c .before .before .before .segment-at .ensures) ∙ c .before .c .given .1)
 
 segment-at-requires : tie.Need-segment-at-requires
 segment-at-requires c κs = search needs

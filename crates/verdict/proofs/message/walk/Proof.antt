@@ -24,13 +24,13 @@ took
     : (c : tie.After-known-told Inv-loop μ-loop)
     → Upcoming (c .before .before .before .before .before .before .before .args .y)
     (c .before .before .before .before .before .before .before .args .d .now) (c .before .before .before .before .loop .at)
-    (c .before .before .before .before .loop .first) (c .before .s .given .0 .0)
-took c = upcoming _ _ _ _ _ (sym (c .before .before .before .head-at .ensures) ∙ c .before .s .given .1)
+    (c .before .before .before .before .loop .first) (c .before .s .given .0 .0) (c .before .s .given .0 .1 .0)
+took c = upcoming _ _ _ _ _ _ (sym (c .before .before .before .head-at .ensures) ∙ c .before .s .given .1)
 
 -- what of the message follows a segment that ends at a place
 abbrev rest : tie.After-known-told Inv-loop μ-loop → ℕ → List Segment
 rest c e =
-    unless (c .before .s .given .0 .0) (body
+    unless (c .before .s .given .0 .1 .0) (body
     (segmentsAt (c .before .before .before .before .before .before .before .args .y)
     (c .before .before .before .before .before .before .before .args .d .now) e))
 
@@ -55,7 +55,7 @@ on c =
     let placed = c .before .before .before in
     let cut = placed .before .before .before .before .before in
     let q = took cut in
-    passed-on _ _ _ _ _ _ _ _ _ _ _ (cut .before .before .before .before .loop .inv) _ _ _ (q .cuts) (rest cut) (q .takes .list) _
+    passed-on _ _ _ _ _ _ _ _ _ _ _ (cut .before .before .before .before .loop .inv) _ _ _ (q .cuts) (q .later) (rest cut) (q .list) _
     (placed .before .before .before .segment-answer .ensures .0) _ _ (placed .before .answer .given .1) _ _ _
     (c .keep .ensures .0) (c .keep .ensures .1) (placed .before .before .before .segment-answer .ensures .1) (c .before .before .if1 .left)
 
@@ -112,7 +112,7 @@ returns-2 c =
     let placed = c .before .before in
     let cut = placed .before .before .before .before .before in
     let q = took cut in
-    passed-stopped _ _ _ _ _ _ _ _ _ _ _ (cut .before .before .before .before .loop .inv) _ _ _ (q .cuts) (rest cut) (q .takes .list) _
+    passed-stopped _ _ _ _ _ _ _ _ _ _ _ (cut .before .before .before .before .loop .inv) _ _ _ (q .cuts) (q .later) (rest cut) (q .list) _
     (placed .before .before .before .segment-answer .ensures .0) _ _ (placed .before .answer .given .1) (c .before .if1 .taken) _
     (c .stopped .ensures)
 
@@ -149,7 +149,7 @@ returns-3 c =
     let told = named .before in
     let cut = told .before .before .before .before .before in
     let q = took cut in
-    passed-refused _ _ _ _ _ _ _ _ _ _ _ (cut .before .before .before .before .loop .inv) _ _ _ (q .cuts) (rest cut) (q .takes .list) _
+    passed-refused _ _ _ _ _ _ _ _ _ _ _ (cut .before .before .before .before .loop .inv) _ _ _ (q .cuts) (q .later) (rest cut) (q .list) _
     (told .before .before .before .segment-answer .ensures .0) _ _ _ (told .before .answer2 .given .1) _
     (named .refused .ensures) _ (c .before .close-of .ensures) _ (c .with-end .ensures)
 
