@@ -128,7 +128,7 @@ pub U-kept : (y : Syntax) → isBreak y 85 ≡ false
 unfolding isBreak
 U-kept y = rw (and-false (y .skips))
 
-past-before : (y : Syntax) (p : ℕ) (xs : List ℕ) (x : ℕ) (zs : List ℕ) → isBreak y x ≡ false → past y p (xs ++ (x ∷ zs)) ≡ past y p xs
+pub past-before : (y : Syntax) (p : ℕ) (xs : List ℕ) (x : ℕ) (zs : List ℕ) → isBreak y x ≡ false → past y p (xs ++ (x ∷ zs)) ≡ past y p xs
 unfolding past
 past-before y p [] x zs h = rw h
 past-before y p (w ∷ ws) x zs h = go (isBreak y w) (past-before y (suc p) ws x zs h)

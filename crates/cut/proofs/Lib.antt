@@ -12,5 +12,9 @@ pub mod Stepping
 pub mod Fronting
 pub mod Demand3
 pub mod Kept
+pub mod Empty
+pub mod Settings
+pub mod Folded
+pub mod Stripped
 pub mod Closing
 pub mod Carrying

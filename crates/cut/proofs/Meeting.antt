@@ -26,7 +26,7 @@ abbrev piece : ℕ → List ℕ → List Segment
 piece p xs = record { start = p; bytes = xs; piece = true } ∷ []
 
 module _ (y : Syntax) where
-  behind-none : (b : Bool) → behind y b [] ≡ []
+  pub behind-none : (b : Bool) → behind y b [] ≡ []
   unfolding behind trimmed
   behind-none true = refl
   behind-none false = refl

@@ -57,12 +57,14 @@ unfolding trimmed join trim
 skip-first y p x h [] k = rw h
 skip-first y p x h (s ∷ ss) k = rw (h, k s ss refl)
 
+pub skip-cut
+    : (y : Syntax) (p x : ℕ) (xs : List ℕ) → isBreak y x ≡ true → trimmed y (join false p x (segmentsFrom y (suc p) false xs)) ≡ trimmed y (segmentsFrom y (suc p) false xs)
+skip-cut y p x xs h = skip-first y p x h (segmentsFrom y (suc p) false xs) (λ s us e. first y (suc p) false xs s us e .starts)
+
 -- a line break where a segment may begin is skipped
 pub skip-one : (y : Syntax) (p x : ℕ) (xs : List ℕ) → isBreak y x ≡ true → segmentsOf y p (x ∷ xs) ≡ segmentsOf y (suc p) xs
 unfolding segmentsOf segmentsFrom
-skip-one y p x xs h =
-    rw (break-ends y x h false, break-frees y x h false)
-    (skip-first y p x h (segmentsFrom y (suc p) false xs) (λ s us e. first y (suc p) false xs s us e .starts))
+skip-one y p x xs h = rw (break-ends y x h false, break-frees y x h false) (skip-cut y p x xs h)
 
 -- and so is any run of them
 pub skip-breaks : (y : Syntax) (p : ℕ) (bs xs : List ℕ) → breaks y bs ≡ true → segmentsOf y p (bs ++ xs) ≡ segmentsOf y (p + length bs) xs

@@ -10,3 +10,4 @@ pub mod Holding
 pub mod Upcoming
 pub mod Passing
 pub mod Face
+pub mod Stripped

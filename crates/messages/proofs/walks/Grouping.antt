@@ -1,5 +1,5 @@
 -- Messages of segments that are moved, or that follow others.
-use Prim.Native.Nat.{ℕ}
+use Prim.Native.Nat.{ℕ, _+_}
 use mathlib.Core.Path.{_≡_, refl, ap}
 use mathlib.Core.Bool.{Bool, true, false, cond}
 use mathlib.Core.List.{List, [], _∷_, _++_, map}
@@ -15,29 +15,45 @@ use Rattle.messages.specs.Messages.{Message, tagOf, follow, body, begin,
 use Rattle.cut.specs.Fronts.{moved, glued, meet}
 use Rattle.messages.specs.Fronts.{movedMessage, begunIn}
 
-follow-moved : (k : ℕ) (t : Tag) (s : Segment) (ss : List Segment) → follow t (moved k s) (map (moved k) ss) ≡ map (moved k) (follow t s ss)
-follow-moved k Unh s ss = refl
-follow-moved k Unt s ss = refl
-follow-moved k Unz s ss = refl
-follow-moved k Other s ss = refl
+-- a segment that begins elsewhere, and a message of such
+abbrev pub restarted : (ℕ → ℕ) → Segment → Segment
+restarted h s = record { start = h (s .start); bytes = s .bytes; piece = s .piece }
+
+abbrev pub restartedMessage : (ℕ → ℕ) → Message → Message
+restartedMessage h m = record { first = restarted h (m .first); rest = map (restarted h) (m .rest) }
+
+module _ (h : ℕ → ℕ) where
+  follow-restarted : (t : Tag) (s : Segment) (ss : List Segment) → follow t (restarted h s) (map (restarted h) ss) ≡ map (restarted h) (follow t s ss)
+  follow-restarted Unh s ss = refl
+  follow-restarted Unt s ss = refl
+  follow-restarted Unz s ss = refl
+  follow-restarted Other s ss = refl
+
+  body-restarted : (ss : List Segment) → body (map (restarted h) ss) ≡ map (restarted h) (body ss)
+  unfolding body
+  body-restarted [] = refl
+  body-restarted (s ∷ ss) = rw (body-restarted ss) (follow-restarted (tagOf (s .bytes)) s (body ss))
+
+  begin-restarted
+      : (t : Tag) (m : Message) (ms : List Message) → begin t (restartedMessage h m) (map (restartedMessage h) ms) ≡ map (restartedMessage h) (begin t m ms)
+  begin-restarted Unh m ms = refl
+  begin-restarted Unt m ms = refl
+  begin-restarted Unz m ms = refl
+  begin-restarted Other m ms = refl
+
+  -- where segments begin makes no difference to which messages they are
+  pub messages-restarted : (ss : List Segment) → messagesIn (map (restarted h) ss) ≡ map (restartedMessage h) (messagesIn ss)
+  unfolding messagesIn
+  messages-restarted [] = refl
+  messages-restarted (s ∷ ss) =
+      rw (body-restarted ss, messages-restarted ss) (begin-restarted (tagOf (s .bytes)) (record { first = s; rest = body ss }) (messagesIn ss))
 
 pub body-moved : (k : ℕ) (ss : List Segment) → body (map (moved k) ss) ≡ map (moved k) (body ss)
-unfolding body
-body-moved k [] = refl
-body-moved k (s ∷ ss) = rw (body-moved k ss) (follow-moved k (tagOf (s .bytes)) s (body ss))
-
-begin-moved : (k : ℕ) (t : Tag) (m : Message) (ms : List Message) → begin t (movedMessage k m) (map (movedMessage k) ms) ≡ map (movedMessage k) (begin t m ms)
-begin-moved k Unh m ms = refl
-begin-moved k Unt m ms = refl
-begin-moved k Unz m ms = refl
-begin-moved k Other m ms = refl
+body-moved k ss = body-restarted (λ n. k + n) ss
 
 -- segments k places later are the same messages k places later
 pub messages-moved : (k : ℕ) (ss : List Segment) → messagesIn (map (moved k) ss) ≡ map (movedMessage k) (messagesIn ss)
-unfolding messagesIn
-messages-moved k [] = refl
-messages-moved k (s ∷ ss) =
-    rw (body-moved k ss, messages-moved k ss) (begin-moved k (tagOf (s .bytes)) (record { first = s; rest = body ss }) (messagesIn ss))
+messages-moved k ss = messages-restarted (λ n. k + n) ss
 
 begin-append : (t : Tag) (m : Message) (ms ns : List Message) → begin t m (ms ++ ns) ≡ begin t m ms ++ ns
 begin-append Unh m ms ns = refl
