@@ -106,7 +106,8 @@ module _ {M : Type 1} (𝓤 : URA M) (H : Heap 𝓤) (A : Atoms 𝓤) (W : Given
 
 module _ {M : Type 1} (𝓤 : URA M) (H : Heap 𝓤) (A : Atoms 𝓤) (W : Given 𝓤 H A) (mem : Memory → SProp 𝓤) (run : Routine → Fun 𝓤) where
   opened-walks : (C : Calls 𝓤 H) (Λ : Loops 𝓤 H) → Walks 𝓤 H A opened.ended stayed (WpFn 𝓤 H C Λ code.function) (opened.clauses 𝓤 H A mem run)
-  opened-walks C Λ = walked 𝓤 H A opened.ended stayed (opened.clauses 𝓤 H A mem run) (WpFn 𝓤 H C Λ code.function) (λ κs. (LL.vals Y.the-type Y′.the-laws, (slice-vals, tt)))
+  opened-walks C Λ = walked 𝓤 H A opened.ended stayed (opened.clauses 𝓤 H A mem run) (WpFn 𝓤 H C Λ code.function)
+      (λ κs. (LL.vals Y.the-type Y′.the-laws, (slice-vals, tt)))
       (λ κs. (LL.tells Y.the-type Y′.the-laws, (shr-slice-tells (named 0) (κs .0) u8, tt)))
       (λ κs qs bounds a g are. via 𝓤 _ (fst∗ 𝓤 _ (emp 𝓤)) (walk 𝓤 H A W mem run (κs .0) (qs .0) (a .0) (a .1 .0) C Λ (are .0) (are .1 .0)))
 

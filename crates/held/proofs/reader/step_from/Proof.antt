@@ -158,8 +158,8 @@ module _ {M : Type 1} (𝓤 : URA M) (H : Heap 𝓤) (A : Atoms 𝓤) (W : Given
         move ! (1 ∷ []) $ use1 W (‵ (fat fullShare (T′.mir erased) l₄ 0 (T′.lowered (movedOn made)))) (unlaid 𝓤 H A W κ l₄ (movedOn made)) $
         -- [_4; the answer; the token; what all own; _5; …; _4's end; _3; …; _2; …; _1; …; _0; …]
         returns ! (look ! 13 refl) $ forget ! 0 refl $ forget ! 4 refl $ forget ! 7 refl $ forget ! 9 refl $ forget ! 11 refl $ forget ! 13 refl $
-        move ! (13 ∷ 14 ∷ []) $ free1 ! $ move ! (11 ∷ 12 ∷ []) $ free1 ! $ move ! (9 ∷ 10 ∷ []) $ free1 ! $ move ! (7 ∷ 8 ∷ []) $ free1 ! $ move ! (0 ∷ 6 ∷ []) $ free1 ! $
-        move ! (3 ∷ 4 ∷ []) $ free1 ! $ free0 ! $ by ! (exits c u (answers c e)))))))))))))
+        move ! (13 ∷ 14 ∷ []) $ free1 ! $ move ! (11 ∷ 12 ∷ []) $ free1 ! $ move ! (9 ∷ 10 ∷ []) $ free1 ! $ move ! (7 ∷ 8 ∷ []) $ free1 ! $
+        move ! (0 ∷ 6 ∷ []) $ free1 ! $ move ! (3 ∷ 4 ∷ []) $ free1 ! $ free0 ! $ by ! (exits c u (answers c e)))))))))))))
 
 module _ {M : Type 1} (𝓤 : URA M) (H : Heap 𝓤) (A : Atoms 𝓤) (W : Given 𝓤 H A) (mem : Memory → SProp 𝓤) (run : Routine → Fun 𝓤) where
   step-from-walks
