@@ -1,15 +1,15 @@
--- The reader that holds the delivery and its place. Document 01, 'What is handed out', at the service characters of the base.
+-- The reader that holds the delivery, how it is cut and its place. Document 01, 'What is handed out'; item 4.
 use Prim.Native.Nat.{ℕ, zero, suc}
 use mathlib.Core.List.{List, [], _∷_}
 use lib.ListN.{drop}
 use denote.Ref.{RefT, now}
+use Rattle.cut.specs.declared.service.Syntax.{Syntax}
 use Rattle.cut.specs.declared.scan.Cut.{Cut}
 use Rattle.cut.specs.declared.scan.Cut.the-variants as cut
 use Rattle.cut.specs.declared.steps.Step.{Step}
 use Rattle.cut.specs.declared.steps.Step.the-variants as step
 use Rattle.cut.specs.Segments.{Segment, endOf}
 use Rattle.cut.specs.Admission.{segments}
-use Rattle.cut.specs.Base.{edifact}
 use Rattle.cut.specs.Calls.{headCut, stepOf}
 use Rattle.held.specs.declared.reader.Reader.{Reader}
 
@@ -20,8 +20,8 @@ asCut step.Nothing = cut.Nothing
 
 -- step_from: the segment from a place on, as the by-value cursor there steps to it: a place within UNA is before the first, and "on a delivery not
 -- admitted, none at once"
-unfoldable pub nextFrom : List ℕ → ℕ → Cut
-nextFrom d at = asCut (stepOf (record { syntax = edifact; at = at }) d)
+unfoldable pub nextFrom : Syntax → List ℕ → ℕ → Cut
+nextFrom y d at = asCut (stepOf (record { syntax = y; at = at }) d)
 
 -- the place after a step from the place `at`: the segment's end; at none the place stays
 unfoldable pub placeAfter : Cut → ℕ → ℕ
@@ -29,16 +29,16 @@ placeAfter (cut.Segment s e p) at = e
 placeAfter cut.Nothing at = at
 
 -- opened: "A reader that holds the delivery and its place", before the first segment
-abbrev pub readerOn : RefT (List ℕ) → Reader
-readerOn d = record { delivery = d; at = 0 }
+abbrev pub readerOn : Syntax → RefT (List ℕ) → Reader
+readerOn y d = record { syntax = y; delivery = d; at = 0 }
 
 -- step: "each step gives the next segment"
 unfoldable pub answerOf : Reader → Cut
-answerOf r = nextFrom (now (r .delivery)) (r .at)
+answerOf r = nextFrom (r .syntax) (now (r .delivery)) (r .at)
 
--- step: the reader after it holds the same delivery
+-- step: the reader after it holds the same delivery and cuts it alike
 unfoldable pub movedOn : Reader → Reader
-movedOn r = record { delivery = r .delivery; at = placeAfter (answerOf r) (r .at) }
+movedOn r = record { syntax = r .syntax; delivery = r .delivery; at = placeAfter (answerOf r) (r .at) }
 
 -- the reader after n steps
 unfoldable pub movedBy : ℕ → Reader → Reader
@@ -51,14 +51,14 @@ answers zero r = []
 answers (suc n) r = answerOf r ∷ answers n (movedOn r)
 
 -- what n calls of step_from answer, the first from the place `at`, each other from the place after the one before
-unfoldable pub answersFrom : ℕ → List ℕ → ℕ → List Cut
-answersFrom zero d at = []
-answersFrom (suc n) d at = nextFrom d at ∷ answersFrom n d (placeAfter (nextFrom d at) at)
+unfoldable pub answersFrom : ℕ → Syntax → List ℕ → ℕ → List Cut
+answersFrom zero y d at = []
+answersFrom (suc n) y d at = nextFrom y d at ∷ answersFrom n y d (placeAfter (nextFrom y d at) at)
 
 -- a segment as an answer: its start, its end and whether it is a piece
 abbrev pub segmentCut : Segment → Cut
 segmentCut s = cut.Segment (s .start) (endOf s) (s .piece)
 
 -- the segment with the number n, from 0; none past the last
-abbrev pub segmentNo : List ℕ → ℕ → Cut
-segmentNo d n = headCut (drop n (segments edifact d))
+abbrev pub segmentNo : Syntax → List ℕ → ℕ → Cut
+segmentNo y d n = headCut (drop n (segments y d))

@@ -1,4 +1,4 @@
-// A reader that holds the delivery and its place, for callers who go through the segments once. The service characters are `:+.?'`.
+// A reader that holds the delivery, how it is cut and its place, for callers who go through the segments once.
 mod next;
 mod reader;
 

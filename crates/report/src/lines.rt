@@ -3,6 +3,7 @@ use crate::prices::price_lines;
 use crate::writing::put;
 use crate::writing::put_count;
 use messages::Found;
+use schaumtruhe::Reading;
 use schaumtruhe::Surveyed;
 use schaumtruhe::judge_at;
 use schaumtruhe::next_message;
@@ -34,27 +35,30 @@ fn message_line(number: usize, start: usize, v: Verdict) -> bool {
 }
 
 // The M line of the message from start to end and, if it is accepted, its P lines.
-fn lines_of(d: &[u8], number: usize, start: usize, end: usize, v: Verdict) -> bool
+fn lines_of(how: Reading, d: &[u8], number: usize, start: usize, end: usize, v: Verdict) -> bool
     requires { ⌜ (start ≤ end) × (end ≤ length (now d)) ⌝ }
 {
     match v {
-        Verdict::Accepted { .. } => { message_line(number, start, v) && price_lines(d, start, end) }
+        Verdict::Accepted { .. } => {
+            message_line(number, start, v) && price_lines(how, d, start, end)
+        }
         Verdict::Refused { .. } => message_line(number, start, v),
     }
 }
 
 // All M and P lines of an admitted delivery.
-fn message_lines(d: &[u8]) -> bool {
+fn message_lines(how: Reading, d: &[u8]) -> bool {
+    let y = how.syntax;
     let mut from = 0;
     let mut number = 0;
     loop {
-        let m = next_message(d, from);
+        let m = next_message(y, d, from);
         let Found::Message { start, end } = m else {
             return true;
         };
         number += 1;
-        let v = judge_at(d, start);
-        if !lines_of(d, number, start, end, v) {
+        let v = judge_at(how, d, start);
+        if !lines_of(how, d, number, start, end, v) {
             return false;
         }
         from = end;
@@ -72,14 +76,14 @@ pub(crate) fn refusal_line(number: u32) -> bool {
 }
 
 // Whether all lines were written.
-pub(crate) fn delivery_lines(d: &[u8]) -> bool {
-    let s = survey(d);
+pub(crate) fn delivery_lines(how: Reading, d: &[u8]) -> bool {
+    let s = survey(how, d);
     match s {
         Surveyed::Counted {
             messages,
             accepted,
             outside,
-        } => message_lines(d) && end_line(messages, accepted, outside),
+        } => message_lines(how, d) && end_line(messages, accepted, outside),
         Surveyed::Refused { number } => refusal_line(number),
     }
 }

@@ -3,7 +3,9 @@ use crate::articles::put_article;
 use crate::writing::complain;
 use crate::writing::put;
 use crate::writing::put_signed;
+use cut::Syntax;
 use schaumtruhe::Priced;
+use schaumtruhe::Reading;
 use schaumtruhe::prices;
 ghost use Prim.Native.Nat.{_+_, _*_, _≤_};
 ghost use lib.ListN.{length};
@@ -18,24 +20,24 @@ enum Left {
 }
 
 // P position article amount decimals.
-fn price_line(message: &[u8], row: &[i64], k: usize) -> bool
+fn price_line(y: Syntax, message: &[u8], row: &[i64], k: usize) -> bool
     requires { ⌜ (k * 8) + 8 ≤ length (now row) ⌝ }
 {
     let at = k * 8;
     put(b"P")
         && put_signed(row[at])
-        && put_article(message, row[at + 1], row[at + 2])
+        && put_article(y, message, row[at + 1], row[at + 2])
         && put_signed(row[at + 3])
         && put_signed(row[at + 4])
         && put(b"\n")
 }
 
 // One line for each price that was written to the row.
-fn row_lines(message: &[u8], row: &[i64], written: usize) -> bool
+fn row_lines(y: Syntax, message: &[u8], row: &[i64], written: usize) -> bool
     requires { ⌜ written * 8 ≤ length (now row) ⌝ }
 {
     for k in 0..written {
-        if !price_line(message, row, k) {
+        if !price_line(y, message, row, k) {
             return false;
         }
     }
@@ -57,15 +59,16 @@ fn left_of(k: usize, written: usize, total: usize) -> Left {
 }
 
 // The lines of the prices of the message from start to end, from the k-th on, as many as a row takes.
-fn some_lines(d: &[u8], start: usize, end: usize, k: usize) -> Left
+fn some_lines(how: Reading, d: &[u8], start: usize, end: usize, k: usize) -> Left
     requires { ⌜ (start ≤ end) × (end ≤ length (now d)) ⌝ }
 {
+    let y = how.syntax;
     let mut row = [0i64; 512];
-    let p = prices(d, start, k, &mut row);
+    let p = prices(how, d, start, k, &mut row);
     let Priced::Written { written, total } = p else {
         return Left::Lost;
     };
-    if !row_lines(&d[start..end], &row, written) {
+    if !row_lines(y, &d[start..end], &row, written) {
         return Left::Unwritten;
     }
     left_of(k, written, total)
@@ -78,12 +81,12 @@ fn lost() -> bool {
 
 // The prices of the message from start to end. Each turn writes one line or more, and a price takes more than one byte, so that there are
 // turns enough.
-pub(crate) fn price_lines(d: &[u8], start: usize, end: usize) -> bool
+pub(crate) fn price_lines(how: Reading, d: &[u8], start: usize, end: usize) -> bool
     requires { ⌜ (start ≤ end) × (end ≤ length (now d)) ⌝ }
 {
     let mut k = 0;
     for turn in 0..d.len() {
-        let left = some_lines(d, start, end, k);
+        let left = some_lines(how, d, start, end, k);
         match left {
             Left::From { price } => {
                 k = price;

@@ -29,7 +29,7 @@ use Rattle.schaumtruhe.specs.workers.Answers.{standingOf, refusalBy}
 use Rattle.schaumtruhe.specs.declared.sheets.Standing.{Standing}
 use Rattle.schaumtruhe.specs.declared.sheets.Standing.the-variants.{Accepted, Refused}
 use Rattle.schaumtruhe.proofs.judging.Verdicts.{Stands, stands-alone}
-use Rattle.schaumtruhe.proofs.pricing.Prices.{listed-in, found, alone, m, same-prices, lost}
+use Rattle.schaumtruhe.proofs.pricing.Filling.{listed-in, found, alone, m, same-prices, lost}
 
 -- the article of a message's price as its bytes show it
 article-here : (y : Syntax) (d : List ℕ) (k : ℕ) (m : Message) → Stands y d m → articleIn y d (startOf m) (closeOf m) k ≡ articleBy y (stands m) k

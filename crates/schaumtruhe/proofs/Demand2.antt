@@ -34,7 +34,7 @@ use Rattle.schaumtruhe.specs.Calls.{listed, pricedAt, rowAt, articleRefu
 use Rattle.schaumtruhe.specs.Demands.{Stands}
 use Rattle.schaumtruhe.specs.declared.pricing.Priced.the-variants.{Written}
 use Rattle.schaumtruhe.proofs.judging.Verdicts.{stands-alone, Stands as InDelivery}
-use Rattle.schaumtruhe.proofs.pricing.Prices.{listed-in}
+use Rattle.schaumtruhe.proofs.pricing.Filling.{listed-in}
 use Rattle.schaumtruhe.proofs.Demand1.{sheet-stands}
 use Rattle.schaumtruhe.proofs.pricing.Named.{named-priced, named-pages}
 

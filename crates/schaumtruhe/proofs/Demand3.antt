@@ -9,7 +9,7 @@ use lib.ListN.{length, drop, length-map, length-append, length-drop}
 use lib.Seq.{drop-append-add}
 use Rattle.cut.specs.declared.service.Syntax.{Syntax}
 use Rattle.cut.specs.Admission.{admissionOf, segments, nine}
-use Rattle.cut.specs.Base.{edifact}
+use Rattle.cut.specs.Base.{edifact, strictly}
 use Rattle.bytewise.specs.Bytes.{part, begins}
 use Rattle.messages.specs.Messages.{Message, messages}
 use Rattle.messages.specs.Fronts.{movedMessage}
@@ -100,7 +100,13 @@ demand3-empty y tail t = demand3-whole y [] tail t (whole-empty y)
 pub demand3-una : (y : Syntax) (tail : List ℕ) → Tail y (nine y) tail → FromFirst y (nine y) tail
 demand3-una y tail t = demand3-whole y (nine y) tail t (whole-nine y)
 
--- at the service characters `:+.?'` nothing more is asked than that the longer delivery is admitted and the tail begins UNH
-pub demand3-base : (front tail : List ℕ) → admissionOf edifact (front ++ tail) ≡ 0 → begins UNH tail ≡ true → Demand3 edifact front tail
+-- at the service characters `:+.?'`, in the usual and in the strict reading, nothing more is asked than that the longer delivery is admitted and
+-- the tail begins UNH
+pub demand3-usual : (front tail : List ℕ) → admissionOf edifact (front ++ tail) ≡ 0 → begins UNH tail ≡ true → Demand3 edifact front tail
 unfolding has
-demand3-base front tail a u = demand3 edifact front tail (record { no-U = refl; no-N = refl; admitted = a; begins-UNH = u })
+demand3-usual front tail a u = demand3 edifact front tail (record { no-U = refl; no-N = refl; admitted = a; begins-UNH = u })
+
+pub demand3-strict
+    : (front tail : List ℕ) → admissionOf (strictly edifact) (front ++ tail) ≡ 0 → begins UNH tail ≡ true → Demand3 (strictly edifact) front tail
+unfolding has
+demand3-strict front tail a u = demand3 (strictly edifact) front tail (record { no-U = refl; no-N = refl; admitted = a; begins-UNH = u })

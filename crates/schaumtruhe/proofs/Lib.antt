@@ -8,3 +8,4 @@ pub mod keeping
 pub mod Demand3Alone
 pub mod Demand3
 pub mod Demand3Samples
+pub mod StrictSamples

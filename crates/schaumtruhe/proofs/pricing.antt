@@ -1,2 +1,2 @@
-pub mod Prices
+pub mod Filling
 pub mod Named

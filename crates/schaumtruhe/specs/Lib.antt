@@ -1,3 +1,4 @@
+pub mod Readings
 pub mod Calls
 pub mod Demands
 pub mod Demand3

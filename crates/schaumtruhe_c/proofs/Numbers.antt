@@ -5,7 +5,7 @@ use mathlib.Core.Path.{_≡_, refl, ap}
 use mathlib.Core.List.{List, [], _∷_}
 use native.Mathlib.Omega.{arith}
 use lib.ListN.{length}
-use Rattle.cut.specs.Base.{edifact}
+use Rattle.cut.specs.declared.service.Syntax.{Syntax}
 use Rattle.cut.specs.declared.scan.Cut.{Cut}
 use Rattle.cut.specs.declared.scan.Cut.the-variants as cut
 use Rattle.held.specs.Reading.{nextFrom}
@@ -38,35 +38,35 @@ prices-numbers (priced.Written w t) = refl
 prices-numbers (priced.Refused n) = refl
 
 -- what `schaumtruhe_segment_at` answers
-abbrev pub segmentFrom : List ℕ → ℕ → Segment
-segmentFrom d at = segmentOf (nextFrom d at)
+abbrev pub segmentFrom : Syntax → List ℕ → ℕ → Segment
+segmentFrom y d at = segmentOf (nextFrom y d at)
 
 -- a segment that was found is not empty, and lies in the delivery, at the place asked or later
 pub segment-in-delivery
-    : (d : List ℕ) (at : ℕ) → segmentFrom d at .found ≡ 1
-    → (at ≤ segmentFrom d at .start) × ((segmentFrom d at .start < segmentFrom d at .end) × (segmentFrom d at .end ≤ length d))
+    : (y : Syntax) (d : List ℕ) (at : ℕ) → segmentFrom y d at .found ≡ 1
+    → (at ≤ segmentFrom y d at .start) × ((segmentFrom y d at .start < segmentFrom y d at .end) × (segmentFrom y d at .end ≤ length d))
 unfolding segmentOf
-segment-in-delivery d at = go (nextFrom d at) refl
+segment-in-delivery y d at = go (nextFrom y d at) refl
   where
     go
-        : (c : Cut) → nextFrom d at ≡ c → segmentOf c .found ≡ 1
+        : (c : Cut) → nextFrom y d at ≡ c → segmentOf c .found ≡ 1
         → (at ≤ segmentOf c .start) × ((segmentOf c .start < segmentOf c .end) × (segmentOf c .end ≤ length d))
-    go (cut.Segment s e p) h f = next-in-delivery d at s e p h
+    go (cut.Segment s e p) h f = next-in-delivery y d at s e p h
     go cut.Nothing h f = absurd (omega (arith, f))
 
-module _ (d : List ℕ) (at k : ℕ) where
+module _ (y : Syntax) (d : List ℕ) (at k : ℕ) where
   -- a refused article: its number and two zeros
   pub article-refused
-      : (n : ℕ) → articleRefusal edifact d at k ≡ suc n
-      → articleNumbers (articleOf (articleRefusal edifact d at k) (articleAt edifact d at k)) ≡ suc n ∷ 0 ∷ 0 ∷ []
+      : (n : ℕ) → articleRefusal y d at k ≡ suc n
+      → articleNumbers (articleOf (articleRefusal y d at k) (articleAt y d at k)) ≡ suc n ∷ 0 ∷ 0 ∷ []
   unfolding articleAt articleOf articleNumbers
   article-refused n h =
-      ap (λ (m : ℕ). articleNumbers (articleOf m (articleUnless m (articleBy edifact (sheetAt edifact d at) k)))) h
+      ap (λ (m : ℕ). articleNumbers (articleOf m (articleUnless m (articleBy y (sheetAt y d at) k)))) h
 
   -- what makes a slice of the delivery from place and length safe
   pub article-in-delivery
-      : articleOf (articleRefusal edifact d at k) (articleAt edifact d at k) .place
-      + articleOf (articleRefusal edifact d at k) (articleAt edifact d at k) .length
+      : articleOf (articleRefusal y d at k) (articleAt y d at k) .place
+      + articleOf (articleRefusal y d at k) (articleAt y d at k) .length
       ≤ length d
   unfolding articleOf
-  article-in-delivery = omega (arith, article-within edifact d at k .0, article-within edifact d at k .1)
+  article-in-delivery = omega (arith, article-within y d at k .0, article-within y d at k .1)

@@ -1,6 +1,15 @@
 // Prints for each file of data/ its name and the lines that the checking program prints for it (docs/VECTORS.md). A new sheet is a file there
-// and a line of `main`.
+// and a line of `main`; one whose name begins `strict_` is read strictly.
 use libc::STDOUT_FILENO;
+use schaumtruhe::Reading;
+
+fn reading_of(name: &[u8]) -> Reading {
+    if bytewise::begins_with(name, b"strict_") {
+        schaumtruhe::strict()
+    } else {
+        schaumtruhe::usual()
+    }
+}
 
 fn sheet(name: &[u8]) {
     io::write_all(STDOUT_FILENO, name);
@@ -10,7 +19,7 @@ fn sheet(name: &[u8]) {
         os::fail(name);
         return;
     }
-    report::check(file);
+    report::check(reading_of(name), file);
     libc::close(file);
 }
 

@@ -43,7 +43,7 @@ use Rattle.schaumtruhe.specs.declared.pricing.Priced.{Priced}
 use Rattle.schaumtruhe.specs.declared.pricing.Priced.the-variants as priced
 
 -- judge_at
-judgedAt : List ℕ → ℕ → Verdict
+unfoldable pub judgedAt : List ℕ → ℕ → Verdict
 unfolding
     begins ends frees join segmentsFrom admissionOf openingOf segments tagOf body messagesIn messages
     between allowedByte allowedBytes capital endsTag lettered taggedBytes padded isCount countOf
@@ -60,7 +60,7 @@ unfolding
 judgedAt d at = verdictAt edifact d at
 
 -- prices: the answer and the row
-filledAt : List ℕ → ℕ → ℕ → List ℤ → Priced × List ℤ
+unfoldable pub filledAt : List ℕ → ℕ → ℕ → List ℤ → Priced × List ℤ
 unfolding
     judgedAt inElement width inElements components spanIn numberOf numbersFrom filledOf rowAfter firstArticle kindOf rngNext pricesFrom pricesOf articleIn
     articlePlace

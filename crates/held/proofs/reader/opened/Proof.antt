@@ -1,5 +1,5 @@
--- `held::opened` meets its contract: a walk of its MIR, by hand. A `Reader` is made of the slice passed and 0, in the result's local.
--- A `&[u8]` is Copy, so what it owns is had twice: once for delivery at exit, and once inside the result, beside the facts of at.
+-- `held::opened` meets its contract: a walk of its MIR, by hand. A `Reader` is made of the syntax and the slice passed and 0, in the result's local.
+-- Both are Copy, so what they own is had twice: once for the parameters at exit, and once inside the result, beside the facts of at.
 -- Assumes nothing.
 use mathlib.Core.Path.{refl}
 use Prim.Native.Nat.{ℕ}
@@ -29,12 +29,16 @@ use denote.Ref.{RefT, NamedLft}
 use denote.Signature.{plain, namedLft}
 use denote.Slice.{sliceVal, ShrSlice, slice-vals, shr-slice-tells, shr-slice-lawful, shr-slice-copy}
 use denote.Steps.{nothing, owned}
+use denote.Struct.Laws as LL
 use denote.Struct.Rest.{own-shut}
-use denote.Triple.Entry.{onEntry}
+use denote.Triple.Entry.{Vals, onEntry}
 use denote.Triple.Spec.{Meets, tripleOf}
 use denote.Triple.Table.{entered}
-use denote.Triple.Walked.{says, Stays, stay-none-slice, walkOf, goes-none-slice, Walks, ends-at, walked, walk-meets}
+use denote.Triple.Walked.{says, Stays, stay-none, stay-none-slice, walkOf, goes-none, goes-none-slice, Walks, ends-at, walked, walk-meets}
 use denote.Exit.{yes}
+use Rattle.cut.specs.declared.service.Syntax.{Syntax}
+use Rattle.cut.proofs.service.Syntax as Y
+use Rattle.cut.proofs.service.Syntax.Laws as Y′
 use Rattle.held.specs.declared.reader.Reader.{Reader}
 use Rattle.held.proofs.reader.Reader as T
 use Rattle.held.proofs.reader.Reader.Laws as T′
@@ -44,60 +48,73 @@ use Rattle.held.proofs.reader.opened.Statement as stated
 use Rattle.held.proofs.reader.opened.Code as code
 
 abbrev stayed : Stays (opened.ended .signature .params) (opened.ended .kept)
-stayed = (stay-none-slice (0 ∷ []) tt (plain (λ _. u8)) yes, tt)
+stayed = (stay-none (λ _. Y.the-row) yes, (stay-none-slice (0 ∷ []) tt (plain (λ _. u8)) yes, tt))
 
 module _ {M : Type 1} (𝓤 : URA M) (H : Heap 𝓤) (A : Atoms 𝓤) (W : Given 𝓤 H A) (mem : Memory → SProp 𝓤) (run : Routine → Fun 𝓤) (κ : Lft) (q : Share)
-    (s : RefT (List ℕ)) where
+    (y : Syntax) (s : RefT (List ℕ)) where
   abbrev α : NamedLft
   α = namedLft 1 0 tt (κ, tt)
 
-  -- the machine value that s has
+  -- the machine values that y and s have
+  abbrev m : Val
+  m = LL.val Y.the-type Y′.the-laws y
+
   abbrev v : Val
   v = sliceVal (s .ptr) (length (s .now))
 
   abbrev made : Reader
-  made = record { delivery = s; at = 0 }
+  made = record { syntax = y; delivery = s; at = 0 }
 
-  abbrev at : List Val × Unit {0}
-  at = (v ∷ [], tt)
+  abbrev at : Vals opened.signature (κ, tt)
+  at = (m ∷ [], (v ∷ [], tt))
 
   abbrev Post : Val → SProp 𝓤
-  Post = walkOf 𝓤 H A opened.ended stayed (opened.clauses 𝓤 H A mem run) .post (((κ, tt), (q, tt), tt, (s, tt), at), tt)
+  Post = walkOf 𝓤 H A opened.ended stayed (opened.clauses 𝓤 H A mem run) .post (((κ, tt), (q, tt), tt, (y, (s, tt)), at), tt)
 
   abbrev Own : Fml
   Own = ShrSlice (named 0) κ u8 .own s (v ∷ [])
 
-  exits : ent 𝓤 (onEntry 𝓤 H A opened.signature (κ, tt) (q, tt) (s, tt) at) (Post (T′.lowered made))
+  abbrev Cuts : Fml
+  Cuts = Y.the-row .own y (m ∷ [])
+
+  exits : ent 𝓤 (onEntry 𝓤 H A opened.signature (κ, tt) (q, tt) (y, (s, tt)) at) (Post (T′.lowered made))
   exits =
-      qed W ((‵ (flft κ q) ⊛ ‵ ftrue) ∷ ‵ (owns (ShrSlice (named 0) κ u8 ∷ []) (s, tt) at) ∷ []) ∵
-      suffices ! _ (ends-at 𝓤 H A opened.ended stayed (opened.clauses 𝓤 H A mem run) W (((κ, tt), (q, tt), tt, (s, tt), at), tt) (T′.lowered made) made
-      (tt, tt) (tt, tt)) $ says ! refl $
-      frame ! $ fsplit ! $ use1 W (‵ Own ⊛ ‵ Own) (shr-slice-copy 𝓤 H A W (named 0) κ u8 .twice s (v ∷ [])) $ split ! $ move ! (0 ∷ 2 ∷ []) $ fjoin ! $
-      frame ! $
-      -- [what delivery owns]: what the fields own together, of it and of at's facts, is what the struct owns
+      qed W ((‵ (flft κ q) ⊛ ‵ ftrue) ∷ ‵ (owns (Y.the-row ∷ ShrSlice (named 0) κ u8 ∷ []) (y, (s, tt)) at) ∷ []) ∵
+      suffices ! _ (ends-at 𝓤 H A opened.ended stayed (opened.clauses 𝓤 H A mem run) W (((κ, tt), (q, tt), tt, (y, (s, tt)), at), tt) (T′.lowered made) made
+      (tt, (tt, tt)) (tt, (tt, tt))) $ says ! refl $
+      frame ! $ fsplit ! $ use1 W (‵ Cuts ⊛ ‵ Cuts) (LL.copy Y.the-type Y′.the-copy 𝓤 H A W .twice y (m ∷ [])) $ split ! $
+      move ! (2 ∷ []) $ fsplit ! $ use1 W (‵ Own ⊛ ‵ Own) (shr-slice-copy 𝓤 H A W (named 0) κ u8 .twice s (v ∷ [])) $ split ! $
+      -- [what s owns, twice; nothing; what y owns, twice]
+      move ! (0 ∷ 2 ∷ []) $ fjoin ! $ move ! (2 ∷ 0 ∷ []) $ fjoin ! $ frame ! $
+      -- [what s owns; what y owns]: what the fields own together, of them and of at's facts, is what the struct owns
       nothing ! $ owned ! usize (Is usize) (uint-makes 𝓤 H A W w64) 0 _ (refl, lit< tt) $ fjoin ! $ move ! (1 ∷ 0 ∷ []) $ fjoin ! $
-      by ! (own-shut 𝓤 H A W (T.the-type α) (T′.the-laws α) (s, (0, tt)))
+      move ! (1 ∷ 0 ∷ []) $ fjoin ! $
+      by ! (own-shut 𝓤 H A W (T.the-type α) (T′.the-laws α) (y, (s, (0, tt))))
 
   module _ (C : Calls 𝓤 H) (Λ : Loops 𝓤 H) where
-    walk : Is (ShrSlice (named 0) κ u8) s (v ∷ [])
-        → ent 𝓤 (onEntry 𝓤 H A opened.signature (κ, tt) (q, tt) (s, tt) at) (WpFn 𝓤 H C Λ code.function (v ∷ []) Post)
-    walk p =
-        qed W (raw (onEntry 𝓤 H A opened.signature (κ, tt) (q, tt) (s, tt) at) ∷ []) ∵ enter ! C Λ code.function (v ∷ []) _ $
-        alloc1 ! (λ l₀. alloc1 ! (λ l₁. alloc0 ! $ params1 ! $ pass1 ! (init ! 0 refl (shr-slice-lawful 𝓤 H A W (named 0) κ u8 .typed s (v ∷ []) p .0)) $
-        pass0 ! $
-        assigns ! (agg ! (and-then ! (load ! (from ! (stop !)) (look ! 0 refl)) (and-then ! (lit ! tt) (no-more !)))) (from ! (stop !))
-        (init ! 2 refl (tt, (shr-slice-lawful 𝓤 H A W (named 0) κ u8 .typed s (v ∷ []) p .0 .1, (record { fits = lit< tt }, tt)))) $
-        returns ! (look ! 2 refl) $ forget ! 0 refl $ forget ! 2 refl $ move ! (2 ∷ 3 ∷ []) $ free1 ! $ free1 ! $ free0 ! $ by ! exits))
+    walk : Is Y.the-row y (m ∷ []) → Is (ShrSlice (named 0) κ u8) s (v ∷ [])
+        → ent 𝓤 (onEntry 𝓤 H A opened.signature (κ, tt) (q, tt) (y, (s, tt)) at) (WpFn 𝓤 H C Λ code.function (m ∷ v ∷ []) Post)
+    walk g p =
+        let cuts = LL.lawful Y.the-type Y′.the-laws 𝓤 H A W .typed y _ g .0 in
+        let typed = shr-slice-lawful 𝓤 H A W (named 0) κ u8 .typed s (v ∷ []) p .0 in
+        qed W (raw (onEntry 𝓤 H A opened.signature (κ, tt) (q, tt) (y, (s, tt)) at) ∷ []) ∵ enter ! C Λ code.function (m ∷ v ∷ []) _ $
+        alloc1 ! (λ l₀. alloc1 ! (λ l₁. alloc1 ! (λ l₂. alloc0 ! $ params1 ! $ pass1 ! (init ! 2 refl cuts) $ pass1 ! (init ! 0 refl typed) $ pass0 ! $
+        assigns ! (agg ! (and-then ! (load ! (from ! (stop !)) (look ! 2 refl)) (and-then ! (load ! (from ! (stop !)) (look ! 0 refl))
+        (and-then ! (lit ! tt) (no-more !))))) (from ! (stop !)) (init ! 4 refl (tt, (cuts .1, (typed .1, (record { fits = lit< tt }, tt))))) $
+        returns ! (look ! 4 refl) $ forget ! 0 refl $ forget ! 2 refl $ forget ! 4 refl $ move ! (4 ∷ 5 ∷ []) $ free1 ! $ move ! (2 ∷ 3 ∷ []) $ free1 ! $
+        free1 ! $ free0 ! $ by ! exits)))
 
 module _ {M : Type 1} (𝓤 : URA M) (H : Heap 𝓤) (A : Atoms 𝓤) (W : Given 𝓤 H A) (mem : Memory → SProp 𝓤) (run : Routine → Fun 𝓤) where
   opened-walks : (C : Calls 𝓤 H) (Λ : Loops 𝓤 H) → Walks 𝓤 H A opened.ended stayed (WpFn 𝓤 H C Λ code.function) (opened.clauses 𝓤 H A mem run)
-  opened-walks C Λ = walked 𝓤 H A opened.ended stayed (opened.clauses 𝓤 H A mem run) (WpFn 𝓤 H C Λ code.function) (λ κs. (slice-vals, tt))
-      (λ κs. (shr-slice-tells (named 0) (κs .0) u8, tt))
-      (λ κs qs bounds a g are. via 𝓤 _ (fst∗ 𝓤 _ (emp 𝓤)) (walk 𝓤 H A W mem run (κs .0) (qs .0) (a .0) C Λ (are .0)))
+  opened-walks C Λ = walked 𝓤 H A opened.ended stayed (opened.clauses 𝓤 H A mem run) (WpFn 𝓤 H C Λ code.function)
+      (λ κs. (LL.vals Y.the-type Y′.the-laws, (slice-vals, tt)))
+      (λ κs. (LL.tells Y.the-type Y′.the-laws, (shr-slice-tells (named 0) (κs .0) u8, tt)))
+      (λ κs qs bounds a g are. via 𝓤 _ (fst∗ 𝓤 _ (emp 𝓤)) (walk 𝓤 H A W mem run (κs .0) (qs .0) (a .0) (a .1 .0) C Λ (are .0) (are .1 .0)))
 
 opened-meets : {M : Type 1} (𝓤 : URA M) (H : Heap 𝓤) (A : Atoms 𝓤) → Given 𝓤 H A → (mem : Memory → SProp 𝓤) (run : Routine → Fun 𝓤) (𝓣 : Tables 𝓤 H)
     → Meets 𝓤 H A opened.signature (WpFn 𝓤 H (𝓣 .C) (𝓣 .Λ) code.function) (opened.spec 𝓤 H A mem run)
-opened-meets 𝓤 H A W mem run 𝓣 = walk-meets 𝓤 H A opened.ended stayed W (goes-none-slice 𝓤 H A W 1 (0 ∷ []) tt (plain (λ _. u8)) yes, tt)
+opened-meets 𝓤 H A W mem run 𝓣 = walk-meets 𝓤 H A opened.ended stayed W
+    (goes-none 𝓤 H A W 1 (λ _. Y.the-row) yes (λ κs x f. refl), (goes-none-slice 𝓤 H A W 1 (0 ∷ []) tt (plain (λ _. u8)) yes, tt))
     (opened.clauses 𝓤 H A mem run) (WpFn 𝓤 H (𝓣 .C) (𝓣 .Λ) code.function) (WpFn-mono 𝓤 H (W .laws) 𝓣 code.function)
     (opened-walks 𝓤 H A W mem run (𝓣 .C) (𝓣 .Λ))
 

@@ -37,7 +37,7 @@ use denote.Steps.{only, opens, closes, owned, peeks, heard, nothing}
 use denote.Enum.Laws as EL
 use denote.Struct.Declared.{Declared}
 use denote.Struct.Laws as LL
-use denote.Struct.Rest.{all-own, ownAt, rest, own-open, own-out, own-put}
+use denote.Struct.Rest.{all-own, own-open, own-put}
 use denote.Struct.Steps.{spelt}
 use denote.Struct.Values.{Values}
 use denote.Triple.Statement.{Contract, Triple}
@@ -47,6 +47,8 @@ use denote.Triple.Spec.{Meets, tripleOf}
 use denote.Triple.Table.{entered, cited}
 use denote.Triple.Walked.{says, Stays, stay-ref, walkOf, goes-ref, Walks, ends-at, walked, walk-meets}
 use denote.Triple.Clauses.{ensured, lasts}
+use Rattle.cut.proofs.service.Syntax as Y
+use Rattle.cut.proofs.service.Syntax.Laws as Y′
 use Rattle.cut.specs.declared.scan.Cut.{Cut}
 use Rattle.cut.proofs.scan.Cut as S
 use Rattle.cut.proofs.scan.Cut.Laws as S′
@@ -95,7 +97,7 @@ module _ {M : Type 1} (𝓤 : URA M) (H : Heap 𝓤) (A : Atoms 𝓤) (W : Given
 
   -- the record with the place n
   abbrev at-place : ℕ → Reader
-  at-place n = record { delivery = h .delivery; at = n }
+  at-place n = record { syntax = h .syntax; delivery = h .delivery; at = n }
 
   abbrev at : List Val × Unit {0}
   at = (vptr b o ∷ [], tt)
@@ -103,11 +105,14 @@ module _ {M : Type 1} (𝓤 : URA M) (H : Heap 𝓤) (A : Atoms 𝓤) (W : Given
   abbrev mach : Val
   mach = T′.lowered h
 
+  abbrev m : Val
+  m = LL.val Y.the-type Y′.the-laws (h .syntax)
+
   abbrev v : Val
   v = sliceVal (h .delivery .ptr) (length (h .delivery .now))
 
   abbrev found : Cut
-  found = nextFrom (now (h .delivery)) (h .at)
+  found = nextFrom (h .syntax) (now (h .delivery)) (h .at)
 
   abbrev Post : Val → SProp 𝓤
   Post = walkOf 𝓤 H A step.ended stayed (step.clauses 𝓤 H A at-mem run) .post (((κ, (κ′, tt)), (q, (q′, tt)), bounds, x, at), tt)
@@ -119,38 +124,35 @@ module _ {M : Type 1} (𝓤 : URA M) (H : Heap 𝓤) (A : Atoms 𝓤) (W : Given
   L = T′.the-laws (α κ′)
 
   abbrev vd : Values (D .parts)
-  vd = (h .delivery, (h .at, tt))
+  vd = (h .syntax, (h .delivery, (h .at, tt)))
 
   abbrev Own : Fml
   Own = B κ′ .own h (mach ∷ [])
 
   -- what `next_from` is passed, at the struct's own lifetime
   abbrev passed : Vals next-from.signature (κ′, tt)
-  passed = (v ∷ [], (vint w64 (h .at) ∷ [], tt))
+  passed = (m ∷ [], (v ∷ [], (vint w64 (h .at) ∷ [], tt)))
 
   abbrev to : NextFrom 𝓤 H A at-mem run .Ghost
-  to = (((κ′, tt), (q′, tt), tt, (h .delivery, (h .at, tt)), passed), tt)
+  to = (((κ′, tt), (q′, tt), tt, vd, passed), tt)
 
-  asked : ent 𝓤 (onEntry 𝓤 H A next-from.signature (κ′, tt) (q′, tt) (h .delivery, (h .at, tt)) passed) (NextFrom 𝓤 H A at-mem run .pre to)
-  asked = qed W ((‵ (flft κ′ q′) ⊛ ‵ ftrue) ∷ ‵ (owns (ShrSlice (named 0) κ′ u8 ∷ usize ∷ []) (h .delivery, (h .at, tt)) passed) ∷ []) ∵ join ! $ frame ! $
+  asked : ent 𝓤 (onEntry 𝓤 H A next-from.signature (κ′, tt) (q′, tt) vd passed) (NextFrom 𝓤 H A at-mem run .pre to)
+  asked = qed W ((‵ (flft κ′ q′) ⊛ ‵ ftrue) ∷ ‵ (owns (Y.the-row ∷ ShrSlice (named 0) κ′ u8 ∷ usize ∷ []) vd passed) ∷ []) ∵ join ! $ frame ! $
       done !
 
-  -- what the struct owns gives what `next_from` asks, and is kept
-  apart : h .at < 2 ^ 64
-      → ent 𝓤 (⋆ 𝓤 H A ((‵ (flft κ′ q′) ⊛ ‵ ftrue) ∷ ‵ Own ∷ []))
-      (sep 𝓤 (onEntry 𝓤 H A next-from.signature (κ′, tt) (q′, tt) (h .delivery, (h .at, tt)) passed) (sem 𝓤 H A Own))
-  apart fits =
+  -- what the struct owns gives what `next_from` asks, which takes the fields in their order, and is kept
+  apart
+      : ent 𝓤 (⋆ 𝓤 H A ((‵ (flft κ′ q′) ⊛ ‵ ftrue) ∷ ‵ Own ∷ []))
+      (sep 𝓤 (onEntry 𝓤 H A next-from.signature (κ′, tt) (q′, tt) vd passed) (sem 𝓤 H A Own))
+  apart =
       qed W ((‵ (flft κ′ q′) ⊛ ‵ ftrue) ∷ ‵ Own ∷ []) ∵
       move ! (1 ∷ []) $ use1 W (‵ Own ⊛ ‵ Own) (LL.copy D (T′.the-copy (α κ′)) 𝓤 H A W .twice h (mach ∷ [])) $ split ! $
       use1 W (given (mach ∷ [] ≡ mach ∷ []) (‵ (all-own (D .parts) L vd))) (own-open 𝓤 H A W D L vd mach) $
-      learn ! (λ _. use1 W (‵ (ownAt (D .parts) L 0 (h .delivery)) ⊛ ‵ (rest (D .parts) L 0 vd)) (own-out 𝓤 H A W (D .parts) L 0 vd) $ split ! $
-      -- [what delivery owns; what at owns; what the struct owns; the token]
-      move ! (1 ∷ []) $ drop ! $ nothing ! $ owned ! usize (Is usize) (uint-makes 𝓤 H A W w64) (h .at) _ (refl, fits) $ fjoin ! $ move ! (1 ∷ 0 ∷ []) $
-      fjoin ! $
-      move ! (2 ∷ 0 ∷ []) $ join ! $ frame ! $ done !)
+      -- [what the fields own; what the struct owns; the token]
+      learn ! (λ _. move ! (2 ∷ 0 ∷ []) $ join ! $ frame ! $ done !)
 
-  said : (c : Cut) → ent 𝓤 (ensured 𝓤 H A next-from.ended (next-from.clauses 𝓤 H A at-mem run) (κ′, tt) (h .delivery, (h .at, tt)) tt c) (fact 𝓤 (c ≡ found))
-  said c = exE 𝓤 _ (λ ws. snd∗ 𝓤 (sem 𝓤 H A (lasts next-from.ended (κ′, tt) (h .delivery, (h .at, tt)) ws)) (fact 𝓤 (c ≡ found)))
+  said : (c : Cut) → ent 𝓤 (ensured 𝓤 H A next-from.ended (next-from.clauses 𝓤 H A at-mem run) (κ′, tt) vd tt c) (fact 𝓤 (c ≡ found))
+  said c = exE 𝓤 _ (λ ws. snd∗ 𝓤 (sem 𝓤 H A (lasts next-from.ended (κ′, tt) vd ws)) (fact 𝓤 (c ≡ found)))
 
   -- what `place_after` is passed: the answer c with the machine value u, and the place
   abbrev to′ : Cut → Val → PlaceAfter 𝓤 H A at-mem run .Ghost
@@ -169,7 +171,7 @@ module _ {M : Type 1} (𝓤 : URA M) (H : Heap 𝓤) (A : Atoms 𝓤) (W : Given
   -- what delivery owns is kept, and at's facts are made anew
   again : (n : ℕ) → n < 2 ^ 64 → ent 𝓤 (sem 𝓤 H A Own) (sem 𝓤 H A (B κ′ .own (at-place n) (T′.lowered (at-place n) ∷ [])))
   again n fits = qed W (‵ Own ∷ []) ∵ owned ! usize (Is usize) (uint-makes 𝓤 H A W w64) n _ (refl, fits) $ move ! (1 ∷ 0 ∷ []) $
-      by ! (own-put 𝓤 H A W D L 1 vd n mach)
+      by ! (own-put 𝓤 H A W D L 2 vd n mach)
 
   -- the contract's definitions, opened
   answers : (c : Cut) → c ≡ found → c ≡ answerOf h
@@ -197,32 +199,35 @@ module _ {M : Type 1} (𝓤 : URA M) (H : Heap 𝓤) (A : Atoms 𝓤) (W : Given
     walk =
         qed W ((‵ (flft κ q) ⊛ ‵ (flft κ′ q′) ⊛ ‵ ftrue) ∷ ‵ (owns (MutRef (named 0) κ (B κ′) ∷ []) x at) ∷ []) ∵ enter ! C Λ code.function (vptr b o ∷ []) _ $
         alloc1 ! (λ l₀. alloc1 ! (λ l₁.
-        alloc1 ! (λ l₂. alloc1 ! (λ l₃. alloc1 ! (λ l₄. alloc1 ! (λ l₅. alloc0 ! $ params1 ! $ pass1 ! (init ! 8 refl (tt, tt)) $ pass0 ! $
-        move ! (13 ∷ []) $ fsplit ! $ fsplit3 ! $ drop ! $ move ! (15 ∷ []) $ split ! $ move ! (2 ∷ 3 ∷ 0 ∷ []) $
+        alloc1 ! (λ l₂. alloc1 ! (λ l₃. alloc1 ! (λ l₄. alloc1 ! (λ l₅. alloc1 ! (λ l₆. alloc0 ! $ params1 ! $ pass1 ! (init ! 10 refl (tt, tt)) $
+        pass0 ! $ move ! (15 ∷ []) $ fsplit ! $ fsplit3 ! $ drop ! $ move ! (17 ∷ []) $ split ! $ move ! (2 ∷ 3 ∷ 0 ∷ []) $
         opens ! tt (B κ′) {h = h} b o (λ vs. spelt ! (B κ′) (Is (B κ′)) (shows 𝓤 H A (B κ′)) (LL.vals D L) (LL.tells D L) fullShare h vs b o $
         use1 W (‵ (fat fullShare (T′.mir erased) b o mach)) (W .laws .raw-at fullShare (T′.mir erased) b o mach) $
         move ! (1 ∷ []) $ peeks ! (B κ′) (Is (B κ′)) (shows 𝓤 H A (B κ′)) h (mach ∷ []) (λ was. move ! (1 ∷ 0 ∷ []) $
         let wt = LL.lawful D L 𝓤 H A W .typed h _ was .0 in
-        -- [the struct's cell; what a Reader owns; the open borrow; obs; auth; 'a's token; nothing; _5; …; _4; …; _3; …; _2; …; _1; …; room for _0; …]
-        assigns ! (of-opd ! (load ! (from ! (hop ! (look ! 15 refl) (fld ! refl (stop !)))) (look-in ! 0 (sub ! 0 refl (whole !))))) (from ! (stop !))
-        (init ! 13 refl (tt, wt .1 .0)) $
-        assigns ! (of-opd ! (load ! (from ! (hop ! (look ! 15 refl) (fld ! refl (stop !)))) (look-in ! 0 (sub ! 1 refl (whole !))))) (from ! (stop !))
-        (init ! 11 refl (tt, wt .1 .1 .0)) $
+        -- [the struct's cell; what a Reader owns; the open borrow; obs; auth; 'a's token; nothing; _6; …; _5; …; _4; …; _3; …; _2; …; _1; …; room for _0; …]
+        assigns ! (of-opd ! (load ! (from ! (hop ! (look ! 17 refl) (fld ! refl (stop !)))) (look-in ! 0 (sub ! 0 refl (whole !))))) (from ! (stop !))
+        (init ! 15 refl (tt, wt .1 .0)) $
+        assigns ! (of-opd ! (load ! (from ! (hop ! (look ! 17 refl) (fld ! refl (stop !)))) (look-in ! 0 (sub ! 1 refl (whole !))))) (from ! (stop !))
+        (init ! 13 refl (tt, wt .1 .1 .0)) $
+        assigns ! (of-opd ! (load ! (from ! (hop ! (look ! 17 refl) (fld ! refl (stop !)))) (look-in ! 0 (sub ! 2 refl (whole !))))) (from ! (stop !))
+        (init ! 11 refl (tt, wt .1 .1 .1 .0)) $
         -- `next_from`
         move ! (5 ∷ 1 ∷ []) $
-        use2 W (raw (onEntry 𝓤 H A next-from.signature (κ′, tt) (q′, tt) (h .delivery, (h .at, tt)) passed) ⊛ ‵ Own) (apart (wt .1 .1 .0 .fits)) $ split ! $
+        use2 W (raw (onEntry 𝓤 H A next-from.signature (κ′, tt) (q′, tt) vd passed) ⊛ ‵ Own) apart $ split ! $
         use1 W (raw (NextFrom 𝓤 H A at-mem run .pre to)) asked $
         calls-at ! fm (NextFrom 𝓤 H A at-mem run) known to
-        (and-then ! (load ! (from ! (stop !)) (look ! 13 refl)) (and-then ! (load ! (from ! (stop !)) (look ! 11 refl)) (no-more !))) (λ u.
+        (and-then ! (load ! (from ! (stop !)) (look ! 15 refl)) (and-then ! (load ! (from ! (stop !)) (look ! 13 refl))
+        (and-then ! (load ! (from ! (stop !)) (look ! 11 refl)) (no-more !)))) (λ u.
         use1 W (later (some (λ (c : Cut). ((‵ (flft κ′ q′) ⊛ ‵ ftrue) ⊛ ‵ (S.the-row .own c (u ∷ []))) ⊛ raw
-        (ensured 𝓤 H A next-from.ended (next-from.clauses 𝓤 H A at-mem run) (κ′, tt) (h .delivery, (h .at, tt)) tt c)))) (id⊢ 𝓤 _) $ await ! tt $ pick ! (λ c.
+        (ensured 𝓤 H A next-from.ended (next-from.clauses 𝓤 H A at-mem run) (κ′, tt) vd tt c)))) (id⊢ 𝓤 _) $ await ! tt $ pick ! (λ c.
         split ! $ move ! (1 ∷ []) $ use1 W (raw (fact 𝓤 (c ≡ found))) (said c) $ heard ! (c ≡ found) (λ e. split ! $ move ! (1 ∷ []) $
-        -- [the answer; 'a's token; what a Reader owns; the struct's cell; the open borrow; obs; auth; nothing; _5; …]
+        -- [the answer; 'a's token; what a Reader owns; the struct's cell; the open borrow; obs; auth; nothing; _6; …]
         peeks ! S.the-row (Is S.the-row) (shows 𝓤 H A S.the-row) c (u ∷ []) (λ is.
         let typed = EL.lawful S.the-type S′.the-laws 𝓤 H A W tt .typed c _ is .0 in
         land ! (from ! (stop !)) (init ! 10 refl typed) $
         -- `place_after`: the answer is plain data, so what it owns is made again for the exit
-        use1 W (raw (PlaceAfter 𝓤 H A at-mem run .pre (to′ c u))) (asked′ c u (wt .1 .1 .0 .fits)) $
+        use1 W (raw (PlaceAfter 𝓤 H A at-mem run .pre (to′ c u))) (asked′ c u (wt .1 .1 .1 .0 .fits)) $
         calls-at ! fm (PlaceAfter 𝓤 H A at-mem run) known′ (to′ c u)
         (and-then ! (load ! (from ! (stop !)) (look ! 10 refl)) (and-then ! (load ! (from ! (stop !)) (look ! 12 refl)) (no-more !))) (λ u′.
         use1 W (later (some (λ (n : ℕ). (‵ ftrue ⊛ ‵ (usize .own n (u′ ∷ []))) ⊛ raw
@@ -231,19 +236,20 @@ module _ {M : Type 1} (𝓤 : URA M) (H : Heap 𝓤) (A : Atoms 𝓤) (W : Given
         -- [the place; 'a's token; what a Reader owns; the struct's cell; …]
         peeks ! usize (Is usize) (shows 𝓤 H A usize) n (u′ ∷ []) (λ is′.
         land ! (from ! (stop !)) (init ! 8 refl (uint-lawful 𝓤 H A W w64 .typed n _ is′ .0)) $
-        rewrite ! 8 (λ (w : Val). ‵ (fat fullShare (tyInt w64) l₅ 0 w)) (ap only (is′ .0)) refl $ drop ! $
+        rewrite ! 8 (λ (w : Val). ‵ (fat fullShare (tyInt w64) l₆ 0 w)) (ap only (is′ .0)) refl $ drop ! $
         owned ! S.the-row (Is S.the-row) (EL.makes S.the-type S′.the-plain 𝓤 H A) c (u ∷ []) is $
-        assigns ! (of-opd ! (load ! (from ! (stop !)) (look ! 8 refl))) (from ! (hop ! (look ! 16 refl) (fld ! refl (stop !))))
-        (store-in ! 3 (sub ! 1 refl (whole !)) (tt, record { fits = is′ .1 })) $
-        assigns ! (of-opd ! (load ! (from ! (stop !)) (look ! 10 refl))) (from ! (stop !)) (init ! 18 refl typed) $
+        assigns ! (of-opd ! (load ! (from ! (stop !)) (look ! 8 refl))) (from ! (hop ! (look ! 18 refl) (fld ! refl (stop !))))
+        (store-in ! 3 (sub ! 2 refl (whole !)) (tt, record { fits = is′ .1 })) $
+        assigns ! (of-opd ! (load ! (from ! (stop !)) (look ! 10 refl))) (from ! (stop !)) (init ! 20 refl typed) $
         -- the struct owns the same at the new place, and the borrow is closed
         move ! (2 ∷ []) $ use1 W (‵ (B κ′ .own (at-place n) (T′.lowered (at-place n) ∷ []))) (again n (is′ .1)) $
         move ! (3 ∷ []) $ use1 W (‵ (cellAt fullShare (B κ′ .mir) (T′.lowered (at-place n) ∷ []) b o))
         (W .laws .at-raw fullShare (T′.mir erased) b o (T′.lowered (at-place n))) $ move ! (0 ∷ 1 ∷ 4 ∷ 5 ∷ 6 ∷ []) $
         closes ! tt (B κ′) (at-place n) (T′.lowered (at-place n) ∷ []) b o $
-        returns ! (look ! 16 refl) $ forget ! 6 refl $ forget ! 8 refl $ forget ! 10 refl $ forget ! 12 refl $ forget ! 14 refl $ forget ! 16 refl $
-        move ! (16 ∷ 17 ∷ []) $ free1 ! $ move ! (14 ∷ 15 ∷ []) $ free1 ! $ move ! (12 ∷ 13 ∷ []) $ free1 ! $ move ! (10 ∷ 11 ∷ []) $ free1 ! $
-        move ! (8 ∷ 9 ∷ []) $ free1 ! $ move ! (6 ∷ 7 ∷ []) $ free1 ! $ free0 ! $ keep ! (0 ∷ 1 ∷ 2 ∷ 3 ∷ 4 ∷ []) $ by ! (exits n c u e g)))))))))))))))))
+        returns ! (look ! 18 refl) $ forget ! 6 refl $ forget ! 8 refl $ forget ! 10 refl $ forget ! 12 refl $ forget ! 14 refl $ forget ! 16 refl $
+        forget ! 18 refl $ move ! (18 ∷ 19 ∷ []) $ free1 ! $ move ! (16 ∷ 17 ∷ []) $ free1 ! $ move ! (14 ∷ 15 ∷ []) $ free1 ! $
+        move ! (12 ∷ 13 ∷ []) $ free1 ! $ move ! (10 ∷ 11 ∷ []) $ free1 ! $ move ! (8 ∷ 9 ∷ []) $ free1 ! $ move ! (6 ∷ 7 ∷ []) $ free1 ! $ free0 ! $
+        keep ! (0 ∷ 1 ∷ 2 ∷ 3 ∷ 4 ∷ []) $ by ! (exits n c u e g))))))))))))))))))
 
 module _ {M : Type 1} (𝓤 : URA M) (H : Heap 𝓤) (A : Atoms 𝓤) (W : Given 𝓤 H A) (mem : Memory → SProp 𝓤) (run : Routine → Fun 𝓤) where
   step-walks : (C : Calls 𝓤 H) (Λ : Loops 𝓤 H) → FmC 𝓤 H (W .laws) C → Triple 𝓤 (C #held·next-from) (NextFrom 𝓤 H A mem run)

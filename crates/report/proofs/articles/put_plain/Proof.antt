@@ -8,16 +8,13 @@ use Rattle.report.proofs.articles.put_plain.Statement.{statement}
 use Rattle.report.proofs.articles.put_plain.Tie as tie
 
 abbrev Inv-loop : tie.InvT-loop
-Inv-loop part i₀ i = i ≤ length part
+Inv-loop y part i₀ i = i ≤ length part
 
 abbrev μ-loop : tie.MeasureT-loop
-μ-loop part i₀ i = length part - i
+μ-loop y part i₀ i = length part - i
 
 loop-holds : tie.Need-loop-holds Inv-loop μ-loop
 loop-holds c = search needs
-
-base-requires : tie.Need-base-requires Inv-loop μ-loop
-base-requires c κs = search needs
 
 literal-requires : tie.Need-literal-requires Inv-loop μ-loop
 literal-requires c κs = search needs
@@ -61,7 +58,6 @@ put-plain-spec =
     Inv-loop
     μ-loop
     loop-holds
-    base-requires
     literal-requires
     returns
     add-e

@@ -9,10 +9,10 @@ use Rattle.report.proofs.lines.message_lines.Statement.{statement}
 use Rattle.report.proofs.lines.message_lines.Tie as tie
 
 abbrev Inv-loop : tie.InvT-loop
-Inv-loop d from₀ number₀ from number = (number ≤ from) × (from ≤ length d)
+Inv-loop how d y from₀ number₀ from number = (number ≤ from) × (from ≤ length d)
 
 abbrev μ-loop : tie.MeasureT-loop
-μ-loop d from₀ number₀ from number = length d - from
+μ-loop how d y from₀ number₀ from number = length d - from
 
 loop-holds : tie.Need-loop-holds Inv-loop μ-loop
 loop-holds c = search needs

@@ -5,10 +5,10 @@ use Rattle.report.proofs.prices.price_lines.Statement.{statement}
 use Rattle.report.proofs.prices.price_lines.Tie as tie
 
 abbrev Inv-loop : tie.InvT-loop
-Inv-loop d start end k₀ turn₀ turn-end k turn = turn ≤ turn-end
+Inv-loop how d start end k₀ turn₀ turn-end k turn = turn ≤ turn-end
 
 abbrev μ-loop : tie.MeasureT-loop
-μ-loop d start end k₀ turn₀ turn-end k turn = turn-end - turn
+μ-loop how d start end k₀ turn₀ turn-end k turn = turn-end - turn
 
 loop-holds : tie.Need-loop-holds Inv-loop μ-loop
 loop-holds c = search needs

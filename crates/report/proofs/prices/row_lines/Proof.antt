@@ -5,10 +5,10 @@ use Rattle.report.proofs.prices.row_lines.Statement.{statement}
 use Rattle.report.proofs.prices.row_lines.Tie as tie
 
 abbrev Inv-loop : tie.InvT-loop
-Inv-loop message row written k₀ k = k ≤ written
+Inv-loop y message row written k₀ k = k ≤ written
 
 abbrev μ-loop : tie.MeasureT-loop
-μ-loop message row written k₀ k = written - k
+μ-loop y message row written k₀ k = written - k
 
 loop-holds : tie.Need-loop-holds Inv-loop μ-loop
 loop-holds c = search needs

@@ -1,5 +1,5 @@
 -- `schaumtruhe::articles::refusal_by` meets its contract.
-use Rattle.schaumtruhe.proofs.pricing.Prices.{has-price, no-price}
+use Rattle.schaumtruhe.proofs.pricing.Filling.{has-price, no-price}
 use borrow.Author.Needs.{needs}
 use Rattle.schaumtruhe.proofs.articles.refusal_by.Statement.{statement}
 use Rattle.schaumtruhe.proofs.articles.refusal_by.Tie as tie

@@ -1,5 +1,5 @@
 -- `schaumtruhe::articles::total` meets its contract.
-use Rattle.schaumtruhe.proofs.pricing.Prices.{is-total}
+use Rattle.schaumtruhe.proofs.pricing.Filling.{is-total}
 use borrow.Author.Needs.{needs}
 use Rattle.schaumtruhe.proofs.articles.total.Statement.{statement}
 use Rattle.schaumtruhe.proofs.articles.total.Tie as tie

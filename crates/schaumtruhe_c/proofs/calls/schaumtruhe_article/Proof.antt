@@ -12,8 +12,8 @@ article-refusal-requires c κs = search needs
 article-at-requires : tie.Need-article-at-requires
 article-at-requires c κs = search needs
 
-sub-t6 : tie.Need-sub-t6
-sub-t6 c = rw (c .before .article-at .ensures) (article-within _ _ _ _ .0)
+sub-length : tie.Need-sub-length
+sub-length c = rw (c .before .article-at .ensures) (article-within _ _ _ _ .0)
 
 returns : tie.Need-returns
 unfolding articleOf
@@ -21,4 +21,4 @@ returns c = ap₂ articleOf (c .before .before .article-refusal .ensures) (c .be
 
 pub schaumtruhe-article-spec : {M : Type 1} → statement M
 schaumtruhe-article-spec =
-    tie.close (tie.spec article-refusal-requires article-at-requires sub-t6 returns)
+    tie.close (tie.spec article-refusal-requires article-at-requires sub-length returns)
