@@ -10,7 +10,9 @@ use crate::answers::{Judged, Price, Prices, Verdict};
 use crate::cut::{self, Class, Part, Scanner, UNH, UNT, UNZ};
 use crate::edition::{Edition, OF_20D};
 use crate::guide::{self, bit, AFTER, BELOW, INTERVAL, NEEDED, NODES};
+use crate::segments::{is_break_at, rest_of_message};
 use crate::text::{self, Number, Room};
+use crate::Reading;
 
 /// A fault with the node it names, and the place from which its segment was not looked at yet.
 struct Fault {
@@ -23,6 +25,7 @@ const NO_PART: Part = Part { from: 0, to: 0, releases: 0, stop: Class::End };
 
 /// What is known of the message so far.
 struct Sheet<'a, P> {
+    reading: Reading,
     d: &'a [u8],
     prices: &'a mut P,
     positions: &'a mut Positions,
@@ -50,21 +53,26 @@ struct Sheet<'a, P> {
 }
 
 /// Judges the message that begins at `start`.
-pub fn judge<P: Prices>(d: &[u8], start: usize, positions: &mut Positions, prices: &mut P) -> Judged {
+pub fn judge<P: Prices>(reading: Reading, d: &[u8], start: usize, positions: &mut Positions, prices: &mut P) -> Judged {
     positions.all.clear();
-    let mut sheet = Sheet::new(d, positions, prices);
+    let mut sheet = Sheet::new(reading, d, positions, prices);
     let mut scanner = Scanner::new(d, start);
+    // Where the segment begins, and where the one before it ended.
     let mut at = start;
+    let mut end = start;
     loop {
         let head = cut::head(d, at);
         let tag = cut::tag_of(head);
         if sheet.segment != 0 && (at == d.len() || tag == UNH || tag == UNZ) {
-            return Judged { verdict: refused(24, sheet.segment + 1, at, 0), end: at };
+            return Judged { verdict: refused(24, sheet.segment + 1, end, 0), end };
         }
         sheet.segment += 1;
         match sheet.segment(&mut scanner, at, head) {
             Ok(next) if tag == UNT => return Judged { verdict: sheet.verdict(next), end: next },
-            Ok(next) => at = next,
+            Ok(next) => {
+                end = next;
+                at = if is_break_at(d, next) && reading.skips { scanner.past_breaks(next) } else { next };
+            }
             Err(fault) => return sheet.refuse(at, tag, fault),
         }
     }
@@ -75,8 +83,9 @@ fn refused(number: u32, segment: usize, place: usize, node: usize) -> Verdict {
 }
 
 impl<'a, P: Prices> Sheet<'a, P> {
-    fn new(d: &'a [u8], positions: &'a mut Positions, prices: &'a mut P) -> Sheet<'a, P> {
+    fn new(reading: Reading, d: &'a [u8], positions: &'a mut Positions, prices: &'a mut P) -> Sheet<'a, P> {
         Sheet {
+            reading,
             d,
             prices,
             positions,
@@ -108,7 +117,7 @@ impl<'a, P: Prices> Sheet<'a, P> {
             (_, true) => (10, 0),
             _ => (fault.number, self.edition.number(fault.node)),
         };
-        let end = if tag == UNT { tail.next } else { cut::rest_of_message(self.d, tail.next) };
+        let end = if tag == UNT { tail.next } else { rest_of_message(self.reading, self.d, tail.next) };
         Judged { verdict: refused(number, self.segment, at, node), end }
     }
 
