@@ -49,7 +49,11 @@ fn line_goals(kinds: &[Kind]) -> [Goal; 5] {
     let of_bare = kinds.iter().map(|(case, _)| ratio(last(case).survey, last(case).bare));
     [
         Goal { name: "with lines: survey on all but many, surveys of the plain reader", figure: worst(others), limit: AGAINST_PLAIN },
-        Goal { name: "with lines: survey on many, surveys of the plain reader", figure: on(kinds, "many_lines"), limit: AGAINST_PLAIN_ON_MANY },
+        Goal {
+            name: "with lines: survey on many, surveys of the plain reader",
+            figure: on(kinds, "many_lines"),
+            limit: AGAINST_PLAIN_ON_MANY,
+        },
         Goal { name: "with lines: survey, surveys of the same sheets without line breaks", figure: worst(of_bare), limit: 1.25 },
         Goal { name: "with lines: growth", figure: worst(kinds.iter().map(growth)), limit: 1.2 },
         Goal { name: "with lines: all messages and prices, surveys", figure: worst(kinds.iter().map(walks)), limit: 3.0 },

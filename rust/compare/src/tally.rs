@@ -94,7 +94,10 @@ impl Tally {
 
     pub fn print(&self) {
         let (deliveries, with_breaks) = (self.deliveries, self.with_breaks);
-        println!("deliveries {deliveries}, with line breaks {with_breaks}, bytes {}, longest {}, calls {}", self.bytes, self.longest, self.calls);
+        println!(
+            "deliveries {deliveries}, with line breaks {with_breaks}, bytes {}, longest {}, calls {}",
+            self.bytes, self.longest, self.calls
+        );
         println!("messages {}, accepted {}, segments outside {}", self.messages, self.accepted, self.outside);
         println!("prices compared {}", self.prices);
         println!("segment_at: {}", counted(&self.steps));

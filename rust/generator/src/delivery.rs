@@ -17,10 +17,9 @@ pub fn delivery(seed: u64) -> Vec<u8> {
     if random.below(20) >= 9 {
         return d;
     }
-    let size = d.len();
     let mut d = lay_out(random, d);
-    if d.len() > LIMIT && size <= LIMIT && random.once_in(2) {
-        d.truncate(LIMIT - random.below(3));
+    if d.len() > LIMIT {
+        d.truncate(LIMIT + random.pick(&[&0, &0, &1, &500]) - random.below(3));
     }
     d
 }

@@ -93,6 +93,12 @@ pub fn tag_of(head: u32) -> u32 {
     head & 0x00ff_ffff
 }
 
+/// Whether a head may be that of UNH or UNZ, a break, or none at all, since the delivery ends: one test for what seldom comes.
+#[inline(always)]
+pub fn may_be_no_segment(head: u32) -> bool {
+    matches!(head as u8, 0..=b'\r' | b'U')
+}
+
 /// Three capital letters followed by `+` or `'`.
 #[inline(always)]
 pub fn is_well_begun(head: u32) -> bool {
@@ -134,16 +140,19 @@ impl<'a> Scanner<'a> {
         at
     }
 
-    /// The place behind the breaks that stand at `at`, which is where the scanner stands; it passes them.
+    /// The place behind the breaks that stand at `at`, which is where the scanner stands, and the scanner there.
     #[inline(always)]
-    pub fn past_breaks(&mut self, at: usize) -> usize {
+    pub fn past_breaks(mut self, at: usize) -> (usize, Scanner<'a>) {
         let mut at = at;
         while is_break_at(self.d, at) {
-            // A break is a byte not allowed, so the scanner would give it.
-            self.next();
             at += 1;
         }
-        at
+        if at - self.block < BLOCK {
+            self.left &= u64::MAX << (at - self.block);
+            (at, self)
+        } else {
+            (at, Scanner::new(self.d, at))
+        }
     }
 
     /// The component that begins at `from`, which is where the scanner stands.

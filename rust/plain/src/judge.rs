@@ -10,7 +10,7 @@ use crate::answers::{Judged, Price, Prices, Verdict};
 use crate::cut::{self, Class, Part, Scanner, UNH, UNT, UNZ};
 use crate::edition::{Edition, OF_20D};
 use crate::guide::{self, bit, AFTER, BELOW, INTERVAL, NEEDED, NODES};
-use crate::segments::{is_break_at, rest_of_message};
+use crate::segments::{before_breaks, is_break_at, rest_of_message};
 use crate::text::{self, Number, Room};
 use crate::Reading;
 
@@ -57,22 +57,24 @@ pub fn judge<P: Prices>(reading: Reading, d: &[u8], start: usize, positions: &mu
     positions.all.clear();
     let mut sheet = Sheet::new(reading, d, positions, prices);
     let mut scanner = Scanner::new(d, start);
-    // Where the segment begins, and where the one before it ended.
     let mut at = start;
-    let mut end = start;
     loop {
-        let head = cut::head(d, at);
-        let tag = cut::tag_of(head);
-        if sheet.segment != 0 && (at == d.len() || tag == UNH || tag == UNZ) {
-            return Judged { verdict: refused(24, sheet.segment + 1, end, 0), end };
+        let mut head = cut::head(d, at);
+        if sheet.segment != 0 && cut::may_be_no_segment(head) {
+            if reading.skips && is_break_at(d, at) {
+                (at, scanner) = scanner.past_breaks(at);
+                head = cut::head(d, at);
+            }
+            if at == d.len() || matches!(cut::tag_of(head), UNH | UNZ) {
+                let end = before_breaks(d, at);
+                return Judged { verdict: refused(24, sheet.segment + 1, end, 0), end };
+            }
         }
+        let tag = cut::tag_of(head);
         sheet.segment += 1;
         match sheet.segment(&mut scanner, at, head) {
             Ok(next) if tag == UNT => return Judged { verdict: sheet.verdict(next), end: next },
-            Ok(next) => {
-                end = next;
-                at = if is_break_at(d, next) && reading.skips { scanner.past_breaks(next) } else { next };
-            }
+            Ok(next) => at = next,
             Err(fault) => return sheet.refuse(at, tag, fault),
         }
     }

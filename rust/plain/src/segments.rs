@@ -42,6 +42,11 @@ pub fn past_breaks(reading: Reading, d: &[u8], at: usize) -> usize {
     at
 }
 
+/// The end of the segment before `at`, where only breaks that are skipped may stand between the two.
+pub fn before_breaks(d: &[u8], at: usize) -> usize {
+    at - d[..at].iter().rev().take_while(|byte| matches!(byte, b'\r' | b'\n')).count()
+}
+
 /// The place behind the segment or piece that begins at `at`.
 pub fn segment_end(d: &[u8], at: usize) -> usize {
     segment_at(d, at).0

@@ -111,7 +111,8 @@ extern "C" {
     fn schaumtruhe_survey(reading: Reading, delivery: *const u8, length: usize) -> Totals;
     fn schaumtruhe_next_message(syntax: Syntax, delivery: *const u8, length: usize, from: usize) -> Next;
     fn schaumtruhe_judge_at(reading: Reading, delivery: *const u8, length: usize, at: usize) -> Judged;
-    fn schaumtruhe_prices(reading: Reading, delivery: *const u8, length: usize, at: usize, k: usize, row: *mut i64, count: usize) -> Prices;
+    fn schaumtruhe_prices(reading: Reading, delivery: *const u8, length: usize, at: usize, k: usize, row: *mut i64, count: usize)
+        -> Prices;
     fn schaumtruhe_article(reading: Reading, delivery: *const u8, length: usize, at: usize, k: usize) -> Placed;
     fn schaumtruhe_segment_at(syntax: Syntax, delivery: *const u8, length: usize, at: usize) -> Segment;
 }
