@@ -1,7 +1,8 @@
 /* Reads a file and prints what the checking program of document 01 prints: X and a refusal of the delivery; or a line M for each message, a
  * line P for each price of an accepted one, and a line E with the survey. With -s it prints a line S for each segment instead: its first byte,
- * the byte after its last, and 1 if it is a piece. */
+ * the byte after its last, and 1 if it is a piece. --strict before that reads strictly: line breaks are not skipped. */
 #include <inttypes.h>
+#include <stdbool.h>
 #include <stdio.h>
 #include <string.h>
 
@@ -10,6 +11,7 @@
 /* Each call for prices judges the message anew, so that many small rows would take long. */
 #define ROWS 65536
 
+static struct schaumtruhe_reading reading;
 static int64_t row[ROWS * SCHAUMTRUHE_PRICE];
 static uint8_t delivery[SCHAUMTRUHE_LIMIT + 1]; /* one more than the limit, so that a longer file is told apart */
 
@@ -34,7 +36,7 @@ static void print_prices(size_t length, size_t at)
     size_t k = 0;
     struct schaumtruhe_prices got;
     do {
-        got = schaumtruhe_prices(delivery, length, at, k, row, ROWS * SCHAUMTRUHE_PRICE);
+        got = schaumtruhe_prices(reading, delivery, length, at, k, row, ROWS * SCHAUMTRUHE_PRICE);
         for (size_t i = 0; i < got.written; i++) {
             const int64_t *price = row + i * SCHAUMTRUHE_PRICE;
             printf("P %" PRId64 " ", price[SCHAUMTRUHE_POSITION]);
@@ -49,10 +51,10 @@ static void print_messages(size_t length)
 {
     size_t from = 0;
     for (size_t n = 1;; n++) {
-        struct schaumtruhe_next message = schaumtruhe_next_message(delivery, length, from);
+        struct schaumtruhe_next message = schaumtruhe_next_message(reading.syntax, delivery, length, from);
         if (!message.found)
             return;
-        struct schaumtruhe_judged verdict = schaumtruhe_judge_at(delivery, length, message.start);
+        struct schaumtruhe_judged verdict = schaumtruhe_judge_at(reading, delivery, length, message.start);
         printf("M %zu %zu %" PRIu32 " %zu %zu %zu\n", n, message.start, verdict.number, verdict.segment, verdict.place, verdict.node);
         print_prices(length, message.start); /* a refused message has none */
         from = message.end;
@@ -61,7 +63,7 @@ static void print_messages(size_t length)
 
 static void print_report(size_t length)
 {
-    struct schaumtruhe_totals totals = schaumtruhe_survey(delivery, length);
+    struct schaumtruhe_totals totals = schaumtruhe_survey(reading, delivery, length);
     if (totals.number != 0) {
         printf("X %" PRIu32 "\n", totals.number);
         return;
@@ -72,20 +74,30 @@ static void print_report(size_t length)
 
 static void print_segments(size_t length)
 {
-    struct schaumtruhe_segment segment = schaumtruhe_segment_at(delivery, length, 0);
+    struct schaumtruhe_segment segment = schaumtruhe_segment_at(reading.syntax, delivery, length, 0);
     while (segment.found) {
         printf("S %zu %zu %" PRIu32 "\n", segment.start, segment.end, segment.piece);
-        segment = schaumtruhe_segment_at(delivery, length, segment.end);
+        segment = schaumtruhe_segment_at(reading.syntax, delivery, length, segment.end);
     }
+}
+
+/* Whether the next word is this one; it is then passed. */
+static bool passed(char ***words, const char *word)
+{
+    bool is = **words != NULL && strcmp(**words, word) == 0;
+    *words += is;
+    return is;
 }
 
 int main(int argc, char **argv)
 {
-    int segments = argc == 3 && strcmp(argv[1], "-s") == 0;
-    const char *name = segments ? argv[2] : argv[1];
-    FILE *in = argc == 2 || segments ? fopen(name, "rb") : NULL;
+    char **words = argv + (argc > 0);
+    reading = passed(&words, "--strict") ? schaumtruhe_strict() : schaumtruhe_usual();
+    bool segments = passed(&words, "-s");
+    const char *name = words[0];
+    FILE *in = name != NULL && words[1] == NULL ? fopen(name, "rb") : NULL;
     if (in == NULL) {
-        fprintf(stderr, "usage: example [-s] FILE\n");
+        fprintf(stderr, "usage: example [--strict] [-s] FILE\n");
         return 2;
     }
     size_t length = fread(delivery, 1, sizeof delivery, in);

@@ -6,11 +6,12 @@
  * What a caller owes is what C asks of any pointer and length, and nothing more:
  *   - `delivery` points to `length` bytes that nobody writes to during the call; `row` points to `count` numbers that nobody else reads or
  *     writes during the call, apart from the delivery and aligned for int64_t;
- *   - neither pointer is NULL, even where the length is 0.
- * Every content, every place and every number is answered. Places count bytes from 0 in the delivery.
+ *   - neither pointer is NULL, even where the length is 0;
+ *   - how a delivery is read is a value that `schaumtruhe_usual` or `schaumtruhe_strict` made (see there).
+ * Every content, every place and every number is answered. Places count bytes from 0 in the delivery, skipped line breaks too.
  *
  * `number` is 0 or the refusal:
- *    1 delivery longer than 1,048,576 bytes       2 it begins UNA, and its first nine bytes are not UNA:+.? '
+ *    1 delivery longer than 1,048,576 bytes       2 it begins UNA, and the nine bytes there are not UNA:+.? '
  *   10 a byte not allowed                        11 no tag of three capital letters followed by + or '
  *   12 a piece without its terminator            13 no node with this tag and code can come here
  *   14 a required node is missing                15 the limit of a node is passed           16 the same, for LIN
@@ -24,6 +25,7 @@
 #ifndef SCHAUMTRUHE_H
 #define SCHAUMTRUHE_H
 
+#include <stdbool.h>
 #include <stddef.h>
 #include <stdint.h>
 
@@ -31,7 +33,25 @@
 extern "C" {
 #endif
 
-/* The longest delivery that is read; a longer one gets 1. */
+/* How a delivery is read. Make the value by one of the two calls below and hand it in as it is: all zeros is no reading, and a later version
+ * may add fields. What only cuts takes the `syntax` of a reading. */
+struct schaumtruhe_syntax {
+    uint8_t component, element, decimal, release, terminator; /* the service characters :+.?' */
+    bool skips;                                               /* whether line breaks are skipped */
+};
+
+struct schaumtruhe_reading {
+    struct schaumtruhe_syntax syntax;
+};
+
+/* The usual reading: CR and LF, in any run, directly after a segment's end, after UNA and at the delivery's start are skipped; UNA is looked for
+ * behind those at the start. They belong to no segment, no piece and no message. Anywhere else they are bytes that are not allowed. */
+struct schaumtruhe_reading schaumtruhe_usual(void);
+
+/* The strict reading, which archives ask for: every byte counts, line breaks are bytes that are not allowed. */
+struct schaumtruhe_reading schaumtruhe_strict(void);
+
+/* The longest delivery that is read, skipped line breaks counted; a longer one gets 1. */
 #define SCHAUMTRUHE_LIMIT 1048576
 
 /* Numbers to a price in a row, and what each is. */
@@ -88,30 +108,32 @@ struct schaumtruhe_segment {
 
 /* The whole delivery: messages found, accepted, and segments outside.
  * Refused: 1 or 2, and the counts are 0. */
-struct schaumtruhe_totals schaumtruhe_survey(const uint8_t *delivery, size_t length);
+struct schaumtruhe_totals schaumtruhe_survey(struct schaumtruhe_reading reading, const uint8_t *delivery, size_t length);
 
 /* The first message that begins at `from` or later. None after the last message, and none in a delivery that is refused with 1 or 2; `start`
- * and `end` are then 0. Going on from `end` gives every message once. */
-struct schaumtruhe_next schaumtruhe_next_message(const uint8_t *delivery, size_t length, size_t from);
+ * and `end` are then 0. Going on from `end` gives every message once. A message ends where its last segment ends, before line breaks. */
+struct schaumtruhe_next schaumtruhe_next_message(struct schaumtruhe_syntax syntax, const uint8_t *delivery, size_t length, size_t from);
 
 /* The verdict of the message that begins at `at`: 0 if it is accepted.
  * Refused: 1, 2 or 31, and the rest is 0; or 10 to 25 with segment, place and node. */
-struct schaumtruhe_judged schaumtruhe_judge_at(const uint8_t *delivery, size_t length, size_t at);
+struct schaumtruhe_judged schaumtruhe_judge_at(struct schaumtruhe_reading reading, const uint8_t *delivery, size_t length, size_t at);
 
 /* The prices of the message that begins at `at`, from the k-th on (k from 0), SCHAUMTRUHE_PRICE numbers to a price, as many as fit whole into
  * the `count` numbers of the row. The rest of the row is unchanged. A k past the last price is no refusal: none is written.
  * Refused: 1, 2, 31 or 30, and the rest is 0; the row is then unchanged. */
-struct schaumtruhe_prices schaumtruhe_prices(const uint8_t *delivery, size_t length, size_t at, size_t k, int64_t *row, size_t count);
+struct schaumtruhe_prices schaumtruhe_prices(struct schaumtruhe_reading reading, const uint8_t *delivery, size_t length, size_t at, size_t k,
+                                             int64_t *row, size_t count);
 
 /* Where the article of price k of the message that begins at `at` stands: delivery[place] to delivery[place + length - 1], always within the
  * delivery. An absent article is empty and stands at the message's start.
  * Refused: 1, 2, 31, 30 or 32, and the rest is 0. */
-struct schaumtruhe_article schaumtruhe_article(const uint8_t *delivery, size_t length, size_t at, size_t k);
+struct schaumtruhe_article schaumtruhe_article(struct schaumtruhe_reading reading, const uint8_t *delivery, size_t length, size_t at, size_t k);
 
-/* The segment that the bytes from `at` on begin with; a place within UNA is before the first segment. None at or past the end, and none in a
- * delivery that is refused with 1 or 2; the rest is then 0. From 0 on, and then from each `end`, it gives every segment once, in order.
- * A place where no segment begins is taken as one where one does. */
-struct schaumtruhe_segment schaumtruhe_segment_at(const uint8_t *delivery, size_t length, size_t at);
+/* The segment that the bytes from `at` on begin with, `start` behind the line breaks that are skipped; a place within UNA, or before it, is before
+ * the first segment. None where only skipped bytes follow, none at or past the end, and none in a delivery that is refused with 1 or 2; the rest is
+ * then 0. From 0 on, and then from each `end`, it gives every segment once, in order. A place where no segment begins is taken as one where
+ * one does. */
+struct schaumtruhe_segment schaumtruhe_segment_at(struct schaumtruhe_syntax syntax, const uint8_t *delivery, size_t length, size_t at);
 
 #ifdef __cplusplus
 }

@@ -10,14 +10,30 @@ check=target/release/check
 folder=$(mktemp -d)
 trap 'rm -r "$folder"' EXIT
 python3 ../docs/places.py "$folder"
-$check < "$folder/stdin" | cmp - "$folder/sheetcheck.stdout"
-$check < "$folder/pairs/stdin" | cmp - "$folder/pairs/sheetcheck.stdout"
-for delivery in "$folder"/other/*.edi; do
-    $check < "$delivery" | cmp - "${delivery%.edi}.out"
+differences=0
+lines_of() { # DELIVERY LINES [--strict]
+    $check $3 < "$1" | cmp - "$2" || differences=$((differences + 1))
+}
+# These hold no break that is skipped, so both readings give their lines.
+for reading in "" --strict; do
+    lines_of "$folder/stdin" "$folder/sheetcheck.stdout" $reading
+    lines_of "$folder/pairs/stdin" "$folder/pairs/sheetcheck.stdout" $reading
+    for number in 01 02 03 04 05 06 07 08 09 10 11 12 13 14 15; do
+        lines_of "$folder/other/$number.edi" "$folder/other/$number.out" $reading
+    done
 done
+lines_of "$folder/pairs_lines/stdin" "$folder/pairs_lines/sheetcheck.stdout"
+lines_of "$folder/lines/stdin" "$folder/lines/sheetcheck.stdout"
+for delivery in "$folder"/other/*.edi; do
+    lines_of "$delivery" "${delivery%.edi}.out"
+done
+for delivery in "$folder"/strict/*.edi; do
+    lines_of "$delivery" "${delivery%.edi}.out" --strict
+done
+[ $differences = 0 ]
 echo "docs/VECTORS.md: all lines equal"
 outside=../../shared/tools/vectors.py
 if [ -f $outside ]; then
-    python3 $outside $check request02
+    python3 $outside $check request04
 fi
 nice target/release/compare --deliveries "${1:-5000}" --seed "${2:-1}"

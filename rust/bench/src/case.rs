@@ -3,8 +3,8 @@
 use std::hint::black_box;
 use std::time::{Duration, Instant};
 
-use generator::kind;
-use plain::Library;
+use generator::{kind, without_lines, LINES};
+use plain::{Library, Reading};
 
 use crate::walk::walk;
 use crate::yardstick::terminators;
@@ -14,6 +14,8 @@ pub struct Case {
     pub name: &'static str,
     pub d: Vec<u8>,
     outside: Vec<u8>,
+    /// The same sheets without line breaks, if they have some.
+    bare: Option<Vec<u8>>,
     pub yardstick: Duration,
     pub best: Vec<Best>,
 }
@@ -24,14 +26,20 @@ pub struct Best {
     pub survey: Duration,
     pub count: Duration,
     pub walk: Duration,
+    /// Survey without the line breaks.
+    pub bare: Duration,
 }
+
+/// What is timed is the usual reading.
+pub const USUAL: Reading = Reading::usual();
 
 impl Case {
     pub fn new(name: &'static str, size: usize, libraries: Libraries) -> Case {
         let d = kind(name, size, 7);
         let outside = without_messages(&d);
-        let never = Best { survey: Duration::MAX, count: Duration::MAX, walk: Duration::MAX };
-        Case { name, d, outside, yardstick: Duration::MAX, best: vec![never; libraries.len()] }
+        let bare = LINES.contains(&name).then(|| without_lines(name, size, 7));
+        let never = Best { survey: Duration::MAX, count: Duration::MAX, walk: Duration::MAX, bare: Duration::MAX };
+        Case { name, d, outside, bare, yardstick: Duration::MAX, best: vec![never; libraries.len()] }
     }
 
     /// One more time of each.
@@ -39,8 +47,11 @@ impl Case {
         let d = &self.d;
         shorten(&mut self.yardstick, || ignore(terminators(black_box(d))));
         for (best, library) in self.best.iter_mut().zip(libraries) {
-            shorten(&mut best.survey, || ignore(library.survey(black_box(d))));
-            shorten(&mut best.count, || ignore(library.survey(black_box(&self.outside))));
+            shorten(&mut best.survey, || ignore(library.survey(USUAL, black_box(d))));
+            shorten(&mut best.count, || ignore(library.survey(USUAL, black_box(&self.outside))));
+            if let Some(bare) = &self.bare {
+                shorten(&mut best.bare, || ignore(library.survey(USUAL, black_box(bare))));
+            }
             shorten(&mut best.walk, || ignore(walk(*library, black_box(d), row)));
         }
     }
@@ -49,19 +60,21 @@ impl Case {
         println!("{}", self.describe(libraries[0]));
         println!("  {:<12} {:>9.1} us", "yardstick", self.yardstick.as_secs_f64() * 1e6);
         for (best, library) in self.best.iter().zip(libraries) {
+            let bare = self.bare.as_ref().map(|_| format!("; without line breaks {:.1} us", best.bare.as_secs_f64() * 1e6));
             println!(
-                "  {:<12} {:>9.1} us  {:.2} yardsticks; counting segments {:.2} yardsticks; all messages and prices {:.2} surveys",
+                "  {:<12} {:>9.1} us  {:.2} yardsticks; counting segments {:.2} yardsticks; all messages and prices {:.2} surveys{}",
                 library.name(),
                 best.survey.as_secs_f64() * 1e6,
                 ratio(best.survey, self.yardstick),
                 ratio(best.count, self.yardstick),
-                ratio(best.walk, best.survey)
+                ratio(best.walk, best.survey),
+                bare.unwrap_or_default()
             );
         }
     }
 
     fn describe(&self, library: &dyn Library) -> String {
-        match library.survey(&self.d) {
+        match library.survey(USUAL, &self.d) {
             Ok(survey) => format!(
                 "{}, {} bytes, {} segments, {} messages, {} accepted, {} outside",
                 self.name,

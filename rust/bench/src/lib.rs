@@ -1,4 +1,5 @@
-//! Times and stack of libraries on the five kinds of deliveries, each with sheets of both editions.
+//! Times and stack of libraries in the usual reading, on five kinds of deliveries, four of them also with CR LF after each segment;
+//! each has sheets of both editions.
 //!
 //! A wrapper crate implements `plain::Library` for another library and calls `run` with both.
 
@@ -10,10 +11,10 @@ mod yardstick;
 
 use std::time::{Duration, Instant};
 
-use generator::{kind, KINDS};
+use generator::{kind, KINDS, LINES};
 use plain::Library;
 
-use case::{ignore, Case};
+use case::{ignore, Case, USUAL};
 
 pub use stack::stack_of;
 pub use walk::{walk, ROW};
@@ -38,6 +39,7 @@ pub fn run(libraries: Libraries, length: Duration) {
     let mut all = Vec::new();
     for size in [SHORT, LONG] {
         all.extend(KINDS.map(|name| Case::new(name, size, libraries)));
+        all.extend(LINES.map(|name| Case::new(name, size, libraries)));
     }
     all.extend(BETWEEN.map(|size| Case::new("dense", size, libraries)));
     let mut row = vec![0; ROW];
@@ -55,8 +57,9 @@ pub fn run(libraries: Libraries, length: Duration) {
     for case in &all {
         case.print(libraries);
     }
-    goals::print_goals(&all[KINDS.len()..2 * KINDS.len()], &all[..KINDS.len()]);
-    for name in KINDS {
+    let kinds = KINDS.len() + LINES.len();
+    goals::print_goals(&all[kinds..2 * kinds], &all[..kinds]);
+    for name in KINDS.iter().chain(&LINES) {
         stacks(name, libraries);
     }
 }
@@ -64,15 +67,15 @@ pub fn run(libraries: Libraries, length: Duration) {
 /// The stack of each call on the long delivery of a kind.
 fn stacks(name: &str, libraries: Libraries) {
     let d = kind(name, LONG, 7);
-    let at = libraries[0].next_message(&d, d.len() / 3).or(libraries[0].next_message(&d, 0)).map_or(0, |(start, _)| start);
+    let at = libraries[0].next_message(USUAL, &d, d.len() / 3).or(libraries[0].next_message(USUAL, &d, 0)).map_or(0, |(start, _)| start);
     for library in libraries {
         let mut row = vec![0i64; 800];
-        let survey = stack_of(|| ignore(library.survey(&d)));
-        let next = stack_of(|| ignore(library.next_message(&d, at)));
-        let judge = stack_of(|| ignore(library.judge_at(&d, at)));
-        let prices = stack_of(|| ignore(library.prices(&d, at, 0, &mut row)));
-        let article = stack_of(|| ignore(library.article(&d, at, 0)));
-        let segment = stack_of(|| ignore(library.segment_at(&d, at)));
+        let survey = stack_of(|| ignore(library.survey(USUAL, &d)));
+        let next = stack_of(|| ignore(library.next_message(USUAL, &d, at)));
+        let judge = stack_of(|| ignore(library.judge_at(USUAL, &d, at)));
+        let prices = stack_of(|| ignore(library.prices(USUAL, &d, at, 0, &mut row)));
+        let article = stack_of(|| ignore(library.article(USUAL, &d, at, 0)));
+        let segment = stack_of(|| ignore(library.segment_at(USUAL, &d, at)));
         println!(
             "stack of {} on {name}: survey {survey}, next_message {next}, judge_at {judge}, prices {prices}, article {article}, \
              segment_at {segment} bytes",

@@ -2,6 +2,8 @@
 
 use plain::{Library, Verdict};
 
+use crate::case::USUAL;
+
 /// The numbers of a row that takes the prices of any message of 1 MiB: a LIN and a PRI have at least sixteen bytes.
 pub const ROW: usize = 8 * 65_536;
 
@@ -9,10 +11,10 @@ pub const ROW: usize = 8 * 65_536;
 pub fn walk(library: &dyn Library, d: &[u8], row: &mut [i64]) -> usize {
     let mut from = 0;
     let mut prices = 0;
-    while let Some((start, end)) = library.next_message(d, from) {
+    while let Some((start, end)) = library.next_message(USUAL, d, from) {
         from = end;
-        if matches!(library.judge_at(d, start), Verdict::Accepted { .. }) {
-            prices += library.prices(d, start, 0, row).map_or(0, |(written, _)| written);
+        if matches!(library.judge_at(USUAL, d, start), Verdict::Accepted { .. }) {
+            prices += library.prices(USUAL, d, start, 0, row).map_or(0, |(written, _)| written);
         }
     }
     prices

@@ -1,7 +1,7 @@
-//! All calls on one delivery, with places and numbers in and out of range.
+//! All calls on one delivery in both readings, with places and numbers in and out of range.
 
 use generator::{Random, LIMIT};
-use plain::Library;
+use plain::{Library, Reading};
 
 use crate::{Guarded, Tally};
 
@@ -29,8 +29,13 @@ impl Default for Places {
     }
 }
 
-/// Two libraries and the delivery lent to both.
+pub const READINGS: [Reading; 2] = [Reading::usual(), Reading::strict()];
+/// One for each of the readings.
+pub type Tallies = [Tally; READINGS.len()];
+
+/// Two libraries, the reading and the delivery lent to both.
 struct Pair<'a> {
+    reading: Reading,
     one: &'a dyn Library,
     other: &'a dyn Library,
     d: &'a [u8],
@@ -45,35 +50,21 @@ pub fn compare_delivery(
     delivery: &[u8],
     random: &mut Random,
     places: &mut Places,
-    tally: &mut Tally,
+    tallies: &mut Tallies,
 ) -> Outcome {
     let is_at_begin = random.once_in(4);
     let lent = if is_at_begin { places.delivery.at_the_begin(delivery.len()) } else { places.delivery.at_the_end(delivery.len()) };
     lent.copy_from_slice(delivery);
-    let pair = Pair { one, other, d: lent };
-    tally.deliveries += 1;
-    tally.bytes += delivery.len() as u64;
-    tally.longest = tally.longest.max(delivery.len());
-    pair.survey(tally)?;
-    pair.segments(random, tally)?;
-    let starts = pair.messages(tally)?;
-    pair.next_messages(random, &starts, tally)?;
-    for at in asked_places(random, delivery.len(), &starts) {
-        pair.verdict(at, tally)?;
-        for k in asked_numbers(random, &pair, at) {
-            pair.article(at, k, tally)?;
-            let length = row_length(random);
-            pair.prices(at, k, places.row.numbers(length), places.other_row.numbers(length), tally)?;
-        }
+    let lent = &*lent;
+    let mut rows = (&mut places.row, &mut places.other_row);
+    for (reading, tally) in READINGS.into_iter().zip(tallies) {
+        let pair = Pair { reading, one, other, d: lent };
+        pair.all_calls(random, &mut rows, tally).map_err(|difference| format!("{reading:?}: {difference}"))?;
     }
-    if lent_changed(pair.d, delivery) {
+    if lent != delivery {
         return Err("the delivery was changed".into());
     }
     Ok(())
-}
-
-fn lent_changed(lent: &[u8], delivery: &[u8]) -> bool {
-    lent != delivery
 }
 
 fn equal<T: PartialEq + std::fmt::Debug>(call: std::fmt::Arguments, one: &T, other: &T) -> Outcome {
@@ -85,15 +76,33 @@ fn equal<T: PartialEq + std::fmt::Debug>(call: std::fmt::Arguments, one: &T, oth
 }
 
 impl Pair<'_> {
+    fn all_calls(&self, random: &mut Random, rows: &mut (&mut Guarded, &mut Guarded), tally: &mut Tally) -> Outcome {
+        tally.delivery(self.d);
+        self.survey(tally)?;
+        let breaks = break_places(random, self.d);
+        self.segments(random, &breaks, tally)?;
+        let starts = self.messages(tally)?;
+        self.next_messages(random, &starts, &breaks, tally)?;
+        for at in asked_places(random, self.d.len(), &starts, &breaks) {
+            self.verdict(at, tally)?;
+            for k in asked_numbers(random, self, at) {
+                self.article(at, k, tally)?;
+                let length = row_length(random);
+                self.prices(at, k, rows.0.numbers(length), rows.1.numbers(length), tally)?;
+            }
+        }
+        Ok(())
+    }
+
     fn survey(&self, tally: &mut Tally) -> Outcome {
-        let (one, other) = (self.one.survey(self.d), self.other.survey(self.d));
+        let (one, other) = (self.one.survey(self.reading, self.d), self.other.survey(self.reading, self.d));
         tally.calls += 1;
         tally.survey(&one);
         equal(format_args!("survey"), &one, &other)
     }
 
     fn segment_at(&self, at: usize, tally: &mut Tally) -> Result<Option<(usize, usize, bool)>, String> {
-        let (one, other) = (self.one.segment_at(self.d, at), self.other.segment_at(self.d, at));
+        let (one, other) = (self.one.segment_at(self.reading, self.d, at), self.other.segment_at(self.reading, self.d, at));
         tally.calls += 1;
         tally.segment(&one);
         equal(format_args!("segment_at({at})"), &one, &other)?;
@@ -101,13 +110,13 @@ impl Pair<'_> {
     }
 
     /// A walk through all segments, and single steps from places that it need not come to.
-    fn segments(&self, random: &mut Random, tally: &mut Tally) -> Outcome {
+    fn segments(&self, random: &mut Random, breaks: &[usize], tally: &mut Tally) -> Outcome {
         let mut at = 0;
         while let Some((_, end, _)) = self.segment_at(at, tally)? {
             at = end;
         }
-        for at in edge_places(self.d.len()) {
-            self.segment_at(at, tally)?;
+        for at in edge_places(self.d.len()).iter().chain(breaks) {
+            self.segment_at(*at, tally)?;
         }
         for _ in 0..12 {
             let place = random.below(self.d.len() + 2);
@@ -120,7 +129,7 @@ impl Pair<'_> {
     }
 
     fn next_message(&self, from: usize, tally: &mut Tally) -> Result<Option<(usize, usize)>, String> {
-        let (one, other) = (self.one.next_message(self.d, from), self.other.next_message(self.d, from));
+        let (one, other) = (self.one.next_message(self.reading, self.d, from), self.other.next_message(self.reading, self.d, from));
         tally.calls += 1;
         equal(format_args!("next_message({from})"), &one, &other)?;
         Ok(one)
@@ -139,9 +148,9 @@ impl Pair<'_> {
         Ok(starts)
     }
 
-    fn next_messages(&self, random: &mut Random, starts: &[usize], tally: &mut Tally) -> Outcome {
-        for from in edge_places(self.d.len()) {
-            self.next_message(from, tally)?;
+    fn next_messages(&self, random: &mut Random, starts: &[usize], breaks: &[usize], tally: &mut Tally) -> Outcome {
+        for from in edge_places(self.d.len()).iter().chain(breaks) {
+            self.next_message(*from, tally)?;
         }
         for _ in 0..6 {
             let from = random.below(self.d.len() + 2);
@@ -155,14 +164,14 @@ impl Pair<'_> {
     }
 
     fn verdict(&self, at: usize, tally: &mut Tally) -> Outcome {
-        let (one, other) = (self.one.judge_at(self.d, at), self.other.judge_at(self.d, at));
+        let (one, other) = (self.one.judge_at(self.reading, self.d, at), self.other.judge_at(self.reading, self.d, at));
         tally.calls += 1;
         tally.verdict(self.d, at, &one);
         equal(format_args!("judge_at({at})"), &one, &other)
     }
 
     fn article(&self, at: usize, k: usize, tally: &mut Tally) -> Outcome {
-        let (one, other) = (self.one.article(self.d, at, k), self.other.article(self.d, at, k));
+        let (one, other) = (self.one.article(self.reading, self.d, at, k), self.other.article(self.reading, self.d, at, k));
         tally.calls += 1;
         tally.article(&one);
         equal(format_args!("article({at}, {k})"), &one, &other)
@@ -172,8 +181,8 @@ impl Pair<'_> {
     fn prices(&self, at: usize, k: usize, row: &mut [i64], other_row: &mut [i64], tally: &mut Tally) -> Outcome {
         fill(row);
         fill(other_row);
-        let one = self.one.prices(self.d, at, k, row);
-        let other = self.other.prices(self.d, at, k, other_row);
+        let one = self.one.prices(self.reading, self.d, at, k, row);
+        let other = self.other.prices(self.reading, self.d, at, k, other_row);
         tally.calls += 1;
         tally.prices(&one);
         equal(format_args!("prices({at}, {k}, row of {})", row.len()), &one, &other)?;
@@ -184,6 +193,13 @@ impl Pair<'_> {
 /// At both ends of a delivery, at those of UNA, and far behind.
 fn edge_places(length: usize) -> [usize; 10] {
     [0, 1, 8, 9, 10, length.wrapping_sub(1), length, length + 1, usize::MAX, usize::MAX - 3]
+}
+
+/// Some places where a break stands, and right behind it; so also inside runs of them and at what follows a run.
+fn break_places(random: &mut Random, d: &[u8]) -> Vec<usize> {
+    let breaks: Vec<usize> = (0..d.len()).filter(|&at| matches!(d[at], b'\r' | b'\n')).collect();
+    let count = breaks.len().min(6);
+    (0..count).map(|_| breaks[random.below(breaks.len())]).flat_map(|at| [at, at + 1]).collect()
 }
 
 /// A pattern that no price has.
@@ -206,12 +222,13 @@ fn row_length(random: &mut Random) -> usize {
 }
 
 /// Starts of messages and places where none begins.
-fn asked_places(random: &mut Random, length: usize, starts: &[usize]) -> Vec<usize> {
+fn asked_places(random: &mut Random, length: usize, starts: &[usize], breaks: &[usize]) -> Vec<usize> {
     let mut places: Vec<usize> = starts.to_vec();
     if places.len() > MOST_ASKED {
         random.shuffle(&mut places);
         places.truncate(MOST_ASKED);
     }
+    places.extend(breaks.iter().take(4));
     places.push(random.below(length + 2));
     places.push(random.pick(&[&0, &1, &9, &length, &(length + 1), &usize::MAX, &(usize::MAX - 1)]).to_owned());
     if let Some(&start) = starts.first() {
@@ -222,7 +239,7 @@ fn asked_places(random: &mut Random, length: usize, starts: &[usize]) -> Vec<usi
 
 /// Numbers of prices that the message has, the first it has not, and larger ones.
 fn asked_numbers(random: &mut Random, pair: &Pair, at: usize) -> Vec<usize> {
-    let total = pair.one.prices(pair.d, at, 0, &mut []).map_or(0, |(_, total)| total);
+    let total = pair.one.prices(pair.reading, pair.d, at, 0, &mut []).map_or(0, |(_, total)| total);
     let mut numbers = vec![0, total];
     match random.below(4) {
         0 => numbers.push(total + 1),

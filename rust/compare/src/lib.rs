@@ -1,4 +1,4 @@
-//! Every call of one library against the same call of another, on deliveries from the generator.
+//! Every call of one library against the same call of another, in both readings, on deliveries from the generator.
 //!
 //! A wrapper crate implements `plain::Library` for the library to be compared and calls `run` with it.
 
@@ -7,7 +7,7 @@ mod guarded;
 mod naive;
 mod tally;
 
-pub use calls::{compare_delivery, Places};
+pub use calls::{compare_delivery, Places, Tallies, READINGS};
 pub use guarded::Guarded;
 pub use naive::Naive;
 pub use tally::Tally;
@@ -47,7 +47,7 @@ impl Order {
 
 /// Compares the two on all deliveries ordered. The first difference is shown and given back as false.
 pub fn run(one: &dyn Library, other: &dyn Library, order: &Order) -> bool {
-    let mut tally = Tally::default();
+    let mut tallies = Tallies::default();
     let mut places = calls::Places::new();
     let numbers = match order.only {
         Some(number) => number..number + 1,
@@ -56,13 +56,16 @@ pub fn run(one: &dyn Library, other: &dyn Library, order: &Order) -> bool {
     for number in numbers {
         let d = generator::delivery(order.seed_of(number));
         let random = &mut Random::new(order.seed_of(number) ^ 1);
-        if let Err(difference) = compare_delivery(one, other, &d, random, &mut places, &mut tally) {
+        if let Err(difference) = compare_delivery(one, other, &d, random, &mut places, &mut tallies) {
             show(order, number, &d, &difference);
             return false;
         }
     }
     println!("{} and {}: no difference", one.name(), other.name());
-    tally.print();
+    for (reading, tally) in READINGS.iter().zip(&tallies) {
+        println!("{}", if reading.skips { "usual reading" } else { "strict reading" });
+        tally.print();
+    }
     true
 }
 

@@ -1,4 +1,4 @@
-//! The calls once more, written slowly and sentence by sentence from document 01, items 1 and 2: every segment is cut, decoded and
+//! The calls once more, written slowly and sentence by sentence from document 01, items 1, 2 and 4: every segment is cut, decoded and
 //! copied first, the pages are read from docs/PAGES.md as they are printed there, and instances are kept as a stack.
 //! It shares nothing with the plain reader, so that the comparison means something before a library is linked.
 
@@ -11,10 +11,10 @@ mod place;
 use std::cell::RefCell;
 use std::rc::Rc;
 
-use cut::{front, messages, next_end, Message};
+use cut::{behind_breaks, front, messages, next_end, Message};
 use guide::Guide;
 use judge::{judge, Price};
-use plain::{Article, Library, Survey, Verdict};
+use plain::{Article, Library, Reading, Survey, Verdict};
 
 /// All that is to be known of a delivery.
 struct Read {
@@ -28,7 +28,7 @@ pub struct Naive {
     guide_20d: Guide,
     guide_20c: Guide,
     /// The last delivery and what was read of it, since many calls are made on one delivery.
-    last: RefCell<Option<(Vec<u8>, Whole)>>,
+    last: RefCell<Option<(Reading, Vec<u8>, Whole)>>,
 }
 
 impl Default for Naive {
@@ -48,19 +48,19 @@ impl Naive {
     }
 
     /// The whole delivery read, or 1 or 2.
-    fn read(&self, d: &[u8]) -> Whole {
-        if let Some((delivery, whole)) = &*self.last.borrow() {
-            if delivery == d {
+    fn read(&self, reading: Reading, d: &[u8]) -> Whole {
+        if let Some((read, delivery, whole)) = &*self.last.borrow() {
+            if *read == reading && delivery == d {
                 return whole.clone();
             }
         }
-        let whole = self.read_new(d);
-        *self.last.borrow_mut() = Some((d.to_vec(), whole.clone()));
+        let whole = self.read_new(reading, d);
+        *self.last.borrow_mut() = Some((reading, d.to_vec(), whole.clone()));
         whole
     }
 
-    fn read_new(&self, d: &[u8]) -> Whole {
-        let (all, outside) = messages(d)?;
+    fn read_new(&self, reading: Reading, d: &[u8]) -> Whole {
+        let (all, outside) = messages(reading, d)?;
         let judged = |message: &Message| {
             let (verdict, prices) = judge(d, message, self.guide(message));
             (message.start, message.end, verdict, prices)
@@ -69,8 +69,8 @@ impl Naive {
     }
 
     /// 1, 2, 31, 30, or what `take` makes of the prices.
-    fn with_prices<T>(&self, d: &[u8], at: usize, take: impl FnOnce(&[Price]) -> T) -> Result<T, u32> {
-        let whole = self.read(d)?;
+    fn with_prices<T>(&self, reading: Reading, d: &[u8], at: usize, take: impl FnOnce(&[Price]) -> T) -> Result<T, u32> {
+        let whole = self.read(reading, d)?;
         let (_, _, verdict, prices) = whole.messages.iter().find(|message| message.0 == at).ok_or(31u32)?;
         match verdict {
             Verdict::Accepted { .. } => Ok(take(prices)),
@@ -84,19 +84,19 @@ impl Library for Naive {
         "naive"
     }
 
-    fn survey(&self, d: &[u8]) -> Result<Survey, u32> {
-        let whole = self.read(d)?;
+    fn survey(&self, reading: Reading, d: &[u8]) -> Result<Survey, u32> {
+        let whole = self.read(reading, d)?;
         let accepted = whole.messages.iter().filter(|message| matches!(message.2, Verdict::Accepted { .. })).count();
         Ok(Survey { messages: whole.messages.len(), accepted, outside: whole.outside })
     }
 
-    fn next_message(&self, d: &[u8], from: usize) -> Option<(usize, usize)> {
-        let whole = self.read(d).ok()?;
+    fn next_message(&self, reading: Reading, d: &[u8], from: usize) -> Option<(usize, usize)> {
+        let whole = self.read(reading, d).ok()?;
         whole.messages.iter().find(|message| message.0 >= from).map(|message| (message.0, message.1))
     }
 
-    fn judge_at(&self, d: &[u8], at: usize) -> Verdict {
-        match self.read(d) {
+    fn judge_at(&self, reading: Reading, d: &[u8], at: usize) -> Verdict {
+        match self.read(reading, d) {
             Err(number) => Verdict::without_place(number),
             Ok(whole) => match whole.messages.iter().find(|message| message.0 == at) {
                 None => Verdict::without_place(31),
@@ -105,8 +105,8 @@ impl Library for Naive {
         }
     }
 
-    fn prices(&self, d: &[u8], at: usize, k: usize, row: &mut [i64]) -> Result<(usize, usize), u32> {
-        self.with_prices(d, at, |all| {
+    fn prices(&self, reading: Reading, d: &[u8], at: usize, k: usize, row: &mut [i64]) -> Result<(usize, usize), u32> {
+        self.with_prices(reading, d, at, |all| {
             let asked = all.get(k..).unwrap_or(&[]);
             let written = asked.len().min(row.len() / 8);
             for (price, slot) in asked.iter().zip(row.chunks_exact_mut(8)) {
@@ -116,8 +116,8 @@ impl Library for Naive {
         })
     }
 
-    fn article(&self, d: &[u8], at: usize, k: usize) -> Article {
-        let found = self.with_prices(d, at, |all| all.get(k).map(|price| (price.place, price.length)));
+    fn article(&self, reading: Reading, d: &[u8], at: usize, k: usize) -> Article {
+        let found = self.with_prices(reading, d, at, |all| all.get(k).map(|price| (price.place, price.length)));
         match found {
             Err(number) => Article { number, place: 0, length: 0 },
             Ok(None) => Article { number: 32, place: 0, length: 0 },
@@ -125,8 +125,9 @@ impl Library for Naive {
         }
     }
 
-    fn segment_at(&self, d: &[u8], at: usize) -> Option<(usize, usize, bool)> {
-        let start = if at < front(d).ok()? { front(d).ok()? } else { at };
+    fn segment_at(&self, reading: Reading, d: &[u8], at: usize) -> Option<(usize, usize, bool)> {
+        let front = front(reading, d).ok()?;
+        let start = behind_breaks(reading, d, if at < front { front } else { at });
         next_end(d, start).map(|(end, is_piece)| (start, end, is_piece))
     }
 }

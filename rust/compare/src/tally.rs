@@ -10,13 +10,15 @@ type Counts = BTreeMap<usize, u64>;
 
 #[derive(Default)]
 pub struct Tally {
-    pub deliveries: u64,
-    pub bytes: u64,
-    pub longest: usize,
-    pub messages: u64,
-    pub accepted: u64,
-    pub outside: u64,
-    pub prices: u64,
+    deliveries: u64,
+    bytes: u64,
+    longest: usize,
+    /// Deliveries that hold a line break somewhere.
+    with_breaks: u64,
+    messages: u64,
+    accepted: u64,
+    outside: u64,
+    prices: u64,
     pub calls: u64,
     /// Steps of the segment reader that gave a segment, a piece or nothing.
     steps: BTreeMap<&'static str, u64>,
@@ -32,6 +34,13 @@ pub struct Tally {
 }
 
 impl Tally {
+    pub fn delivery(&mut self, d: &[u8]) {
+        self.deliveries += 1;
+        self.bytes += d.len() as u64;
+        self.longest = self.longest.max(d.len());
+        self.with_breaks += d.iter().any(|byte| matches!(byte, b'\r' | b'\n')) as u64;
+    }
+
     pub fn survey(&mut self, survey: &Result<Survey, u32>) {
         match survey {
             Ok(survey) => {
@@ -84,7 +93,11 @@ impl Tally {
     }
 
     pub fn print(&self) {
-        println!("deliveries {}, bytes {}, longest {}, calls {}", self.deliveries, self.bytes, self.longest, self.calls);
+        let (deliveries, with_breaks) = (self.deliveries, self.with_breaks);
+        println!(
+            "deliveries {deliveries}, with line breaks {with_breaks}, bytes {}, longest {}, calls {}",
+            self.bytes, self.longest, self.calls
+        );
         println!("messages {}, accepted {}, segments outside {}", self.messages, self.accepted, self.outside);
         println!("prices compared {}", self.prices);
         println!("segment_at: {}", counted(&self.steps));

@@ -1,11 +1,11 @@
 //! The comparison finds a library that is wrong in one call.
 
-use compare::{compare_delivery, Naive, Places, Tally};
+use compare::{compare_delivery, Naive, Places, Tallies};
 use generator::Random;
-use plain::{Article, Library, Plain, Survey, Verdict};
+use plain::{Article, Library, Plain, Reading, Survey, Verdict};
 
 /// Which call is wrong.
-#[derive(Clone, Copy, PartialEq)]
+#[derive(Clone, Copy, PartialEq, Debug)]
 enum Wrong {
     Nothing,
     Survey,
@@ -20,6 +20,11 @@ enum Wrong {
     Article,
     Piece,
     LooksBack,
+    NeverSkips,
+    AlwaysSkips,
+    EndBehindBreaks,
+    BreaksInSegment,
+    BeginsAtBreaks,
 }
 
 struct Altered(Wrong);
@@ -29,21 +34,37 @@ impl Library for Altered {
         "altered"
     }
 
-    fn survey(&self, d: &[u8]) -> Result<Survey, u32> {
-        let survey = Plain.survey(d)?;
+    fn survey(&self, reading: Reading, d: &[u8]) -> Result<Survey, u32> {
+        let reading = match self.0 {
+            Wrong::NeverSkips => Reading::strict(),
+            Wrong::AlwaysSkips => Reading::usual(),
+            _ => reading,
+        };
+        let survey = Plain.survey(reading, d)?;
         Ok(Survey { outside: survey.outside + (self.0 == Wrong::Survey) as usize, ..survey })
     }
 
-    fn next_message(&self, d: &[u8], from: usize) -> Option<(usize, usize)> {
-        let (start, end) = Plain.next_message(d, from)?;
-        Some((start, end - (self.0 == Wrong::NextMessage) as usize))
+    fn next_message(&self, reading: Reading, d: &[u8], from: usize) -> Option<(usize, usize)> {
+        let (start, end) = Plain.next_message(reading, d, from)?;
+        match self.0 {
+            Wrong::NextMessage => Some((start, end - 1)),
+            // Right for a reader that never comes to a place inside a run of breaks.
+            Wrong::BeginsAtBreaks if reading.skips && from > 0 && d[from - 1] == b'\r' && d[from] == b'\n' => {
+                Plain.next_message(reading, d, start + 1)
+            }
+            _ => Some((start, end)),
+        }
     }
 
-    fn judge_at(&self, d: &[u8], at: usize) -> Verdict {
+    fn judge_at(&self, reading: Reading, d: &[u8], at: usize) -> Verdict {
         if self.0 == Wrong::Edition {
-            return Plain.judge_at(&as_20d(d), at);
+            return Plain.judge_at(reading, &as_20d(d), at);
         }
-        match Plain.judge_at(d, at) {
+        match Plain.judge_at(reading, d, at) {
+            Verdict::Refused { number: 24, segment, place, node } if self.0 == Wrong::EndBehindBreaks => {
+                let breaks = d[place..].iter().take_while(|byte| b"\r\n".contains(byte)).count();
+                Verdict::Refused { number: 24, segment, place: place + breaks, node }
+            }
             Verdict::Refused { number, segment, place, .. } if self.0 == Wrong::Verdict => {
                 Verdict::Refused { number, segment, place, node: 0 }
             }
@@ -58,8 +79,8 @@ impl Library for Altered {
         }
     }
 
-    fn prices(&self, d: &[u8], at: usize, k: usize, row: &mut [i64]) -> Result<(usize, usize), u32> {
-        let answer = Plain.prices(d, at, k, row);
+    fn prices(&self, reading: Reading, d: &[u8], at: usize, k: usize, row: &mut [i64]) -> Result<(usize, usize), u32> {
+        let answer = Plain.prices(reading, d, at, k, row);
         match answer {
             Ok((written, total)) if self.0 == Wrong::Written => return Ok((written, total + 1)),
             Ok((written, _)) if self.0 == Wrong::RowBehind && written > 0 && row.len() > written * 8 => row[written * 8] = 0,
@@ -69,19 +90,20 @@ impl Library for Altered {
         answer
     }
 
-    fn article(&self, d: &[u8], at: usize, k: usize) -> Article {
-        let article = Plain.article(d, at, k);
+    fn article(&self, reading: Reading, d: &[u8], at: usize, k: usize) -> Article {
+        let article = Plain.article(reading, d, at, k);
         Article { length: article.length - (self.0 == Wrong::Article && article.length > 1) as usize, ..article }
     }
 
-    fn segment_at(&self, d: &[u8], at: usize) -> Option<(usize, usize, bool)> {
-        let (start, end, is_piece) = Plain.segment_at(d, at)?;
+    fn segment_at(&self, reading: Reading, d: &[u8], at: usize) -> Option<(usize, usize, bool)> {
+        let (start, end, is_piece) = Plain.segment_at(reading, d, at)?;
         match self.0 {
             Wrong::Piece => Some((start, end, false)),
             // Right only for a reader that comes to no place behind a release mark.
             Wrong::LooksBack if start > 0 && d[start - 1] == b'?' => {
-                Plain.segment_at(d, start - 1).map(|(_, end, piece)| (start, end, piece))
+                Plain.segment_at(reading, d, start - 1).map(|(_, end, piece)| (start, end, piece))
             }
+            Wrong::BreaksInSegment if start > at && b"\r\n".contains(&d[at]) => Some((at, end, is_piece)),
             _ => Some((start, end, is_piece)),
         }
     }
@@ -101,11 +123,11 @@ fn as_20d(d: &[u8]) -> Vec<u8> {
 /// How many of some deliveries show a difference.
 fn differences(other: &dyn Library) -> usize {
     let mut places = Places::new();
-    let mut tally = Tally::default();
+    let mut tallies = Tallies::default();
     (0..600)
         .filter(|&seed| {
             let d = generator::delivery(seed);
-            d.len() < 100_000 && compare_delivery(&Plain, other, &d, &mut Random::new(seed), &mut places, &mut tally).is_err()
+            d.len() < 100_000 && compare_delivery(&Plain, other, &d, &mut Random::new(seed), &mut places, &mut tallies).is_err()
         })
         .count()
 }
@@ -120,6 +142,14 @@ fn a_right_library_shows_none() {
 fn a_wrong_call_is_found() {
     use Wrong::*;
     for wrong in [Survey, NextMessage, Verdict, Edition, OneTwice, OneAlone, Written, RowBehind, RowOnRefusal, Article, Piece, LooksBack] {
-        assert!(differences(&Altered(wrong)) > 10);
+        assert!(differences(&Altered(wrong)) > 10, "{wrong:?}");
+    }
+}
+
+#[test]
+fn wrong_breaks_are_found() {
+    use Wrong::*;
+    for wrong in [NeverSkips, AlwaysSkips, EndBehindBreaks, BreaksInSegment, BeginsAtBreaks] {
+        assert!(differences(&Altered(wrong)) > 10, "{wrong:?}");
     }
 }

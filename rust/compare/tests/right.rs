@@ -1,15 +1,24 @@
 //! What the generator means to be right is accepted.
 
-use generator::{kind, message, Edition, Random, Shape};
-use plain::survey;
+use generator::{kind, message, without_lines, Edition, Random, Shape, LINES};
+use plain::{survey, Reading};
 
 #[test]
 fn the_kinds_that_are_timed() {
-    for name in ["valid", "many", "z04", "dense"] {
+    for name in ["valid", "many", "z04", "dense", "valid_lines", "many_lines", "z04_lines"] {
         for seed in 0..4 {
-            let survey = survey(&kind(name, 65_536, seed)).expect("a delivery that is admitted");
+            let survey = survey(Reading::usual(), &kind(name, 65_536, seed)).expect("a delivery that is admitted");
             assert_eq!(survey.accepted, survey.messages, "{name} {seed}");
         }
+    }
+}
+
+#[test]
+fn lines_change_no_count() {
+    for name in LINES {
+        let (lines, bare) = (kind(name, 65_536, 1), without_lines(name, 65_536, 1));
+        assert!(lines.len() <= 65_536 && bare.len() < lines.len());
+        assert_eq!(survey(Reading::usual(), &lines), survey(Reading::strict(), &bare), "{name}");
     }
 }
 
@@ -26,6 +35,6 @@ fn messages_of_every_shape() {
         };
         let mut d = Vec::new();
         message(random, shape).iter().for_each(|segment| segment.write(random, shape.releases, &mut d));
-        assert_eq!(survey(&d).map(|survey| survey.accepted), Ok(1), "{}", String::from_utf8_lossy(&d));
+        assert_eq!(survey(Reading::usual(), &d).map(|survey| survey.accepted), Ok(1), "{}", String::from_utf8_lossy(&d));
     }
 }

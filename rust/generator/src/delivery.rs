@@ -1,5 +1,6 @@
 //! Whole deliveries: messages right and damaged, what stands outside, UNA, pieces, sizes on both sides of the limit.
 
+use crate::breaks::lay_out;
 use crate::damage::{damage, FAULTS};
 use crate::edition::Edition;
 use crate::kinds::dense;
@@ -9,9 +10,21 @@ use crate::sheet::{message, Shape};
 /// The longest delivery that is admitted.
 pub const LIMIT: usize = 1_048_576;
 
-/// The delivery of a seed.
+/// The delivery of a seed, nearly half of them with line breaks.
 pub fn delivery(seed: u64) -> Vec<u8> {
     let random = &mut Random::new(seed);
+    let d = one_line(random);
+    if random.below(20) >= 9 {
+        return d;
+    }
+    let mut d = lay_out(random, d);
+    if d.len() > LIMIT {
+        d.truncate(LIMIT + random.pick(&[&0, &0, &1, &500]) - random.below(3));
+    }
+    d
+}
+
+fn one_line(random: &mut Random) -> Vec<u8> {
     let mut d = Vec::new();
     front(random, &mut d);
     match random.below(1000) {

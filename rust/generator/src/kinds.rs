@@ -1,14 +1,30 @@
-//! The five kinds of deliveries that are timed.
+//! The kinds of deliveries that are timed.
 
+use crate::breaks::in_lines;
 use crate::damage::{damage, FAULTS};
 use crate::edition::Edition;
 use crate::random::Random;
 use crate::sheet::{message, Shape};
 
 pub const KINDS: [&str; 5] = ["valid", "many", "damaged", "z04", "dense"];
+/// Those with CR LF after each segment.
+pub const LINES: [&str; 4] = ["valid_lines", "many_lines", "damaged_lines", "z04_lines"];
 
 /// A delivery of one kind with at most `size` bytes, filled as far as its messages allow.
 pub fn kind(name: &str, size: usize, seed: u64) -> Vec<u8> {
+    if name.ends_with("_lines") {
+        return in_lines(&without_lines(name, size, seed));
+    }
+    filled(name, size, seed, |message| message.len())
+}
+
+/// The same sheets as in `kind` of a name in `LINES`, without the line breaks.
+pub fn without_lines(name: &str, size: usize, seed: u64) -> Vec<u8> {
+    filled(name.trim_end_matches("_lines"), size, seed, |message| in_lines(message).len())
+}
+
+/// Messages as long as there is room for what each takes.
+fn filled(name: &str, size: usize, seed: u64, takes: impl Fn(&[u8]) -> usize) -> Vec<u8> {
     let random = &mut Random::new(seed);
     let mut d = Vec::with_capacity(size);
     if name == "dense" {
@@ -16,9 +32,11 @@ pub fn kind(name: &str, size: usize, seed: u64) -> Vec<u8> {
         return d;
     }
     let mut misses = 0;
+    let mut taken = 0;
     while misses < 40 {
         let one = one_message(random, name);
-        if d.len() + one.len() <= size {
+        if taken + takes(&one) <= size {
+            taken += takes(&one);
             d.extend_from_slice(&one);
         } else {
             misses += 1;

@@ -2,6 +2,7 @@
 //! chosen way; it judges nothing, so it shares no code with any reader.
 
 mod basics;
+mod breaks;
 mod damage;
 mod delivery;
 mod differences;
@@ -14,6 +15,6 @@ mod sheet;
 pub use damage::{damage, FAULTS};
 pub use delivery::{delivery, LIMIT};
 pub use edition::Edition;
-pub use kinds::{kind, KINDS};
+pub use kinds::{kind, without_lines, KINDS, LINES};
 pub use random::Random;
 pub use sheet::{message, Segment, Shape};

@@ -4,7 +4,9 @@
 //! into a table that has at least twice as many slots as positions; the segments themselves are compared only where
 //! two hashes are equal.
 
-use crate::cut::{head, segment_end, tag, tag_of, Class, Part, Scanner};
+use crate::cut::{head, tag, tag_of, Class, Part, Scanner};
+use crate::segments::{past_breaks, segment_end};
+use crate::Reading;
 
 /// One position: the hash of what is compared, the place of its LIN, and what 23 would name. PIA and IMD follow LIN.
 #[derive(Clone, Copy)]
@@ -114,11 +116,16 @@ fn agree_in_full(d: &[u8], one: usize, other: usize) -> bool {
 
 /// The places of PIA and IMD behind a LIN, where they stand.
 fn belonging(d: &[u8], lin: usize) -> (Option<usize>, Option<usize>) {
-    let next = segment_end(d, lin);
+    let next = next_segment(d, lin);
     if tag_of(head(d, next)) != tag(b"PIA") {
         return (None, imd_at(d, next));
     }
-    (Some(next), imd_at(d, segment_end(d, next)))
+    (Some(next), imd_at(d, next_segment(d, next)))
+}
+
+/// Where the next segment begins. The message has no fault, so a break between two segments is one that is skipped.
+fn next_segment(d: &[u8], at: usize) -> usize {
+    past_breaks(Reading::usual(), d, segment_end(d, at))
 }
 
 fn imd_at(d: &[u8], at: usize) -> Option<usize> {

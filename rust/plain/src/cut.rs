@@ -1,8 +1,6 @@
-//! Cutting: where segments, parts and messages begin and end. Nothing here knows the guide.
+//! What bytes mean inside a segment, and its parts one after the other. Nothing here knows the guide.
 
-/// The longest delivery that is admitted.
-pub const LIMIT: usize = 1_048_576;
-const UNA: &[u8; 9] = b"UNA:+.? '";
+use crate::segments::is_break_at;
 
 pub const UNH: u32 = tag(b"UNH");
 pub const UNT: u32 = tag(b"UNT");
@@ -71,21 +69,6 @@ impl Part {
     }
 }
 
-/// Refusal 1 or 2, or the place where the segments begin.
-pub fn front(d: &[u8]) -> Result<usize, u32> {
-    if d.len() > LIMIT {
-        return Err(1);
-    }
-    if !d.starts_with(b"UNA") {
-        return Ok(0);
-    }
-    if d.starts_with(UNA) {
-        Ok(UNA.len())
-    } else {
-        Err(2)
-    }
-}
-
 /// The first four bytes at a place; zeros stand for bytes behind the end.
 #[inline(always)]
 pub fn head(d: &[u8], at: usize) -> u32 {
@@ -108,6 +91,12 @@ fn short_head(d: &[u8], at: usize) -> u32 {
 #[inline(always)]
 pub fn tag_of(head: u32) -> u32 {
     head & 0x00ff_ffff
+}
+
+/// Whether a head may be that of UNH or UNZ, a break, or none at all, since the delivery ends: one test for what seldom comes.
+#[inline(always)]
+pub fn may_be_no_segment(head: u32) -> bool {
+    matches!(head as u8, 0..=b'\r' | b'U')
 }
 
 /// Three capital letters followed by `+` or `'`.
@@ -149,6 +138,21 @@ impl<'a> Scanner<'a> {
         let at = self.block + self.left.trailing_zeros() as usize;
         self.left &= self.left - 1;
         at
+    }
+
+    /// The place behind the breaks that stand at `at`, which is where the scanner stands, and the scanner there.
+    #[inline(always)]
+    pub fn past_breaks(mut self, at: usize) -> (usize, Scanner<'a>) {
+        let mut at = at;
+        while is_break_at(self.d, at) {
+            at += 1;
+        }
+        if at - self.block < BLOCK {
+            self.left &= u64::MAX << (at - self.block);
+            (at, self)
+        } else {
+            (at, Scanner::new(self.d, at))
+        }
     }
 
     /// The component that begins at `from`, which is where the scanner stands.
@@ -253,92 +257,4 @@ pub fn tail(d: &[u8], from: usize) -> Tail {
         at += 1;
     }
     Tail { next: d.len(), is_piece: true, has_byte_not_allowed }
-}
-
-/// The place behind the segment or piece that begins at `at`.
-pub fn segment_end(d: &[u8], at: usize) -> usize {
-    segment_at(d, at).0
-}
-
-/// As `segment_end`, and whether it is a piece.
-#[inline(always)]
-pub fn segment_at(d: &[u8], at: usize) -> (usize, bool) {
-    let mut at = at;
-    loop {
-        at += text_run(d, at);
-        match d.get(at) {
-            None => return (d.len(), true),
-            Some(b'\'') => return (at + 1, false),
-            Some(_) => at += 2,
-        }
-    }
-}
-
-/// How many bytes from here are neither a release nor a terminator; eight at a time.
-#[inline(always)]
-fn text_run(d: &[u8], from: usize) -> usize {
-    let rest = d.get(from..).unwrap_or(&[]);
-    let mut run = 0;
-    for eight in rest.chunks_exact(8) {
-        let word = u64::from_le_bytes(eight.try_into().unwrap());
-        let found = zero_bytes(word ^ (EACH * b'\'' as u64)) | zero_bytes(word ^ (EACH * b'?' as u64));
-        if found != 0 {
-            return run + found.trailing_zeros() as usize / 8;
-        }
-        run += 8;
-    }
-    run + rest[run..].iter().take_while(|&&byte| byte != b'\'' && byte != b'?').count()
-}
-
-const EACH: u64 = 0x0101_0101_0101_0101;
-
-/// The lowest set bit marks the first byte of the word that is zero.
-fn zero_bytes(word: u64) -> u64 {
-    word.wrapping_sub(EACH) & !word & (EACH << 7)
-}
-
-/// The end of the message whose segments up to `at` are known to be in it; `at` is where the next segment begins.
-pub fn rest_of_message(d: &[u8], at: usize) -> usize {
-    let mut at = at;
-    while at < d.len() {
-        match tag_of(head(d, at)) {
-            UNH | UNZ => return at,
-            UNT => return segment_end(d, at),
-            _ => at = segment_end(d, at),
-        }
-    }
-    d.len()
-}
-
-/// Whether a segment begins at `at`. Only the run of releases before the terminator has to be looked at.
-pub fn begins_segment(d: &[u8], front: usize, at: usize) -> bool {
-    if at <= front || at >= d.len() {
-        return at == front && at < d.len();
-    }
-    d[at - 1] == b'\'' && !is_released(d, front, at - 1)
-}
-
-/// Whether the byte at `at` is made literal: an odd number of release bytes stands right before it.
-pub fn is_released(d: &[u8], front: usize, at: usize) -> bool {
-    d[front..at].iter().rev().take_while(|&&byte| byte == b'?').count() % 2 == 1
-}
-
-/// Whether a message begins at `at`.
-pub fn begins_message(d: &[u8], front: usize, at: usize) -> bool {
-    begins_segment(d, front, at) && tag_of(head(d, at)) == UNH
-}
-
-/// The first segment that begins at `from` or later, if any.
-pub fn segment_from(d: &[u8], front: usize, from: usize) -> Option<usize> {
-    if from <= front {
-        return Some(front).filter(|&at| at < d.len());
-    }
-    if from >= d.len() {
-        return None;
-    }
-    if begins_segment(d, front, from) {
-        return Some(from);
-    }
-    let literal = is_released(d, front, from) as usize;
-    Some(segment_end(d, from + literal)).filter(|&at| at < d.len())
 }

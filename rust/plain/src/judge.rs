@@ -10,7 +10,9 @@ use crate::answers::{Judged, Price, Prices, Verdict};
 use crate::cut::{self, Class, Part, Scanner, UNH, UNT, UNZ};
 use crate::edition::{Edition, OF_20D};
 use crate::guide::{self, bit, AFTER, BELOW, INTERVAL, NEEDED, NODES};
+use crate::segments::{before_breaks, is_break_at, rest_of_message};
 use crate::text::{self, Number, Room};
+use crate::Reading;
 
 /// A fault with the node it names, and the place from which its segment was not looked at yet.
 struct Fault {
@@ -23,6 +25,7 @@ const NO_PART: Part = Part { from: 0, to: 0, releases: 0, stop: Class::End };
 
 /// What is known of the message so far.
 struct Sheet<'a, P> {
+    reading: Reading,
     d: &'a [u8],
     prices: &'a mut P,
     positions: &'a mut Positions,
@@ -50,17 +53,24 @@ struct Sheet<'a, P> {
 }
 
 /// Judges the message that begins at `start`.
-pub fn judge<P: Prices>(d: &[u8], start: usize, positions: &mut Positions, prices: &mut P) -> Judged {
+pub fn judge<P: Prices>(reading: Reading, d: &[u8], start: usize, positions: &mut Positions, prices: &mut P) -> Judged {
     positions.all.clear();
-    let mut sheet = Sheet::new(d, positions, prices);
+    let mut sheet = Sheet::new(reading, d, positions, prices);
     let mut scanner = Scanner::new(d, start);
     let mut at = start;
     loop {
-        let head = cut::head(d, at);
-        let tag = cut::tag_of(head);
-        if sheet.segment != 0 && (at == d.len() || tag == UNH || tag == UNZ) {
-            return Judged { verdict: refused(24, sheet.segment + 1, at, 0), end: at };
+        let mut head = cut::head(d, at);
+        if sheet.segment != 0 && cut::may_be_no_segment(head) {
+            if reading.skips && is_break_at(d, at) {
+                (at, scanner) = scanner.past_breaks(at);
+                head = cut::head(d, at);
+            }
+            if at == d.len() || matches!(cut::tag_of(head), UNH | UNZ) {
+                let end = before_breaks(d, at);
+                return Judged { verdict: refused(24, sheet.segment + 1, end, 0), end };
+            }
         }
+        let tag = cut::tag_of(head);
         sheet.segment += 1;
         match sheet.segment(&mut scanner, at, head) {
             Ok(next) if tag == UNT => return Judged { verdict: sheet.verdict(next), end: next },
@@ -75,8 +85,9 @@ fn refused(number: u32, segment: usize, place: usize, node: usize) -> Verdict {
 }
 
 impl<'a, P: Prices> Sheet<'a, P> {
-    fn new(d: &'a [u8], positions: &'a mut Positions, prices: &'a mut P) -> Sheet<'a, P> {
+    fn new(reading: Reading, d: &'a [u8], positions: &'a mut Positions, prices: &'a mut P) -> Sheet<'a, P> {
         Sheet {
+            reading,
             d,
             prices,
             positions,
@@ -108,7 +119,7 @@ impl<'a, P: Prices> Sheet<'a, P> {
             (_, true) => (10, 0),
             _ => (fault.number, self.edition.number(fault.node)),
         };
-        let end = if tag == UNT { tail.next } else { cut::rest_of_message(self.d, tail.next) };
+        let end = if tag == UNT { tail.next } else { rest_of_message(self.reading, self.d, tail.next) };
         Judged { verdict: refused(number, self.segment, at, node), end }
     }
 

@@ -1,18 +1,18 @@
 //! The calls as a trait, so that another library can be put beside this reader.
 
 use crate::reader::{self, Article, Survey};
-use crate::Verdict;
+use crate::{Reading, Verdict};
 
 pub trait Library {
     fn name(&self) -> &'static str;
-    fn survey(&self, d: &[u8]) -> Result<Survey, u32>;
-    fn next_message(&self, d: &[u8], from: usize) -> Option<(usize, usize)>;
-    fn judge_at(&self, d: &[u8], at: usize) -> Verdict;
-    fn prices(&self, d: &[u8], at: usize, k: usize, row: &mut [i64]) -> Result<(usize, usize), u32>;
-    fn article(&self, d: &[u8], at: usize, k: usize) -> Article;
+    fn survey(&self, reading: Reading, d: &[u8]) -> Result<Survey, u32>;
+    fn next_message(&self, reading: Reading, d: &[u8], from: usize) -> Option<(usize, usize)>;
+    fn judge_at(&self, reading: Reading, d: &[u8], at: usize) -> Verdict;
+    fn prices(&self, reading: Reading, d: &[u8], at: usize, k: usize, row: &mut [i64]) -> Result<(usize, usize), u32>;
+    fn article(&self, reading: Reading, d: &[u8], at: usize, k: usize) -> Article;
 
     /// One step of the segment reader from a place: start, end and whether it is a piece.
-    fn segment_at(&self, d: &[u8], at: usize) -> Option<(usize, usize, bool)>;
+    fn segment_at(&self, reading: Reading, d: &[u8], at: usize) -> Option<(usize, usize, bool)>;
 }
 
 /// This reader.
@@ -23,27 +23,27 @@ impl Library for Plain {
         "plain"
     }
 
-    fn survey(&self, d: &[u8]) -> Result<Survey, u32> {
-        reader::survey(d)
+    fn survey(&self, reading: Reading, d: &[u8]) -> Result<Survey, u32> {
+        reader::survey(reading, d)
     }
 
-    fn next_message(&self, d: &[u8], from: usize) -> Option<(usize, usize)> {
-        reader::next_message(d, from)
+    fn next_message(&self, reading: Reading, d: &[u8], from: usize) -> Option<(usize, usize)> {
+        reader::next_message(reading, d, from)
     }
 
-    fn judge_at(&self, d: &[u8], at: usize) -> Verdict {
-        reader::judge_at(d, at)
+    fn judge_at(&self, reading: Reading, d: &[u8], at: usize) -> Verdict {
+        reader::judge_at(reading, d, at)
     }
 
-    fn prices(&self, d: &[u8], at: usize, k: usize, row: &mut [i64]) -> Result<(usize, usize), u32> {
-        reader::prices(d, at, k, row)
+    fn prices(&self, reading: Reading, d: &[u8], at: usize, k: usize, row: &mut [i64]) -> Result<(usize, usize), u32> {
+        reader::prices(reading, d, at, k, row)
     }
 
-    fn article(&self, d: &[u8], at: usize, k: usize) -> Article {
-        reader::article(d, at, k)
+    fn article(&self, reading: Reading, d: &[u8], at: usize, k: usize) -> Article {
+        reader::article(reading, d, at, k)
     }
 
-    fn segment_at(&self, d: &[u8], at: usize) -> Option<(usize, usize, bool)> {
-        reader::segment_at(d, at)
+    fn segment_at(&self, reading: Reading, d: &[u8], at: usize) -> Option<(usize, usize, bool)> {
+        reader::segment_at(reading, d, at)
     }
 }

@@ -4,6 +4,8 @@ use crate::agree::Positions;
 use crate::answers::{Judged, NoPrices, Price, Prices, Verdict};
 use crate::cut;
 use crate::judge::judge;
+use crate::segments::{self, past_breaks, rest_of_message, segment_end};
+use crate::Reading;
 
 #[derive(Clone, Copy, PartialEq, Eq, Debug)]
 pub struct Survey {
@@ -24,32 +26,32 @@ pub struct Article {
 pub const WIDTH: usize = 8;
 
 /// Messages, accepted, segments outside; or refusal 1 or 2.
-pub fn survey(d: &[u8]) -> Result<Survey, u32> {
-    let mut at = cut::front(d)?;
+pub fn survey(reading: Reading, d: &[u8]) -> Result<Survey, u32> {
+    let mut at = past_breaks(reading, d, segments::front(reading, d)?);
     let mut survey = Survey { messages: 0, accepted: 0, outside: 0 };
     let mut positions = Positions::default();
     while at < d.len() {
         if cut::tag_of(cut::head(d, at)) != cut::UNH {
             survey.outside += 1;
-            at = cut::segment_end(d, at);
+            at = past_breaks(reading, d, segment_end(d, at));
             continue;
         }
-        let judged = judge(d, at, &mut positions, &mut NoPrices);
+        let judged = judge(reading, d, at, &mut positions, &mut NoPrices);
         survey.messages += 1;
         survey.accepted += is_accepted(&judged.verdict) as usize;
-        at = judged.end;
+        at = past_breaks(reading, d, judged.end);
     }
     Ok(survey)
 }
 
 /// The next segment for a reader at a place: start, end and whether it is a piece. None on a delivery that is not admitted;
-/// a place in UNA is before the first.
-pub fn segment_at(d: &[u8], at: usize) -> Option<(usize, usize, bool)> {
-    let start = at.max(cut::front(d).ok()?);
+/// a place in UNA or before it is before the first.
+pub fn segment_at(reading: Reading, d: &[u8], at: usize) -> Option<(usize, usize, bool)> {
+    let start = past_breaks(reading, d, at.max(segments::front(reading, d).ok()?));
     if start >= d.len() {
         return None;
     }
-    let (end, is_piece) = cut::segment_at(d, start);
+    let (end, is_piece) = segments::segment_at(d, start);
     Some((start, end, is_piece))
 }
 
@@ -58,39 +60,39 @@ pub fn is_accepted(verdict: &Verdict) -> bool {
 }
 
 /// The first message that begins at `from` or later: its start and end.
-pub fn next_message(d: &[u8], from: usize) -> Option<(usize, usize)> {
-    let front = cut::front(d).ok()?;
-    let mut at = cut::segment_from(d, front, from)?;
+pub fn next_message(reading: Reading, d: &[u8], from: usize) -> Option<(usize, usize)> {
+    let front = segments::front(reading, d).ok()?;
+    let mut at = segments::segment_from(reading, d, front, from)?;
     while at < d.len() {
-        let end = cut::segment_end(d, at);
+        let end = segment_end(d, at);
         if cut::tag_of(cut::head(d, at)) == cut::UNH {
-            return Some((at, cut::rest_of_message(d, end)));
+            return Some((at, rest_of_message(reading, d, end)));
         }
-        at = end;
+        at = past_breaks(reading, d, end);
     }
     None
 }
 
 /// The verdict on the message that begins at `at`.
-pub fn judge_at(d: &[u8], at: usize) -> Verdict {
-    match judge_with(d, at, &mut NoPrices) {
+pub fn judge_at(reading: Reading, d: &[u8], at: usize) -> Verdict {
+    match judge_with(reading, d, at, &mut NoPrices) {
         Ok(judged) => judged.verdict,
         Err(number) => Verdict::without_place(number),
     }
 }
 
 /// 1, 2 and 31, else the judged message.
-fn judge_with<P: Prices>(d: &[u8], at: usize, prices: &mut P) -> Result<Judged, u32> {
-    let front = cut::front(d)?;
-    if !cut::begins_message(d, front, at) {
+fn judge_with<P: Prices>(reading: Reading, d: &[u8], at: usize, prices: &mut P) -> Result<Judged, u32> {
+    let front = segments::front(reading, d)?;
+    if !segments::begins_message(reading, d, front, at) {
         return Err(31);
     }
-    Ok(judge(d, at, &mut Positions::default(), prices))
+    Ok(judge(reading, d, at, &mut Positions::default(), prices))
 }
 
 /// As `judge_with`, with 30 for a refused message.
-fn accept_with<P: Prices>(d: &[u8], at: usize, prices: &mut P) -> Result<(), u32> {
-    if is_accepted(&judge_with(d, at, prices)?.verdict) {
+fn accept_with<P: Prices>(reading: Reading, d: &[u8], at: usize, prices: &mut P) -> Result<(), u32> {
+    if is_accepted(&judge_with(reading, d, at, prices)?.verdict) {
         Ok(())
     } else {
         Err(30)
@@ -98,9 +100,9 @@ fn accept_with<P: Prices>(d: &[u8], at: usize, prices: &mut P) -> Result<(), u32
 }
 
 /// The prices from number `k` on, as many as fit whole into `row`: how many were written and how many there are.
-pub fn prices(d: &[u8], at: usize, k: usize, row: &mut [i64]) -> Result<(usize, usize), u32> {
+pub fn prices(reading: Reading, d: &[u8], at: usize, k: usize, row: &mut [i64]) -> Result<(usize, usize), u32> {
     let mut window = Window { start: at, first: k, room: row.len() / WIDTH, total: 0, kept: Vec::new() };
-    accept_with(d, at, &mut window)?;
+    accept_with(reading, d, at, &mut window)?;
     for (slot, price) in row.chunks_exact_mut(WIDTH).zip(&window.kept) {
         slot.copy_from_slice(price);
     }
@@ -150,9 +152,9 @@ fn numbers(start: usize, price: &Price) -> [i64; WIDTH] {
 }
 
 /// The article of price number `k`.
-pub fn article(d: &[u8], at: usize, k: usize) -> Article {
+pub fn article(reading: Reading, d: &[u8], at: usize, k: usize) -> Article {
     let mut one = One { wanted: k, total: 0, found: None };
-    let number = match (accept_with(d, at, &mut one), one.found) {
+    let number = match (accept_with(reading, d, at, &mut one), one.found) {
         (Err(number), _) => number,
         (Ok(()), None) => 32,
         (Ok(()), Some(price)) if price.article_length == 0 => return Article { number: 0, place: at, length: 0 },

@@ -6,7 +6,9 @@ use crate::agree::Positions;
 use crate::answers::{Price, Prices, Verdict};
 use crate::cut;
 use crate::judge::judge;
+use crate::segments::{self, past_breaks, segment_end};
 use crate::text::decoded;
+use crate::Reading;
 
 /// All prices of a message, in order.
 #[derive(Default)]
@@ -21,27 +23,27 @@ impl Prices for All {
 }
 
 /// M and P lines for every message and the E line; or the X line alone.
-pub fn report(d: &[u8]) -> Vec<u8> {
-    match cut::front(d) {
-        Ok(front) => messages(d, front),
+pub fn report(reading: Reading, d: &[u8]) -> Vec<u8> {
+    match segments::front(reading, d) {
+        Ok(front) => messages(reading, d, front),
         Err(number) => format!("X {number}\n").into_bytes(),
     }
 }
 
-fn messages(d: &[u8], front: usize) -> Vec<u8> {
+fn messages(reading: Reading, d: &[u8], front: usize) -> Vec<u8> {
     let mut lines = Vec::new();
     let mut positions = Positions::default();
     let mut prices = All::default();
     let (mut found, mut accepted, mut outside) = (0, 0, 0);
-    let mut at = front;
+    let mut at = past_breaks(reading, d, front);
     while at < d.len() {
         if cut::tag_of(cut::head(d, at)) != cut::UNH {
             outside += 1;
-            at = cut::segment_end(d, at);
+            at = past_breaks(reading, d, segment_end(d, at));
             continue;
         }
         prices.0.clear();
-        let judged = judge(d, at, &mut positions, &mut prices);
+        let judged = judge(reading, d, at, &mut positions, &mut prices);
         found += 1;
         match judged.verdict {
             Verdict::Accepted { segments, end } => {
@@ -53,7 +55,7 @@ fn messages(d: &[u8], front: usize) -> Vec<u8> {
                 line(&mut lines, format_args!("M {found} {at} {number} {segment} {place} {node}"))
             }
         }
-        at = judged.end;
+        at = past_breaks(reading, d, judged.end);
     }
     line(&mut lines, format_args!("E {found} {accepted} {outside}"));
     lines

@@ -1,7 +1,41 @@
-//! Safe calls over the proved reader of PRICAT deliveries: slices in, structs out. Every call answers for every slice, place and number;
-//! `include/schaumtruhe.h` lists the refusal numbers.
+//! Safe calls over the proved reader of PRICAT deliveries: a reading and slices in, structs out. Every call answers for every slice, place and
+//! number; `include/schaumtruhe.h` lists the refusal numbers. Places count every byte of the delivery, skipped line breaks too.
 
-/// The longest delivery that is read; a longer one gets 1.
+/// The service characters, and whether line breaks are skipped; a part of a `Reading`, which makes it.
+#[repr(C)]
+#[derive(Clone, Copy, Debug, PartialEq, Eq)]
+struct Syntax {
+    component: u8,
+    element: u8,
+    decimal: u8,
+    release: u8,
+    terminator: u8,
+    skips: bool,
+}
+
+/// How a delivery is read: every call takes it first.
+#[repr(C)]
+#[derive(Clone, Copy, Debug, PartialEq, Eq)]
+pub struct Reading {
+    syntax: Syntax,
+}
+
+impl Reading {
+    /// CR and LF, in any run, directly after a segment's end, after UNA and at the delivery's start are skipped; UNA is looked for behind those at
+    /// the start. They belong to no segment, no piece and no message. Anywhere else they are bytes that are not allowed.
+    pub fn usual() -> Reading {
+        // SAFETY: takes nothing; the same holds below.
+        unsafe { schaumtruhe_usual() }
+    }
+
+    /// Every byte counts, and line breaks are bytes that are not allowed. Archives ask for it.
+    pub fn strict() -> Reading {
+        // SAFETY: as in `usual`.
+        unsafe { schaumtruhe_strict() }
+    }
+}
+
+/// The longest delivery that is read, skipped line breaks counted; a longer one gets 1.
 pub const LIMIT: usize = 1_048_576;
 
 /// Numbers to a price in a row: position; the article's place from the message's start or -1; its length; amount; decimals; the unit's rank
@@ -72,50 +106,54 @@ pub struct Article<'a> {
 }
 
 extern "C" {
-    fn schaumtruhe_survey(delivery: *const u8, length: usize) -> Totals;
-    fn schaumtruhe_next_message(delivery: *const u8, length: usize, from: usize) -> Next;
-    fn schaumtruhe_judge_at(delivery: *const u8, length: usize, at: usize) -> Judged;
-    fn schaumtruhe_prices(delivery: *const u8, length: usize, at: usize, k: usize, row: *mut i64, count: usize) -> Prices;
-    fn schaumtruhe_article(delivery: *const u8, length: usize, at: usize, k: usize) -> Placed;
-    fn schaumtruhe_segment_at(delivery: *const u8, length: usize, at: usize) -> Segment;
+    fn schaumtruhe_usual() -> Reading;
+    fn schaumtruhe_strict() -> Reading;
+    fn schaumtruhe_survey(reading: Reading, delivery: *const u8, length: usize) -> Totals;
+    fn schaumtruhe_next_message(syntax: Syntax, delivery: *const u8, length: usize, from: usize) -> Next;
+    fn schaumtruhe_judge_at(reading: Reading, delivery: *const u8, length: usize, at: usize) -> Judged;
+    fn schaumtruhe_prices(reading: Reading, delivery: *const u8, length: usize, at: usize, k: usize, row: *mut i64, count: usize)
+        -> Prices;
+    fn schaumtruhe_article(reading: Reading, delivery: *const u8, length: usize, at: usize, k: usize) -> Placed;
+    fn schaumtruhe_segment_at(syntax: Syntax, delivery: *const u8, length: usize, at: usize) -> Segment;
 }
 
 /// Messages found, accepted, and segments outside.
-pub fn survey(delivery: &[u8]) -> Totals {
+pub fn survey(reading: Reading, delivery: &[u8]) -> Totals {
     // SAFETY: pointer and length are a slice's, which is borrowed for the call; the same holds of each call below.
-    unsafe { schaumtruhe_survey(delivery.as_ptr(), delivery.len()) }
+    unsafe { schaumtruhe_survey(reading, delivery.as_ptr(), delivery.len()) }
 }
 
 /// The first message that begins at `from` or later; none in a delivery that is refused with 1 or 2. Going on from `end` gives every message
-/// once.
-pub fn next_message(delivery: &[u8], from: usize) -> Next {
+/// once. A message ends where its last segment ends, before line breaks.
+pub fn next_message(reading: Reading, delivery: &[u8], from: usize) -> Next {
     // SAFETY: as in `survey`.
-    unsafe { schaumtruhe_next_message(delivery.as_ptr(), delivery.len(), from) }
+    unsafe { schaumtruhe_next_message(reading.syntax, delivery.as_ptr(), delivery.len(), from) }
 }
 
 /// The verdict of the message that begins at `at`; 1, 2 or 31 with zeros.
-pub fn judge_at(delivery: &[u8], at: usize) -> Judged {
+pub fn judge_at(reading: Reading, delivery: &[u8], at: usize) -> Judged {
     // SAFETY: as in `survey`.
-    unsafe { schaumtruhe_judge_at(delivery.as_ptr(), delivery.len(), at) }
+    unsafe { schaumtruhe_judge_at(reading, delivery.as_ptr(), delivery.len(), at) }
 }
 
 /// The prices of that message from the k-th on, `PRICE` numbers to a price, as many as fit whole; the rest of the row is unchanged.
-pub fn prices(delivery: &[u8], at: usize, k: usize, row: &mut [i64]) -> Prices {
+pub fn prices(reading: Reading, delivery: &[u8], at: usize, k: usize, row: &mut [i64]) -> Prices {
     // SAFETY: as in `survey`; the row is borrowed alone, so it lies apart from the delivery.
-    unsafe { schaumtruhe_prices(delivery.as_ptr(), delivery.len(), at, k, row.as_mut_ptr(), row.len()) }
+    unsafe { schaumtruhe_prices(reading, delivery.as_ptr(), delivery.len(), at, k, row.as_mut_ptr(), row.len()) }
 }
 
 /// The article of price k of that message; an absent one is the empty part at the message's start.
-pub fn article(delivery: &[u8], at: usize, k: usize) -> Article<'_> {
+pub fn article(reading: Reading, delivery: &[u8], at: usize, k: usize) -> Article<'_> {
     // SAFETY: as in `survey`.
-    let placed = unsafe { schaumtruhe_article(delivery.as_ptr(), delivery.len(), at, k) };
+    let placed = unsafe { schaumtruhe_article(reading, delivery.as_ptr(), delivery.len(), at, k) };
     // That it lies within is proved (`article-in-delivery`); the slices below test it all the same.
     Article { number: placed.number, part: &delivery[placed.place..][..placed.length] }
 }
 
-/// The segment that the bytes from `at` on begin with; a place within UNA is before the first. None at or past the end, and none in a
-/// delivery that is refused with 1 or 2. From 0 on, and then from each `end`, it gives every segment once, in order.
-pub fn segment_at(delivery: &[u8], at: usize) -> Segment {
+/// The segment that the bytes from `at` on begin with, behind the line breaks that are skipped; a place within UNA, or before it, is before the
+/// first. None where only skipped bytes follow, none at or past the end, and none in a delivery that is refused with 1 or 2. From 0 on, and then
+/// from each `end`, it gives every segment once, in order.
+pub fn segment_at(reading: Reading, delivery: &[u8], at: usize) -> Segment {
     // SAFETY: as in `survey`.
-    unsafe { schaumtruhe_segment_at(delivery.as_ptr(), delivery.len(), at) }
+    unsafe { schaumtruhe_segment_at(reading.syntax, delivery.as_ptr(), delivery.len(), at) }
 }

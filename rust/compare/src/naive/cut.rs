@@ -1,5 +1,7 @@
 //! Every segment cut, decoded and copied, and the messages they make up.
 
+use plain::Reading;
+
 /// Place, raw bytes and decoded bytes.
 pub type Part = (usize, Vec<u8>, Vec<u8>);
 
@@ -10,6 +12,12 @@ pub struct Segment {
     pub is_piece: bool,
     /// By element and component.
     pub parts: Vec<Vec<Part>>,
+}
+
+/// The first place from `at` on where no byte is skipped.
+pub fn behind_breaks(reading: Reading, d: &[u8], at: usize) -> usize {
+    let is_skipped = |at: &usize| reading.skips && [13, 10].contains(&d[*at]);
+    at + (at..d.len()).take_while(is_skipped).count()
 }
 
 /// Where the segment ends that the bytes from `start` on begin with, and whether it is a piece.
@@ -27,12 +35,12 @@ pub fn next_end(d: &[u8], start: usize) -> Option<(usize, bool)> {
     (start < d.len()).then_some((d.len(), true))
 }
 
-fn cut(d: &[u8], front: usize) -> Vec<Segment> {
+fn cut(reading: Reading, d: &[u8], front: usize) -> Vec<Segment> {
     let mut all = Vec::new();
-    let mut start = front;
+    let mut start = behind_breaks(reading, d, front);
     while let Some((end, is_piece)) = next_end(d, start) {
         all.push(segment(d, start, end, is_piece));
-        start = end;
+        start = behind_breaks(reading, d, end);
     }
     all
 }
@@ -77,21 +85,24 @@ pub struct Message {
     pub has_unt: bool,
 }
 
-pub fn front(d: &[u8]) -> Result<usize, u32> {
-    match (d.len() > 1_048_576, d.starts_with(b"UNA"), d.starts_with(b"UNA:+.? '")) {
+/// 1, 2, or where the first segment or the breaks before it begin.
+pub fn front(reading: Reading, d: &[u8]) -> Result<usize, u32> {
+    let begin = behind_breaks(reading, d, 0);
+    let rest = &d[begin..];
+    match (d.len() > 1_048_576, rest.starts_with(b"UNA"), rest.starts_with(b"UNA:+.? '")) {
         (true, _, _) => Err(1),
         (_, true, false) => Err(2),
-        (_, true, true) => Ok(9),
+        (_, true, true) => Ok(begin + 9),
         _ => Ok(0),
     }
 }
 
 /// All messages and the count of segments outside.
-pub fn messages(d: &[u8]) -> Result<(Vec<Message>, usize), u32> {
+pub fn messages(reading: Reading, d: &[u8]) -> Result<(Vec<Message>, usize), u32> {
     let mut all: Vec<Message> = Vec::new();
     let mut outside = 0;
     let mut is_open = false;
-    for segment in cut(d, front(d)?) {
+    for segment in cut(reading, d, front(reading, d)?) {
         let begins = |tag: &[u8]| d[segment.start..segment.end].starts_with(tag);
         if begins(b"UNH") {
             all.push(Message { start: segment.start, end: segment.end, segments: vec![segment], has_unt: false });
