@@ -16,7 +16,7 @@ use Rattle.cut.specs.declared.steps.Step.{Step}
 use Rattle.cut.specs.declared.steps.Step.the-variants as step
 use Rattle.cut.specs.Segments.{Segment}
 use Rattle.cut.specs.Admission.{admissionOf, onlyIf, segments}
-use Rattle.cut.specs.Calls.{headCut, cutFrom, segmentAt, stepped, stepOf}
+use Rattle.cut.specs.Calls.{headCut, segmentAt, stepped, stepOf}
 use Rattle.cut.proofs.Stepping.{ahead, ahead-opened, step-refused, step-some, step-none}
 use Rattle.held.specs.declared.reader.Reader.{Reader}
 use Rattle.held.specs.Reading.{asCut, nextFrom, placeAfter, readerOn, answerOf, movedOn, movedBy, answers, answersFrom, segmentCut, segmentNo}
@@ -48,7 +48,7 @@ module _ (y : Syntax) (d : List ℕ) (at : ℕ) where
 
   -- a step answers the first of the segments ahead
   next-ahead : nextFrom y d at ≡ headCut (ahead (cursor y at) d)
-  unfolding nextFrom stepOf cutFrom ahead
+  unfolding nextFrom stepOf segmentAt ahead
   next-ahead = first-of (eqb (admissionOf y d) 0) _
 
   -- the cursor after a step has its place at the segment's end

@@ -17,7 +17,8 @@ use Rattle.cut.specs.Fronts.{whole, has, UNH, Tail}
 use Rattle.cut.proofs.Fronting.{front-admitted, tail-admitted}
 use Rattle.messages.proofs.TailFirst.{Opens, tail-opens}
 use Rattle.messages.proofs.Demand3.{messages-any-front, messages-whole-front}
-use Rattle.cut.proofs.Demand3.{whole-empty, whole-nine}
+use Rattle.cut.specs.Segments.{breaks}
+use Rattle.cut.proofs.Empty.{empty-front, empty-una}
 use Rattle.schaumtruhe.specs.Demand3.{Kept, earlier, FromSecond, FromFirst, AtMostFirst, Demand3}
 use Rattle.schaumtruhe.proofs.keeping.Kept.{kept}
 use Rattle.schaumtruhe.proofs.Demand3Alone.{each-alone}
@@ -93,12 +94,15 @@ module _ (y : Syntax) (front tail : List ℕ) (t : Tail y front tail) where
         at-most-first = demand3-at-most-first;
       }
 
--- the empty front, and the front that is just UNA
-pub demand3-empty : (y : Syntax) (tail : List ℕ) → Tail y [] tail → FromFirst y [] tail
-demand3-empty y tail t = demand3-whole y [] tail t (whole-empty y)
+-- "a front of skipped bytes alone, with or without UNA, counts as empty"; so does the front without a byte, and UNA alone
+pub demand3-breaks : (y : Syntax) (front tail : List ℕ) → breaks y front ≡ true → Tail y front tail → FromFirst y front tail
+unfolding whole
+demand3-breaks y front tail h t = demand3-whole y front tail t (ap whole (empty-front y front h))
 
-pub demand3-una : (y : Syntax) (tail : List ℕ) → Tail y (nine y) tail → FromFirst y (nine y) tail
-demand3-una y tail t = demand3-whole y (nine y) tail t (whole-nine y)
+pub demand3-una
+    : (y : Syntax) (a b tail : List ℕ) → breaks y a ≡ true → breaks y b ≡ true → Tail y (a ++ (nine y ++ b)) tail → FromFirst y (a ++ (nine y ++ b)) tail
+unfolding whole
+demand3-una y a b tail h k t = demand3-whole y (a ++ (nine y ++ b)) tail t (ap whole (empty-una y a b h k))
 
 -- at the service characters `:+.?'`, in the usual and in the strict reading, nothing more is asked than that the longer delivery is admitted and
 -- the tail begins UNH

@@ -1,24 +1,24 @@
 -- Demand 3 at the service characters `:+.?'`: fronts that meet what it asks, by computation, and what it then says in numbers.
 use Prim.Native.Nat.{ℕ, _+_}
 use mathlib.Core.Path.{_≡_, refl, sym, _∙_, ap, subst}
-use mathlib.Core.Bool.{false}
+use mathlib.Core.Bool.{true, false}
 use mathlib.Core.List.{List, [], _∷_, _++_, List·Memᴰ, List·Memᴰ·head, List·Memᴰ·tail}
 use lib.ListN.{length, drop}
-use Rattle.cut.specs.Admission.{admissionOf, openingOf, segments, nine}
+use Rattle.cut.specs.Admission.{segments, nine}
 use Rattle.cut.specs.Base.{edifact}
-use Rattle.bytewise.specs.Bytes.{bytesOf, begins}
-use Rattle.cut.specs.Segments.{ends, frees, join, segmentsFrom}
-use Rattle.messages.specs.Messages.{tagOf, body, messagesIn, messages}
+use Rattle.cut.specs.Segments.{breaks}
+use Rattle.bytewise.specs.Bytes.{bytesOf}
+use Rattle.messages.specs.Messages.{messages}
 use Rattle.messages.specs.Fronts.{movedMessage}
 use Rattle.cut.specs.Fronts.{whole, has, Tail}
-use Rattle.cut.proofs.Demand3.{whole-nine}
 use Rattle.guide.specs.Answers.{accepts, refuses}
 use Rattle.verdict.specs.Moves.{movedVerdict}
 use Rattle.schaumtruhe.specs.Calls.{verdictAt, pricedAt, rowAt}
 use Rattle.schaumtruhe.specs.Demand3.{Kept, FromFirst}
 use Rattle.schaumtruhe.specs.declared.pricing.Priced.the-variants as priced
-use Rattle.schaumtruhe.proofs.Demand3.{demand3-any, demand3-whole}
+use Rattle.schaumtruhe.proofs.Demand3.{demand3-any, demand3-una}
 use Rattle.schaumtruhe.proofs.keeping.Tails.{
+  judgedAt,
   refusedTwice,
   incomplete,
   unfinished,
@@ -52,16 +52,16 @@ module _ (front : List ℕ) (t : Tail edifact front pricedSecond) where
 
 -- a front that spoils the first UNH: the tail's first message is lost, and the second is the only one
 glued : Tail edifact (bytesOf "X") pricedSecond
-unfolding has admissionOf begins
+unfolding has judgedAt
 glued = record { no-U = refl; no-N = refl; admitted = refl; begins-UNH = refl }
 
 glued-messages : messages edifact (bytesOf "X" ++ pricedSecond) ≡ movedMessage 1 sheet ∷ []
-unfolding begins ends frees join segmentsFrom admissionOf openingOf segments tagOf body messagesIn messages
+unfolding judgedAt
 glued-messages = refl
 
 -- it does not end where a segment ends
 glued-open : whole (segments edifact (bytesOf "X")) ≡ false
-unfolding begins ends frees join segmentsFrom admissionOf openingOf segments whole
+unfolding judgedAt whole
 glued-open = refl
 
 glued-verdict : verdictAt edifact (bytesOf "X" ++ pricedSecond) 36 ≡ accepts 10 171
@@ -72,11 +72,11 @@ glued-row = second-row (bytesOf "X") glued
 
 -- a front that ends in a release mark, and so releases the U: the same
 released : Tail edifact (bytesOf "UNB+UNOC:3?") pricedSecond
-unfolding has admissionOf begins
+unfolding has judgedAt
 released = record { no-U = refl; no-N = refl; admitted = refl; begins-UNH = refl }
 
 released-messages : messages edifact (bytesOf "UNB+UNOC:3?" ++ pricedSecond) ≡ movedMessage 11 sheet ∷ []
-unfolding begins ends frees join segmentsFrom admissionOf openingOf segments tagOf body messagesIn messages
+unfolding judgedAt
 released-messages = refl
 
 released-verdict : verdictAt edifact (bytesOf "UNB+UNOC:3?" ++ pricedSecond) 46 ≡ accepts 10 181
@@ -84,11 +84,12 @@ released-verdict = second-verdict (bytesOf "UNB+UNOC:3?") released
 
 -- UNA alone in front of document 01's input line: both messages from the first on
 una : Tail edifact (nine edifact) refusedTwice
-unfolding has admissionOf begins
+unfolding has judgedAt
 una = record { no-U = refl; no-N = refl; admitted = refl; begins-UNH = refl }
 
 una-kept : FromFirst edifact (nine edifact) refusedTwice
-una-kept = demand3-whole edifact (nine edifact) refusedTwice una (whole-nine edifact)
+unfolding breaks
+una-kept = demand3-una edifact [] [] refusedTwice refl refl una
 
 una-first : verdictAt edifact (nine edifact ++ refusedTwice) 9 ≡ refuses 14 3 47 4
 unfolding movedVerdict

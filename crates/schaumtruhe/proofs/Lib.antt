@@ -9,3 +9,4 @@ pub mod Demand3Alone
 pub mod Demand3
 pub mod Demand3Samples
 pub mod StrictSamples
+pub mod BreakSamples

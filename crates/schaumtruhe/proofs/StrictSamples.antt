@@ -4,9 +4,8 @@ use mathlib.Core.Path.{_≡_, refl, sym, _∙_, ap, subst}
 use mathlib.Core.Bool.{false}
 use mathlib.Core.List.{List, [], _∷_, _++_, List·Memᴰ, List·Memᴰ·head}
 use lib.ListN.{drop}
-use Rattle.bytewise.specs.Bytes.{begins}
 use Rattle.cut.specs.declared.service.Syntax.{Syntax}
-use Rattle.cut.specs.Admission.{admissionOf, segments}
+use Rattle.cut.specs.Admission.{segments}
 use Rattle.cut.specs.Base.{edifact, strictly}
 use Rattle.cut.specs.Fronts.{whole, has, Tail}
 use Rattle.messages.specs.Messages.{messages}
@@ -41,7 +40,7 @@ strict-priced = (refl, refl)
 
 -- behind a line break the tail's first message is lost, and the second is the only one
 broken : Tail strict lineBreak pricedSecond
-unfolding has admissionOf begins
+unfolding has judgedAt
 broken = record { no-U = refl; no-N = refl; admitted = refl; begins-UNH = refl }
 
 broken-messages : messages strict (lineBreak ++ pricedSecond) ≡ movedMessage 2 sheet ∷ []

@@ -92,7 +92,7 @@ pub fn survey(how: Reading, d: &[u8]) -> Surveyed
     let mut messages = 0;
     let mut accepted = 0;
     let mut outside = 0;
-    let mut at = cut::opening(d);
+    let mut at = cut::opening(y, d);
     while at < d.len() {
         let s = step_at(y, d, at);
         messages += s.messages;

@@ -10,7 +10,8 @@ use Rattle.messages.specs.declared.found.Found.{Found}
 use Rattle.messages.specs.declared.found.Found.the-variants as found
 use Rattle.cut.specs.Admission.{admissionOf}
 use Rattle.bytewise.specs.Bytes.{part}
-use Rattle.cut.specs.Segments.{segmentsFrom, segmentsAt, lastEnd}
+use Rattle.cut.specs.Segments as cut
+use Rattle.cut.specs.Segments.{segmentsAt, lastEnd}
 use Rattle.messages.specs.Held.{held}
 use Rattle.messages.specs.Messages.{Message, startOf, closeOf, messages}
 use Rattle.messages.specs.Calls.{isFound, messageAt}
@@ -112,7 +113,7 @@ module _ (y : Syntax) (d : List ℕ) (at : ℕ) (a : ℕ) (admits : a ≡ admiss
 
 -- where a message stands at the place, it stands there by itself
 pub record Stands (y : Syntax) (d : List ℕ) (m : Message) : Type 0 where
-  pub alone : segmentsFrom y (startOf m) false (part (startOf m) (closeOf m) d) ≡ segmentsOf m
+  pub alone : cut.segmentsOf y (startOf m) (part (startOf m) (closeOf m) d) ≡ segmentsOf m
   pub some : startOf m < closeOf m
   pub fits : closeOf m ≤ length d
 
@@ -129,7 +130,7 @@ module _ (y : Syntax) (d : List ℕ) (at : ℕ) (m : Message) where
       let a : startOf m ≡ s = ap startOf (sym q) ∙ k .starts in
       let b : closeOf m ≡ e = ap closeOf (sym q) ∙ k .closes in
       record {
-        alone = ap₂ (λ (i j : ℕ). segmentsFrom y i false (part i j d)) a b ∙ (k .alone ∙ ap segmentsOf q);
+        alone = ap₂ (λ (i j : ℕ). cut.segmentsOf y i (part i j d)) a b ∙ (k .alone ∙ ap segmentsOf q);
         some = omega (arith, a, b, k .some);
         fits = omega (arith, b, k .fits);
       }

@@ -6,10 +6,10 @@ use mathlib.Core.Bool.{false}
 use mathlib.Core.List.{List, [], _∷_, _++_}
 use lib.IntN.{ℤ, pos, negsuc}
 use lib.ListN.{length}
-use Rattle.cut.specs.Admission.{admissionOf, openingOf, segments}
+use Rattle.cut.specs.Admission.{admits, opens, admissionOf, openingOf, segments}
 use Rattle.cut.specs.Base.{edifact}
 use Rattle.bytewise.specs.Bytes.{bytesOf, begins}
-use Rattle.cut.specs.Segments.{ends, frees, join, segmentsFrom}
+use Rattle.cut.specs.Segments.{ends, frees, join, segmentsFrom, isBreak, trim, trimmed, segmentsOf, past}
 use Rattle.messages.specs.Messages.{Message, tagOf, body, messagesIn, messages}
 use Rattle.clean.specs.Clean.{between, allowedByte, allowedBytes, capital, endsTag, lettered, taggedBytes}
 use Rattle.element.specs.Components.{inElement, width, inElements, components, spanIn}
@@ -45,7 +45,7 @@ use Rattle.schaumtruhe.specs.declared.pricing.Priced.the-variants as pri
 -- judge_at
 unfoldable pub judgedAt : List ℕ → ℕ → Verdict
 unfolding
-    begins ends frees join segmentsFrom admissionOf openingOf segments tagOf body messagesIn messages
+    begins ends frees join segmentsFrom isBreak trim trimmed segmentsOf past admits opens admissionOf openingOf segments tagOf body messagesIn messages
     between allowedByte allowedBytes capital endsTag lettered taggedBytes padded isCount countOf
     endingOf stays releases before splitFrom elements component fitsFormat
     some none isDigit digitsAhead behindDigits minus unsigned whole fraction digits isTail isNumber decimal unlessMark plain same
@@ -72,7 +72,7 @@ abbrev pub messageOf : ℕ → String → String → Message
 messageOf p a b =
     record {
       first = record { start = p; bytes = bytesOf a; piece = false };
-      rest = segmentsFrom edifact (p + length (bytesOf a)) false (bytesOf b);
+      rest = segmentsOf edifact (p + length (bytesOf a)) (bytesOf b);
     }
 
 -- document 01's input line, with the verdicts that it prints

@@ -5,13 +5,14 @@ use mathlib.Core.Bool.{Bool, true, false, cond}
 use mathlib.Core.List.{List, [], _∷_, head-eq-of-cons-eq, nil≢cons}
 use native.Mathlib.Omega.{arith}
 use lib.Dec.{eqb, leb}
-use lib.ListN.{length, drop}
+use lib.ListN.{length}
 use borrow.Author.Tests.{eq-eqb, ne-eqb, eqb-true, leb-false}
 use Rattle.cut.specs.declared.service.Syntax.{Syntax}
 use Rattle.messages.specs.declared.found.Found.{Found}
 use Rattle.messages.specs.declared.found.Found.the-variants as found
 use Rattle.bytewise.specs.Bytes.{part}
-use Rattle.cut.specs.Segments.{segmentsFrom}
+use Rattle.cut.specs.Segments as cut
+use Rattle.cut.specs.Segments.{segmentsAt}
 use Rattle.messages.specs.Messages.{Message, startOf, closeOf, messages}
 use Rattle.messages.specs.Held.{held}
 use Rattle.messages.specs.Calls.{asFound, isFound, foundAt, messageAt}
@@ -56,8 +57,8 @@ pub record Here (y : Syntax) (d : List ℕ) (at s e : ℕ) : Type 0 where
   pub only : beginningAt at (messages y d) ≡ message ∷ []
   pub starts : startOf message ≡ s
   pub closes : closeOf message ≡ e
-  pub alone : segmentsFrom y s false (part s e d) ≡ segmentsOf message
-  pub takes : held (segmentsFrom y s false (drop s d)) ≡ segmentsOf message
+  pub alone : cut.segmentsOf y s (part s e d) ≡ segmentsOf message
+  pub takes : held (segmentsAt y d s) ≡ segmentsOf message
   pub some : s < e
   pub fits : e ≤ length d
 
@@ -82,7 +83,7 @@ module _ (y : Syntax) (d : List ℕ) (at : ℕ) where
     pub message : Message
     pub only : beginningAt at (messages y d) ≡ message ∷ []
     pub starts : startOf message ≡ at
-    pub takes : held (segmentsFrom y at false (drop at d)) ≡ segmentsOf message
+    pub takes : held (segmentsAt y d at) ≡ segmentsOf message
 
   pub nowhere-here : messageAt y d at ≡ found.Nothing → beginningAt at (messages y d) ≡ []
   unfolding messageAt
@@ -105,7 +106,7 @@ module _ (y : Syntax) (d : List ℕ) (at : ℕ) where
           message = h .message;
           only = h .only;
           starts = h .starts ∙ w;
-          takes = ap (λ (q : ℕ). held (segmentsFrom y q false (drop q d))) (sym w) ∙ h .takes;
+          takes = ap (λ (q : ℕ). held (segmentsAt y d q)) (sym w) ∙ h .takes;
         }
 
     pub is-begun : b ≡ true → Begins

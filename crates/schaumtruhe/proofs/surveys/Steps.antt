@@ -17,10 +17,11 @@ use Rattle.messages.specs.workers.Walks.{leftOver}
 use Rattle.messages.proofs.Outside.{outside-walk}
 use Rattle.messages.proofs.Passing.{Begun, begun, Left, left, none-left}
 use Rattle.cut.proofs.Places.{admitted}
-use Rattle.cut.proofs.cutting.Scanning.{segments-none}
+use Rattle.cut.proofs.Ahead.{none-past}
 use Rattle.guide.specs.Answers.{accepts, refuses, Verdict as Judged}
 use Rattle.verdict.specs.Answers.{declared, judgedAs}
-use Rattle.verdict.specs.Verdicts.{verdictNamed, namedOf, verdictOf}
+use Rattle.guide.specs.workers.Judging.{judgeFrom}
+use Rattle.verdict.specs.Verdicts.{verdictNamed, namedOf, verdictFrom, verdictOf}
 use Rattle.verdict.specs.declared.answers.Judged.{Judged as JudgedAt}
 use Rattle.verdict.specs.declared.answers.Verdict.{Verdict}
 use Rattle.schaumtruhe.specs.Calls.{judged, onlyAccepted, accepted, surveyUnless, surveyOf}
@@ -50,9 +51,14 @@ module _ (y : Syntax) (d : List ℕ) where
       abbrev b : Begun y d at
       b = begun y d at h
 
+      -- the line breaks before a message make no difference to its verdict
+      same-start : verdictNamed y at (b .message .first ∷ b .message .rest) ≡ judged y (b .message)
+      unfolding verdictNamed namedOf verdictOf verdictFrom judgeFrom
+      same-start = refl
+
       same-verdict : j .verdict ≡ declared (judged y (b .message))
-      unfolding verdictNamed namedOf verdictOf
-      same-verdict = ap (λ (x : JudgedAt). x .verdict) judges ∙ rw (b .starts, ← b .takes)
+      same-verdict =
+          ap (λ (x : JudgedAt). x .verdict) judges ∙ ap (λ (ss : List Segment). declared (verdictNamed y at ss)) (b .takes) ∙ ap declared same-start
 
       same-end : j .end ≡ lastEnd at (held (from at))
       same-end = ap (λ (x : JudgedAt). x .end) judges
@@ -96,7 +102,7 @@ module _ (y : Syntax) (d : List ℕ) where
         : at < length d → headOuter (from at) ≡ outer.Nothing → Stepped y d at (record { messages = 0; accepted = 0; outside = 0; end = length d })
     stepped-none n h =
         let here : from at ≡ [] = none-left y d at h in
-        let end : from (length d) ≡ [] = segments-none y d (length d) false (omega arith) in
+        let end : from (length d) ≡ [] = none-past y d (length d) (omega arith) in
         record {
           messages = rw (here, end) (zero-add _);
           accepts = rw (here, end) (zero-add _);
@@ -113,7 +119,7 @@ module _ (y : Syntax) (d : List ℕ) where
     pub outside-all : o + length (leftOver false (from at)) ≡ length (outside y d)
     pub few : (m ≤ at) × (a ≤ at) × (o ≤ at)
 
-  pub passed-first : admissionOf y d ≡ 0 → (p : ℕ) → p ≡ openingOf d → Passed 0 0 0 p
+  pub passed-first : admissionOf y d ≡ 0 → (p : ℕ) → p ≡ openingOf y d → Passed 0 0 0 p
   unfolding messages outside
   passed-first e p o =
       let all : segments y d ≡ from p = admitted y d e ∙ ap from (sym o) in
@@ -140,7 +146,7 @@ module _ (y : Syntax) (d : List ℕ) where
     pub passed-all : (length d ≤ at) → admissionOf y d ≡ 0 → Counted m a o ≡ surveyOf y d
     unfolding surveyOf messagesIn leftOver accepted
     passed-all n e =
-        let none : from at ≡ [] = segments-none y d at false n in
+        let none : from at ≡ [] = none-past y d at n in
         let ms : m + 0 ≡ length (messages y d) = rw none at (p .messages-all) in
         let acs : a + 0 ≡ among (messages y d) = rw none at (p .accepts-all) in
         let os : o + 0 ≡ length (outside y d) = rw none at (p .outside-all) in
