@@ -15,7 +15,8 @@ use Rattle.agree.specs.declared.first.Agreeing.the-variants.{At, Nothing
 -- what is found among some segments, with the base's service characters
 foundIn : String → Agreeing
 unfolding
-    begins ends frees join segmentsFrom isBreak trim trimmed segmentsOf endingOf stays releases before splitFrom elements unlessMark plain same sameText allEmpty sameComponents
+    begins ends frees join segmentsFrom isBreak trim trimmed segmentsOf
+    endingOf stays releases before splitFrom elements unlessMark plain same sameText allEmpty sameComponents
     emptyElements sameElements agreeBut agreeIn agree nextIf behindIf headingFrom positionsFrom positionsOf agreesAny firstAfter firstAgreeing
 foundIn segments = firstAgreeing edifact (positionsOf (segmentsOf edifact 0 (bytesOf segments)))
 

@@ -46,7 +46,9 @@ module _ (y : Syntax) where
       let z : p + suc (length xs) ≡ suc p + length xs = omega arith in
       go (isBreak y x) (trim-rising (suc p) xs b us (subst (λ (n : ℕ). Rising n us) z k))
     where
-      go : (c : Bool) → Rising (suc p) (trim y (suc p) xs b us) → Rising p (cond c (trim y (suc p) xs b us) (record { start = p; bytes = x ∷ xs; piece = b } ∷ us))
+      go
+          : (c : Bool) → Rising (suc p) (trim y (suc p) xs b us)
+          → Rising p (cond c (trim y (suc p) xs b us) (record { start = p; bytes = x ∷ xs; piece = b } ∷ us))
       go true ih = rising-weaken p (suc p) (trim y (suc p) xs b us) (omega arith) ih
       go false ih = (le-refl p, rising-weaken (suc p) (p + suc (length xs)) us (omega arith) k)
 

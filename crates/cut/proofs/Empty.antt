@@ -1,9 +1,9 @@
 -- Fronts that hold no segment: line breaks alone, with or without UNA. Item 4: such a front "counts as empty".
 use Prim.Native.Nat.{ℕ, suc, _+_, _≤_}
 use mathlib.Core.Path.{_≡_, refl, sym, _∙_, ap}
-use mathlib.Core.Bool.{true}
+use mathlib.Core.Bool.{true, false}
 use mathlib.Core.List.{List, [], _∷_, _++_, append-nil}
-use native.Mathlib.Nat.{add-zero}
+use native.Mathlib.Nat.{add-zero, zero-add}
 use native.Mathlib.Omega.{arith}
 use lib.ListN.{length, drop}
 use lib.Seq.{drop-drop, drop-append-le}
@@ -35,21 +35,29 @@ module _ (y : Syntax) where
       let l = past-all 0 front h in
       of-segments y front (λ (ss : List Segment). ss ≡ []) refl (none-past y front (openingOf y front) (omega (arith, l)))
 
+  drop-all : (xs : List ℕ) → drop (length xs) xs ≡ []
+  drop-all [] = refl
+  drop-all (x ∷ xs) = drop-all xs
+
+  -- line breaks before another byte are those that a delivery begins with
+  module _ (front : List ℕ) (x : ℕ) (xs : List ℕ) (h : breaks y front ≡ true) (k : isBreak y x ≡ false) where
+    start-behind : pastAt y (front ++ (x ∷ xs)) 0 ≡ length front
+    start-behind = past-before y 0 front x xs k ∙ past-all 0 front h ∙ zero-add (length front)
+
+    pub unbroken-behind : unbroken y (front ++ (x ∷ xs)) ≡ x ∷ xs
+    unbroken-behind =
+        ap (λ (n : ℕ). drop n (front ++ (x ∷ xs))) start-behind ∙ drop-append-le (length front) front (x ∷ xs) (omega arith)
+        ∙ ap (λ (zs : List ℕ). zs ++ (x ∷ xs)) (drop-all front)
+
   module _ (a b : List ℕ) (h : breaks y a ≡ true) (k : breaks y b ≡ true) where
     abbrev front : List ℕ
     front = a ++ (nine y ++ b)
 
     start : pastAt y front 0 ≡ length a
-    start = past-before y 0 a 85 _ (U-kept y) ∙ past-all 0 a h ∙ omega arith
+    start = start-behind a 85 _ h (U-kept y)
 
     behind-first : unbroken y front ≡ nine y ++ b
-    behind-first =
-        ap (λ (n : ℕ). drop n front) start ∙ drop-append-le (length a) a (nine y ++ b) (omega arith)
-        ∙ ap (λ (xs : List ℕ). xs ++ (nine y ++ b)) (drop-all a)
-      where
-        drop-all : (xs : List ℕ) → drop (length xs) xs ≡ []
-        drop-all [] = refl
-        drop-all (x ∷ xs) = drop-all xs
+    behind-first = unbroken-behind a 85 _ h (U-kept y)
 
     opens-nine : opens (nine y ++ b) ≡ 9
     unfolding opens begins

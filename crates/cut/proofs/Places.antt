@@ -124,7 +124,8 @@ module _ (y : Syntax) (d : List ℕ) where
           let h = leb-true _ _ f in
           let k = leb-false _ _ g in
           ap (since at) (admitted (eqb-true _ _ e))
-          ∙ since-closed y d (openingOf y d) at h (omega arith) (and-both (not (isBreak y (getD d at 0))) (whole (segmentsOf y (openingOf y d) (part (openingOf y d) at d)))
+          ∙ since-closed y d (openingOf y d) at h (omega arith)
+          (and-both (not (isBreak y (getD d at 0))) (whole (segmentsOf y (openingOf y d) (part (openingOf y d) at d)))
           (sym (begins-at at (openingOf y d) (eqb-true _ _ e) refl h k) ∙ b) .1)
 
   -- and no line break stands there

@@ -40,7 +40,9 @@ module _ (y : Syntax) where
   unfolding isBreak
   kept-strictly x = refl
 
-  trim-strictly : (p : ℕ) (bs : List ℕ) (b : Bool) (us : List Segment) → 0 < length bs → trim (strictly y) p bs b us ≡ record { start = p; bytes = bs; piece = b } ∷ us
+  trim-strictly
+      : (p : ℕ) (bs : List ℕ) (b : Bool) (us : List Segment) → 0 < length bs
+      → trim (strictly y) p bs b us ≡ record { start = p; bytes = bs; piece = b } ∷ us
   trim-strictly p [] b us h = absurd (omega arith)
   trim-strictly p (x ∷ xs) b us h = trim-kept (strictly y) p x xs b us (kept-strictly x)
 
@@ -48,7 +50,8 @@ module _ (y : Syntax) where
   unfolding Chain trimmed
   trimmed-strictly p [] q h = refl
   trimmed-strictly p (s ∷ ss) q h =
-      trim-strictly (s .start) (s .bytes) (s .piece) (trimmed (strictly y) ss) (h .1) ∙ ap (λ (us : List Segment). s ∷ us) (trimmed-strictly (endOf s) ss q (h .3))
+      trim-strictly (s .start) (s .bytes) (s .piece) (trimmed (strictly y) ss) (h .1)
+      ∙ ap (λ (us : List Segment). s ∷ us) (trimmed-strictly (endOf s) ss q (h .3))
 
   -- no line break is taken off
   pub strict-segments : (p : ℕ) (xs : List ℕ) → segmentsOf (strictly y) p xs ≡ segmentsFrom y p false xs
@@ -99,7 +102,9 @@ module _ (y : Syntax) where
       let l = none-front xs zs (k .1) in
       (both-and _ _ (k .0) (l .0), l .1)
 
-  trim-none : (p : ℕ) (bs : List ℕ) (b : Bool) (us : List Segment) → 0 < length bs → none bs ≡ true → trim y p bs b us ≡ record { start = p; bytes = bs; piece = b } ∷ us
+  trim-none
+      : (p : ℕ) (bs : List ℕ) (b : Bool) (us : List Segment) → 0 < length bs → none bs ≡ true
+      → trim y p bs b us ≡ record { start = p; bytes = bs; piece = b } ∷ us
   unfolding none
   trim-none p [] b us h n = absurd (omega arith)
   trim-none p (x ∷ xs) b us h n = trim-kept y p x xs b us (not-true _ (and-both (not (isBreak y x)) (none xs) n .0))
@@ -139,7 +144,8 @@ module _ (y : Syntax) where
     unfolding segments
     delivery-alike =
         ap₂ (λ (a o : ℕ). onlyIf (eqb a 0) (segmentsAt y d o)) (admission-none ∙ sym (admission-strictly d)) (opening-none ∙ sym (opening-strictly d))
-        ∙ ap (onlyIf (eqb (admissionOf (strictly y) d) 0)) (read-alike (openingOf (strictly y) d) (drop (openingOf (strictly y) d) d) (none-drop (openingOf (strictly y) d) d n))
+        ∙ ap (onlyIf (eqb (admissionOf (strictly y) d) 0))
+        (read-alike (openingOf (strictly y) d) (drop (openingOf (strictly y) d) d) (none-drop (openingOf (strictly y) d) d n))
 
 -- "a delivery that holds no CR and no LF" has the same segments in both readings
 pub without-breaks : (y : Syntax) (d : List ℕ) → has 13 d ≡ false → has 10 d ≡ false → segments y d ≡ segments (strictly y) d

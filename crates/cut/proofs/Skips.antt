@@ -58,7 +58,8 @@ skip-first y p x h [] k = rw h
 skip-first y p x h (s ∷ ss) k = rw (h, k s ss refl)
 
 pub skip-cut
-    : (y : Syntax) (p x : ℕ) (xs : List ℕ) → isBreak y x ≡ true → trimmed y (join false p x (segmentsFrom y (suc p) false xs)) ≡ trimmed y (segmentsFrom y (suc p) false xs)
+    : (y : Syntax) (p x : ℕ) (xs : List ℕ) → isBreak y x ≡ true
+    → trimmed y (join false p x (segmentsFrom y (suc p) false xs)) ≡ trimmed y (segmentsFrom y (suc p) false xs)
 skip-cut y p x xs h = skip-first y p x h (segmentsFrom y (suc p) false xs) (λ s us e. first y (suc p) false xs s us e .starts)
 
 -- a line break where a segment may begin is skipped

@@ -97,7 +97,8 @@ module _ (c : Cursor) (d : List ℕ) where
   step-none h = go (eqb (admissionOf (c .syntax) d) 0) (segmentAt (c .syntax) d (max (c .at) (openingOf (c .syntax) d))) refl h
     where
       go
-          : (a : Bool) (k : Cut) → segmentAt (c .syntax) d (max (c .at) (openingOf (c .syntax) d)) ≡ k → cond a (stepped (c .syntax) k) step.Nothing ≡ step.Nothing
+          : (a : Bool) (k : Cut) → segmentAt (c .syntax) d (max (c .at) (openingOf (c .syntax) d)) ≡ k
+          → cond a (stepped (c .syntax) k) step.Nothing ≡ step.Nothing
           → onlyIf a (segmentsAt (c .syntax) d (max (c .at) (openingOf (c .syntax) d))) ≡ []
       go true (cut.Segment s e p) g h = absurd (let z : _≡_ {A = ℕ} 0 1 = cc in omega arith)
       go true cut.Nothing g h = none-ahead (c .syntax) d (max (c .at) (openingOf (c .syntax) d)) g

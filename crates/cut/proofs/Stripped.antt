@@ -39,7 +39,9 @@ one-moved k q s (x ∷ []) h =
     record { place = q + x .start; same = λ i. record { start = q + x .start; bytes = b i; piece = c i } ∷ [] }
 one-moved k q s (x ∷ z ∷ zs) h = absurd (nil≢cons (sym (tail-eq-of-cons-eq h)))
 
-piece-last : (b : Bool) (n : ℕ) (bs : List ℕ) → map placeless (meet (record { start = n; bytes = bs; piece = b } ∷ []) []) ≡ record { start = 0; bytes = bs; piece = b } ∷ []
+piece-last
+    : (b : Bool) (n : ℕ) (bs : List ℕ)
+    → map placeless (meet (record { start = n; bytes = bs; piece = b } ∷ []) []) ≡ record { start = 0; bytes = bs; piece = b } ∷ []
 unfolding meet glued
 piece-last true n bs = refl
 piece-last false n bs = refl

@@ -46,7 +46,8 @@ module _ (y : Syntax) (d : List ℕ) (at : ℕ) (b : Bool) where
         list =
             ap (members b) e ∙ members-here b x xs k
             ∙ ap (λ (us : List Segment). x ∷ unless (isUnt (tagOf (x .bytes))) (body us)) (f .rest)
-            ∙ ap (λ (bs : List ℕ). record { start = x .start; bytes = bs; piece = x .piece } ∷ unless (isUnt (tagOf (x .bytes))) (body (segmentsAt y d (endOf x)))) (f .bytes);
+            ∙ ap (λ (z : Segment). z ∷ unless (isUnt (tagOf (x .bytes))) (body (segmentsAt y d (endOf x))))
+            (ap (λ (bs : List ℕ). record { start = x .start; bytes = bs; piece = x .piece }) (f .bytes));
       }
 
   pub upcoming : (place : ℕ) (l : Bool) → headIn b ahead ≡ head.Inside place l → Upcoming place l

@@ -3,10 +3,11 @@
 use Prim.Native.Nat.{ℕ, suc, _≤_, _<_}
 use mathlib.Core.Path.{_≡_}
 use mathlib.Core.Bool.{true, false}
-use mathlib.Core.List.{List, List·Memᴰ}
+use mathlib.Core.List.{List, _++_, List·Memᴰ}
 use lib.ListN.{length}
 use Rattle.cut.specs.declared.service.Syntax.{Syntax}
 use Rattle.bytewise.specs.Bytes.{begins}
+use Rattle.cut.specs.Segments.{breaks}
 use Rattle.cut.specs.Admission.{limit, UNA, nine}
 use Rattle.messages.specs.Messages.{Message, startOf, closeOf, messages}
 use Rattle.guide.specs.Accepted.{segmentsOf, Accepted}
@@ -19,10 +20,14 @@ abbrev pub TooLong : List ℕ → Type 0
 TooLong d = limit < length d
 
 module _ (y : Syntax) where
-  -- 2, "begins `UNA`, first nine bytes not those above"
+  -- 2, "begins `UNA`, first nine bytes not those above"; item 4: "UNA is looked for after those at the start"
   pub record OtherUNA (d : List ℕ) : Type 0 where
-    pub begins-UNA : begins UNA d ≡ true
-    pub not-nine : begins (nine y) d ≡ false
+    pub skipped : List ℕ
+    pub rest : List ℕ
+    pub same : d ≡ skipped ++ rest
+    pub all-skipped : breaks y skipped ≡ true
+    pub begins-UNA : begins UNA rest ≡ true
+    pub not-nine : begins (nine y) rest ≡ false
 
   -- "A delivery is admitted if it gets neither 1 nor 2"
   pub record Admitted (d : List ℕ) : Type 0 where

@@ -7,7 +7,8 @@ use native.Mathlib.Nat.{add-zero, add-assoc}
 use lib.ListN.{length}
 use Rattle.cut.specs.declared.service.Syntax.{Syntax}
 use Rattle.bytewise.specs.Bytes.{bytesOf, begins}
-use Rattle.cut.specs.Segments.{Segment, endOf, segmentsOf}
+use Rattle.cut.specs.Segments as cut
+use Rattle.cut.specs.Segments.{Segment, endOf}
 use Rattle.messages.specs.Messages.{Message, startOf}
 use Rattle.cut.specs.Fronts.{moved}
 use Rattle.messages.specs.Fronts.{movedMessage}
@@ -188,8 +189,8 @@ module _ (y : Syntax) (g : Guide) (pages : ℕ → Page) where
   -- the verdict of bytes that stand from the place a on is that of the bytes by themselves, a places later
   pub verdict-alone
       : (a : ℕ) (bytes : List ℕ)
-      → verdictFrom y g pages a (segmentsOf y a bytes) ≡ movedVerdict a (verdictFrom y g pages 0 (segmentsOf y 0 bytes))
-  verdict-alone a bytes = rw (← segments-moved y a 0 bytes, add-zero a) at (verdict-from-moved a 0 (segmentsOf y 0 bytes))
+      → verdictFrom y g pages a (cut.segmentsOf y a bytes) ≡ movedVerdict a (verdictFrom y g pages 0 (cut.segmentsOf y 0 bytes))
+  verdict-alone a bytes = rw (← segments-moved y a 0 bytes, add-zero a) at (verdict-from-moved a 0 (cut.segmentsOf y 0 bytes))
 
 -- a message that is moved names the same guide, so the verdict by that guide moves with it
 pub named-moved : (y : Syntax) (k : ℕ) (m : Message) → namedOf y (movedMessage k m) ≡ movedVerdict k (namedOf y m)

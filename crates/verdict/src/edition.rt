@@ -23,7 +23,8 @@ fn edition_in(y: Syntax, d: &[u8], start: usize, end: usize) -> Edition
     Edition::D
 }
 
-// The edition of the message that the first segment from `start` on begins: its end is not looked for, since what stands from its first byte on is what stands in it.
+// The edition of the message that the first segment from `start` on begins: its end is not looked for, since what stands from its first byte on is what
+// stands in it.
 pub(crate) fn edition_at(y: Syntax, d: &[u8], start: usize) -> Edition
     ensures { λ r. ⌜ r ≡ editionOf y (held (segmentsAt y (now (d .entry)) start)) ⌝ }
 {

@@ -1,16 +1,21 @@
 -- What is asked at a place: there is no message, with document 01's number, or there is just one.
-use Prim.Native.Nat.{ℕ, suc}
+use Prim.Native.Nat.{ℕ, suc, _-_}
 use mathlib.Core.Path.{_≡_, refl, sym, _∙_, ap}
-use mathlib.Core.Bool.{Bool, true, false, true≢false, cond}
+use mathlib.Core.Bool.{Bool, true, false, not, _&&_, true≢false, cond}
 use mathlib.Core.Logic.{_⊎_, inl, inr}
-use mathlib.Core.List.{List, [], _∷_, List·Memᴰ, List·Memᴰ·head, List·Memᴰ·tail, head-eq-of-cons-eq, nil≢cons}
+use mathlib.Core.List.{List, [], _∷_, _++_, List·Memᴰ, List·Memᴰ·head, List·Memᴰ·tail, head-eq-of-cons-eq, nil≢cons}
 use native.Mathlib.Omega.{arith}
-use lib.Dec.{eqb, ltb}
-use lib.ListN.{length}
+use lib.Dec.{eqb, ltb, lit<}
+use lib.ListN.{length, take-append-drop}
 use borrow.Author.Tests.{eqb-true, ltb-true, ltb-false}
 use Rattle.cut.specs.declared.service.Syntax.{Syntax}
-use Rattle.bytewise.specs.Bytes.{begins}
-use Rattle.cut.specs.Admission.{limit, UNA, nine, admissionOf}
+use Rattle.bytewise.specs.Bytes.{part, begins}
+use Rattle.bytewise.proofs.Words.{begins-at}
+use Rattle.cut.specs.Segments.{pastAt, breaks}
+use Rattle.cut.specs.Admission.{limit, UNA, nine, admits, unbroken, admissionOf}
+use Rattle.cut.proofs.Ahead.{pasts}
+use Rattle.cut.proofs.Fronting.{U-kept}
+use Rattle.cut.proofs.Empty.{unbroken-behind}
 use Rattle.messages.specs.Messages.{Message, startOf, messages}
 use Rattle.schaumtruhe.specs.Calls.{beginningAt, nowhere, verdictAt, judged, Sheet, missing, sheetBy, sheetAt}
 use Rattle.schaumtruhe.proofs.places.Only.{only-here}
@@ -39,8 +44,37 @@ module _ (y : Syntax) (d : List ℕ) where
     refused : (k : ℕ) → admissionOf y d ≡ suc k → DeliveryRefused y d (suc k) → Admission
     admitted : admissionOf y d ≡ 0 → Admitted y d → Admission
 
+  -- the bytes behind line breaks that begin UNA are those behind all line breaks at the start
+  behind-skipped : (skipped rest : List ℕ) → d ≡ skipped ++ rest → breaks y skipped ≡ true → begins UNA rest ≡ true → unbroken y d ≡ rest
+  unfolding begins
+  behind-skipped skipped [] e h u = absurd (true≢false (sym u))
+  behind-skipped skipped (x ∷ xs) e h u =
+      let z : x ≡ 85 = begins-at UNA (x ∷ xs) 0 u (lit< tt) in
+      ap (unbroken y) e ∙ unbroken-behind y skipped x xs h (rw z (U-kept y))
+
+  -- and line breaks and these are the delivery
+  other : begins UNA (unbroken y d) ≡ true → begins (nine y) (unbroken y d) ≡ false → OtherUNA y d
+  unfolding part
+  other p q =
+      let z : pastAt y d 0 - 0 ≡ pastAt y d 0 = omega arith in
+      record {
+        skipped = part 0 (pastAt y d 0) d;
+        rest = unbroken y d;
+        same = rw z (sym (take-append-drop (pastAt y d 0) d));
+        all-skipped = pasts y d 0 .between;
+        begins-UNA = p;
+        not-nine = q;
+      }
+
+  not-other : (b c : Bool) → begins UNA (unbroken y d) ≡ b → begins (nine y) (unbroken y d) ≡ c → (b && not c) ≡ false → OtherUNA y d → ⊥
+  not-other b c p q n o =
+      let r = behind-skipped (o .skipped) (o .rest) (o .same) (o .all-skipped) (o .begins-UNA) in
+      let u : b ≡ true = sym p ∙ ap (begins UNA) r ∙ o .begins-UNA in
+      let v : c ≡ false = sym q ∙ ap (begins (nine y)) r ∙ o .not-nine in
+      true≢false (sym (rw (u, v)) ∙ n)
+
   pub admission : Admission
-  unfolding admissionOf
+  unfolding admissionOf admits
   admission = go (ltb limit (length d)) refl
     where
       short : ltb limit (length d) ≡ false → TooLong d → ⊥
@@ -48,15 +82,14 @@ module _ (y : Syntax) (d : List ℕ) where
           let n = ltb-false limit (length d) e in
           omega (arith, l, n)
 
-      nines : (b c : Bool) → ltb limit (length d) ≡ false → begins UNA d ≡ b → begins (nine y) d ≡ c → Admission
-      nines true false e p q = refused 1 (rw (e, p, q)) (other-UNA (short e) (record { begins-UNA = p; not-nine = q }))
-      nines true true e p q =
-          admitted (rw (e, p, q)) (record { short = short e; right = λ o. true≢false (sym q ∙ o .not-nine) })
-      nines false c e p q = admitted (rw (e, p)) (record { short = short e; right = λ o. true≢false (sym (o .begins-UNA) ∙ p) })
+      nines : (b c : Bool) → ltb limit (length d) ≡ false → begins UNA (unbroken y d) ≡ b → begins (nine y) (unbroken y d) ≡ c → Admission
+      nines true false e p q = refused 1 (rw (e, p, q)) (other-UNA (short e) (other p q))
+      nines true true e p q = admitted (rw (e, p, q)) (record { short = short e; right = not-other true true p q refl })
+      nines false c e p q = admitted (rw (e, p)) (record { short = short e; right = not-other false c p q refl })
 
       go : (b : Bool) → ltb limit (length d) ≡ b → Admission
       go true e = refused 0 (rw e) (too-long (ltb-true limit (length d) e))
-      go false e = nines (begins UNA d) (begins (nine y) d) e refl refl
+      go false e = nines (begins UNA (unbroken y d)) (begins (nine y) (unbroken y d)) e refl refl
 
   -- one number refuses a delivery, and none an admitted one
   pub one-refusal : (k n : ℕ) → DeliveryRefused y d k → DeliveryRefused y d n → k ≡ n

@@ -11,7 +11,8 @@ use Rattle.agree.proofs.headings.optional_at.Tie as tie
 took
     : (c : tie.After-known-told)
     → CutAhead (c .before .before .before .before .before .before .before .before .args .y)
-    (c .before .before .before .before .before .before .before .before .args .d .now) (c .before .before .before .before .before .before .before .before .args .at)
+    (c .before .before .before .before .before .before .before .before .args .d .now)
+    (c .before .before .before .before .before .before .before .before .args .at)
     (c .before .s .given .0 .0) (c .before .s .given .0 .1 .0) (c .before .s .given .0 .1 .1 .0)
 took c = cut-ahead _ _ _ _ _ _ (sym (c .before .before .before .segment-at .ensures) ∙ c .before .s .given .1)
 

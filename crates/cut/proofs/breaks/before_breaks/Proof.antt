@@ -56,7 +56,8 @@ loop-again c =
     let test = told .before .before in
     let l = test .before .loop in
     let h = test .loop-test .taken in
-    (search needs, search needs, λ a b. search needs, l .inv .3 ∙ closed-break _ _ _ _ h (search needs) (sym (told .is-break .ensures) ∙ not-false _ (c .if1 .left)))
+    let i = sym (told .is-break .ensures) ∙ not-false _ (c .if1 .left) in
+    (search needs, search needs, λ a b. search needs, l .inv .3 ∙ closed-break _ _ _ _ h (search needs) i)
 
 returns-2 : tie.Need-returns-2 Inv-loop μ-loop
 returns-2 c =
