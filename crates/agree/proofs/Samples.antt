@@ -12,7 +12,7 @@ use Rattle.agree.specs.Positions.{nextIf, behindIf, headingFrom, positio
 use Rattle.agree.specs.declared.first.Agreeing.{Agreeing}
 use Rattle.agree.specs.declared.first.Agreeing.the-variants.{At, Nothing}
 
--- what is found among some segments, with the base's service characters
+-- what is found among some segments, with the service characters `:+.?'`
 foundIn : String → Agreeing
 unfolding
     begins ends frees join segmentsFrom isBreak trim trimmed segmentsOf

@@ -1,4 +1,4 @@
--- From the answer for a place back to the list: the first segment, and what follows it. Callers of the cutting layer see its list only so.
+-- From the answer for a place back to the list: what is cut there, line breaks too, and what follows it.
 use Prim.Native.Nat.{ℕ, suc, _+_, _-_, _≤_, _<_}
 use mathlib.Core.Path.{_≡_, refl, sym, _∙_, ap, ap₂, subst₂}
 use mathlib.Core.Bool.{Bool, true, false, false≢true}

@@ -1,4 +1,4 @@
--- What an admitted delivery with a tail that begins UNH says of its front: UNA and the limit taken in.
+-- What an admitted delivery with a tail that begins UNH says of its front: line breaks at the start, UNA and the limit taken in.
 use Prim.Native.Nat.{ℕ, zero, suc, _+_, _≤_, _<_}
 use mathlib.Core.Path.{_≡_, refl, sym, _∙_, ap, ap₂}
 use mathlib.Core.Bool.{Bool, true, false, cond, not, _&&_, and-false, true≢false, false≢true}

@@ -7,6 +7,7 @@ pub mod Chains
 pub mod Meeting
 pub mod Moving
 pub mod Ahead
+pub mod Backing
 pub mod Places
 pub mod Stepping
 pub mod Fronting

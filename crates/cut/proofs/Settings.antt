@@ -147,6 +147,6 @@ module _ (y : Syntax) where
         ∙ ap (onlyIf (eqb (admissionOf (strictly y) d) 0))
         (read-alike (openingOf (strictly y) d) (drop (openingOf (strictly y) d) d) (none-drop (openingOf (strictly y) d) d n))
 
--- "a delivery that holds no CR and no LF" has the same segments in both readings
+-- a delivery that holds no CR and no LF has the same segments in both readings
 pub without-breaks : (y : Syntax) (d : List ℕ) → has 13 d ≡ false → has 10 d ≡ false → segments y d ≡ segments (strictly y) d
 without-breaks y d h k = delivery-alike y d (none-without y d h k)

@@ -1,16 +1,16 @@
 -- What each public call answers, for every delivery and every place.
-use Prim.Native.Nat.{ℕ, max}
-use mathlib.Core.Bool.{Bool, false, cond}
+use Prim.Native.Nat.{ℕ, zero, suc, min, max}
+use mathlib.Core.Bool.{Bool, false, cond, _&&_}
 use mathlib.Core.List.{List, [], _∷_}
-use lib.ListN.{drop}
-use lib.Dec.{eqb}
+use lib.ListN.{length, getD, drop}
+use lib.Dec.{eqb, ltb}
 use Rattle.cut.specs.declared.service.Syntax.{Syntax}
 use Rattle.cut.specs.declared.scan.Cut.{Cut}
 use Rattle.cut.specs.declared.scan.Cut.the-variants as cut
 use Rattle.cut.specs.declared.steps.Cursor.{Cursor}
 use Rattle.cut.specs.declared.steps.Step.{Step}
 use Rattle.cut.specs.declared.steps.Step.the-variants as step
-use Rattle.cut.specs.Segments.{Segment, endOf, segmentsFrom, segmentsAt, beginsIn}
+use Rattle.cut.specs.Segments.{Segment, endOf, segmentsFrom, isBreak, segmentsAt, beginsIn}
 use Rattle.cut.specs.Admission.{admissionOf, openingOf, segments}
 
 -- the first of some segments, as an answer
@@ -29,6 +29,15 @@ cutAt y d at = cutFrom y d at false
 -- segment_at: the first of the segments from a place on; nothing, if there is none
 unfoldable pub segmentAt : Syntax → List ℕ → ℕ → Cut
 segmentAt y d at = headCut (segmentsAt y d at)
+
+-- the place before the line breaks that end at a place, not before the place f
+unfoldable pub back : Syntax → List ℕ → ℕ → ℕ → ℕ
+back y d f zero = zero
+back y d f (suc n) = cond (ltb f (suc n) && isBreak y (getD d n 0)) (back y d f n) (suc n)
+
+-- before_breaks: from a place, or from the delivery's end if that comes first
+abbrev pub backAt : Syntax → List ℕ → ℕ → ℕ → ℕ
+backAt y d f at = back y d f (min at (length d))
 
 -- a segment as a step, with the cursor after it
 abbrev pub stepped : Syntax → Cut → Step

@@ -1,3 +1,2 @@
 pub mod Scanning
 pub mod Carrying
-pub mod Breaking

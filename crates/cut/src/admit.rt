@@ -1,4 +1,4 @@
-// Whether a delivery is read at all, and where its first segment begins.
+// Whether a delivery is read at all, and where its segments are looked for from.
 use crate::breaks::past_breaks;
 use crate::service::Syntax;
 use bytewise::begins_with;

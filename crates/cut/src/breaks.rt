@@ -3,7 +3,7 @@ use crate::service::Syntax;
 use bytewise::limit_of;
 ghost use mathlib.Core.Path.{_≡_};
 ghost use Rattle.cut.specs.Segments.{isBreak, pastAt};
-ghost use Rattle.cut.specs.workers.Breaking.{Back};
+ghost use Rattle.cut.specs.Calls.{backAt};
 
 // CR or LF, where the reading skips them. Almost every byte is told by the first test.
 pub(crate) fn is_break(y: Syntax, x: u8) -> bool
@@ -43,7 +43,7 @@ pub fn past_breaks(y: Syntax, d: &[u8], at: usize) -> usize
 
 // The place before the line breaks that end at `at`, or at the delivery's end if that comes first; not before `first`.
 pub fn before_breaks(y: Syntax, d: &[u8], first: usize, at: usize) -> usize
-    ensures { λ r. ⌜ Back y (now (d .entry)) first at r ⌝ }
+    ensures { λ r. ⌜ r ≡ backAt y (now (d .entry)) first at ⌝ }
 {
     let mut i = limit_of(d, at);
     while first < i {

@@ -1,4 +1,4 @@
--- The face of the cutting layer: what the crates above cite of it, beside specs/, `Cutting` of First, the laws of Parts, and Demand3.
+-- The message that a search finds, and those from its end on: what the crates above cite of it.
 use Prim.Native.Nat.{ℕ, _≤_, _<_}
 use mathlib.Core.Path.{_≡_, refl, sym, ap₂, subst, subst₂}
 use mathlib.Core.Bool.{Bool, true, false, cond}

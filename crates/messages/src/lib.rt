@@ -1,4 +1,4 @@
-// Finds the messages of a delivery and walks through one of them, for any service characters. No call asks anything of its caller, and each
+// Finds the messages of a delivery and walks through one of them, however it is cut. No call asks anything of its caller, and each
 // says its whole answer by a definition of specs/.
 mod ahead;
 mod found;

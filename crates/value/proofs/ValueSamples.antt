@@ -1,4 +1,4 @@
--- Document 01's examples and its page of readings, as theorems at the base's service characters `:+.?'`.
+-- Document 01's examples and its page of readings, as theorems at the service characters `:+.?'`.
 use mathlib.Core.Bool.{false}
 use mathlib.Core.Path.{_≡_, refl}
 use mathlib.Core.List.{[], _∷_}

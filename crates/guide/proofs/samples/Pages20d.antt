@@ -27,7 +27,7 @@ use Rattle.guide.specs.workers.PageFault.{
   pageFault,
 }
 
--- the fault of a segment on a page, with the base's service characters
+-- the fault of a segment on a page, with the service characters `:+.?'`
 unfoldable pub faultOn : Page → String → ℕ
 unfolding
     frees endingOf stays releases before splitFrom elements unlessMark plain same some none isDigit digitsAhead behindDigits minus unsigned

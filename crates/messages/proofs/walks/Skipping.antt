@@ -14,7 +14,8 @@ use Rattle.bytewise.specs.Bytes.{part}
 use Rattle.bytewise.specs.Eights.{onFrom}
 use Rattle.cut.specs.Segments.{Segment, endOf, isBreak, trim, trimmed, segmentsOf, segmentsAt, lastEnd}
 use Rattle.cut.specs.Fronts.{whole, glued, meet}
-use Rattle.cut.specs.workers.Breaking.{Back}
+use Rattle.cut.specs.Calls.{backAt}
+use Rattle.cut.proofs.Backing.{Back, backs}
 use Rattle.messages.specs.Messages.{tagOf, body}
 use Rattle.messages.specs.workers.Walks.{NoU, Skipped}
 use Rattle.bytewise.proofs.Booleans.{and-both}
@@ -160,17 +161,18 @@ module _ (y : Syntax) (d : List ℕ) where
 
     -- a segment ends at k, or line breaks behind it
     pub skipped-closed
-        : (k r : ℕ) (b : Bool) → from ≤ k → k ≤ length d → Plain (upto k) → b ≡ whole (upto k) → b ≡ true → Back y d from k r → Skipped y d from r
-    skipped-closed k r b h l p e f c =
+        : (k r : ℕ) (b : Bool) → from ≤ k → k ≤ length d → Plain (upto k) → b ≡ whole (upto k) → b ≡ true → r ≡ backAt y d from k → Skipped y d from r
+    skipped-closed k r b h l p e f z =
+        let c = backs y d from k r z in
         let q = ends-back k r h l (sym e ∙ f) c in
         skipped-at r (q .0) (c .fits) (q .1) (q .2) (plain-back k r (q .0) (c .before) l (q .1) p)
 
     -- and U stands there
     pub skipped-here
-        : (k r : ℕ) (b : Bool) → from ≤ k → k < length d → Plain (upto k) → b ≡ (eqb (getD d k 0) 85 && whole (upto k)) → b ≡ true → Back y d from k r
+        : (k r : ℕ) (b : Bool) → from ≤ k → k < length d → Plain (upto k) → b ≡ (eqb (getD d k 0) 85 && whole (upto k)) → b ≡ true → r ≡ backAt y d from k
         → Skipped y d from r
-    skipped-here k r b h l p e f c =
-        skipped-closed k r (whole (upto k)) h (omega arith) p refl (and-both (eqb (getD d k 0) 85) (whole (upto k)) (sym e ∙ f) .1) c
+    skipped-here k r b h l p e f z =
+        skipped-closed k r (whole (upto k)) h (omega arith) p refl (and-both (eqb (getD d k 0) 85) (whole (upto k)) (sym e ∙ f) .1) z
 
     -- a piece ends with the delivery
     pub skipped-open : (k : ℕ) (b : Bool) → from ≤ k → k ≤ length d → length d ≤ k → Plain (upto k) → b ≡ whole (upto k) → b ≡ false → Skipped y d from k

@@ -1,4 +1,4 @@
--- What the workers of the walks promise each other: one segment by its tag, and what it does to a count, to a message's end and to a search.
+-- What the workers of the walks promise each other: one segment by its tag, and what it does to a message's end and to a search.
 use Prim.Native.Nat.{ℕ, _≤_, _<_}
 use mathlib.Core.Path.{_≡_}
 use mathlib.Core.Bool.{Bool, true, false}

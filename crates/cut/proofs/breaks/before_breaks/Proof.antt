@@ -1,21 +1,16 @@
--- `cut::breaks::before_breaks` meets its contract: a line break passed backwards changes nothing.
+-- `cut::breaks::before_breaks` meets its contract.
 use Prim.Native.Nat.{_≤_}
-use mathlib.Core.Path.{_≡_, refl, sym, _∙_}
-use native.Mathlib.Omega.{arith}
+use mathlib.Core.Path.{_≡_, refl, sym, _∙_, ap}
 use borrow.Author.Needs.{needs}
-use lib.ListN.{length}
 use borrow.Author.Tests.{not-true, not-false}
-use Rattle.bytewise.specs.Bytes.{part}
-use Rattle.cut.specs.Segments.{segmentsOf}
-use Rattle.cut.specs.Fronts.{whole}
-use Rattle.cut.proofs.cutting.Boundaries.{closed-break, closed-limit}
+use lib.ListN.{length}
+use Rattle.cut.specs.Calls.{back, backAt}
+use Rattle.cut.proofs.Backing.{back-on, back-here, back-first}
 use Rattle.cut.proofs.breaks.before_breaks.Statement.{statement}
 use Rattle.cut.proofs.breaks.before_breaks.Tie as tie
 
 abbrev Inv-loop : tie.InvT-loop
-Inv-loop y d first at i₀ i =
-    (i ≤ at) × (i ≤ length d) × (first ≤ at → first ≤ length d → first ≤ i)
-    × (whole (segmentsOf y first (part first at d)) ≡ whole (segmentsOf y first (part first i d)))
+Inv-loop y d first at i₀ i = (i ≤ length d) × (backAt y d first at ≡ back y d first i)
 
 abbrev μ-loop : tie.MeasureT-loop
 μ-loop y d first at i₀ i = i
@@ -24,7 +19,7 @@ limit-of-requires : tie.Need-limit-of-requires Inv-loop μ-loop
 limit-of-requires c κs = search needs
 
 loop-holds : tie.Need-loop-holds Inv-loop μ-loop
-loop-holds c = (search needs, search needs, λ h k. search needs, sym (closed-limit _ _ _ _ _ (c .limit-of .ensures)))
+loop-holds c = (search needs, ap (back _ _ _) (sym (c .limit-of .ensures)))
 
 sub-k : tie.Need-sub-k Inv-loop μ-loop
 sub-k c = search needs
@@ -39,13 +34,7 @@ returns : tie.Need-returns Inv-loop μ-loop
 returns c =
     let told = c .before in
     let l = told .before .before .before .loop in
-    record {
-      before = l .inv .0;
-      fits = l .inv .1;
-      inside = l .inv .2;
-      same = l .inv .3;
-      stops = λ h. sym (told .is-break .ensures) ∙ not-true _ (c .if1 .taken);
-    }
+    sym (l .inv .1 ∙ back-here _ _ _ _ (sym (told .is-break .ensures) ∙ not-true _ (c .if1 .taken)))
 
 loop-less : tie.Need-loop-less Inv-loop μ-loop
 loop-less c = search needs
@@ -55,14 +44,10 @@ loop-again c =
     let told = c .before in
     let test = told .before .before in
     let l = test .before .loop in
-    let h = test .loop-test .taken in
-    let i = sym (told .is-break .ensures) ∙ not-false _ (c .if1 .left) in
-    (search needs, search needs, λ a b. search needs, l .inv .3 ∙ closed-break _ _ _ _ h (search needs) i)
+    (search needs, l .inv .1 ∙ back-on _ _ _ _ (test .loop-test .taken) (sym (told .is-break .ensures) ∙ not-false _ (c .if1 .left)))
 
 returns-2 : tie.Need-returns-2 Inv-loop μ-loop
-returns-2 c =
-    let l = c .before .loop in
-    record { before = l .inv .0; fits = l .inv .1; inside = l .inv .2; same = l .inv .3; stops = λ h. absurd (search needs) }
+returns-2 c = sym (c .before .loop .inv .1 ∙ back-first _ _ _ _ (c .loop-test .left))
 
 pub before-breaks-spec : {M : Type 1} → statement M
 before-breaks-spec =
