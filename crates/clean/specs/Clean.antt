@@ -2,16 +2,9 @@
 use Prim.Native.Nat.{ℕ, zero, suc}
 use mathlib.Core.Bool.{Bool, true, false, _&&_, _||_}
 use mathlib.Core.List.{List, [], _∷_}
-use lib.Dec.{leb, eqb}
+use lib.Dec.{eqb}
 use Rattle.cut.specs.declared.service.Syntax.{Syntax}
-
--- whether x is one of the numbers from a to b
-unfoldable pub between : ℕ → ℕ → ℕ → Bool
-between a b x = leb a x && leb x b
-
--- "Allowed bytes: 32 to 126 and 160 to 255"
-unfoldable pub allowedByte : ℕ → Bool
-allowedByte x = between 32 126 x || between 160 255 x
+unfoldable pub use Rattle.cut.specs.Characters.{between, allowedByte}
 
 -- 10, "it holds a byte not allowed": whether it holds none
 unfoldable pub allowedBytes : List ℕ → Bool

@@ -14,14 +14,15 @@ use Rattle.cut.specs.declared.service.Syntax.{Syntax}
 use Rattle.bytewise.specs.Bytes.{begins}
 use Rattle.cut.specs.Segments.{Segment, ends, frees, join, segmentsFrom, isBreak, trimmed, segmentsOf, segmentsAt}
 use Rattle.cut.specs.Admission.{openingOf, segments}
-use Rattle.cut.specs.Fronts.{moved, whole, after, meet, has, service, UNH, Tail}
+use Rattle.cut.specs.Fronts.{moved, whole, after, meet, UNH, Tail}
+use Rattle.cut.specs.Characters.{has, service}
 use Rattle.cut.proofs.Appended.{meet-whole}
 use Rattle.cut.proofs.Skips.{trim-kept}
 use Rattle.cut.proofs.Meeting.{behind, segments-meet}
 use Rattle.cut.proofs.Moving.{segments-moved}
 use Rattle.cut.proofs.cutting.Released.{ends-other, frees-not}
 use Rattle.cut.proofs.Places.{admitted}
-use Rattle.cut.proofs.Fronting.{has-not, U-kept, opening-same, opening-fits, front-admitted, tail-admitted, tail-opening}
+use Rattle.cut.proofs.Fronting.{has-not, no-U, admission-valid, U-kept, opening-same, opening-fits, front-admitted, tail-admitted, tail-opening}
 use Rattle.bytewise.proofs.Words.{begins-at}
 
 -- a byte that is no service character ends nothing and releases nothing, released or not
@@ -83,7 +84,7 @@ module _ (y : Syntax) (front tail : List ℕ) (t : Tail y front tail) where
   tail-cuts : segmentsFrom y (o + length (drop o front)) (after y false (drop o front)) tail ≡ segmentsFrom y (length front) false tail
   tail-cuts =
       ap (λ (q : ℕ). segmentsFrom y q (after y false (drop o front)) tail) fronts-end
-      ∙ tail-first y (length front) (after y false (drop o front)) tail (t .no-U) (t .begins-UNH)
+      ∙ tail-first y (length front) (after y false (drop o front)) tail (no-U y (admission-valid y (front ++ tail) (t .admitted))) (t .begins-UNH)
 
   tails : segmentsOf y (length front) tail ≡ map (moved (length front)) (segments y tail)
   tails =

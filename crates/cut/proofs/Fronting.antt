@@ -8,14 +8,15 @@ use native.Mathlib.Omega.{arith}
 use lib.ListN.{length, getD, drop, length-append, length-drop}
 use lib.Seq.{getD-append-add, drop-append-le}
 use lib.Dec.{eqb, leb, ltb, lit<, lit≤}
-use borrow.Author.Tests.{eqb-true, eqb-false, ltb-false, le-ltb, leb-true, leb-false}
+use borrow.Author.Tests.{eqb-true, eqb-false, ne-eqb, ltb-false, le-ltb, leb-true, leb-false}
 use Rattle.cut.specs.declared.service.Syntax.{Syntax}
 use Rattle.bytewise.specs.Bytes.{begins}
 use Rattle.cut.specs.Segments.{isBreak, past, pastAt}
 use Rattle.cut.specs.Admission.{limit, UNA, nine, admits, opens, unbroken, admissionOf, openingOf}
-use Rattle.bytewise.proofs.Booleans.{or-neither}
+use Rattle.bytewise.proofs.Booleans.{and-both, or-neither}
 use Rattle.bytewise.proofs.Words.{begins-front, begins-more, begins-at, begins-length}
-use Rattle.cut.specs.Fronts.{has, service, UNH, Tail}
+use Rattle.cut.specs.Fronts.{UNH, Tail}
+use Rattle.cut.specs.Characters.{between, allowedByte, mayServe, service, has, allServe, distinct, valid}
 use Rattle.cut.proofs.Ahead.{pasts}
 
 pub has-not : (x : ℕ) (zs : List ℕ) (i : ℕ) → has x zs ≡ false → i < length zs → x ≡ getD zs i 0 → ⊥
@@ -47,37 +48,70 @@ nine-U y (suc (suc (suc (suc (suc (suc (suc zero))))))) n h k e = omega arith
 nine-U y (suc (suc (suc (suc (suc (suc (suc (suc zero)))))))) n h k e = has-not 85 (service y) 4 n (lit< tt) e
 nine-U y (suc (suc (suc (suc (suc (suc (suc (suc (suc i))))))))) n h k e = omega arith
 
+-- what may serve is none that may not
+serves-not : (x : ℕ) (zs : List ℕ) → mayServe x ≡ false → allServe zs ≡ true → has x zs ≡ false
+unfolding has allServe
+serves-not x [] n h = refl
+serves-not x (z ∷ zs) n h =
+    let k = and-both (mayServe z) (allServe zs) h in
+    let e : x ≡ z → ⊥ = λ e. true≢false (sym (k .0) ∙ ap mayServe (sym e) ∙ n) in
+    rw (ne-eqb x z e) (serves-not x zs n (k .1))
+
+-- no letter is a service character that may be used
+pub no-letter : (y : Syntax) (x : ℕ) → valid y ≡ true → mayServe x ≡ false → has x (service y) ≡ false
+unfolding valid
+no-letter y x v n = serves-not x (service y) n (and-both (allServe (service y)) (distinct (service y)) v .0)
+
+pub no-U : (y : Syntax) → valid y ≡ true → has 85 (service y) ≡ false
+unfolding mayServe allowedByte between
+no-U y v = no-letter y 85 v refl
+
+pub no-N : (y : Syntax) → valid y ≡ true → has 78 (service y) ≡ false
+unfolding mayServe allowedByte between
+no-N y v = no-letter y 78 v refl
+
 module _ (y : Syntax) (n : ℕ) (d : List ℕ) where
-  -- admission, as two facts
+  abbrev told : Bool → Bool → Bool → ℕ
+  told l v w = cond l 1 (cond v (cond w 2 0) 2)
+
+  -- admission, as three facts
   pub admitted-length : admits y n d ≡ 0 → n ≤ limit
   unfolding admits
   admitted-length e = go (ltb limit n) refl e
     where
-      go : (b : Bool) → ltb limit n ≡ b → _≡_ {A = ℕ} (cond b 1 (cond (begins UNA d && not (begins (nine y) d)) 2 0)) 0 → n ≤ limit
+      go : (b : Bool) → ltb limit n ≡ b → _≡_ {A = ℕ} (told b (valid y) (begins UNA d && not (begins (nine y) d))) 0 → n ≤ limit
       go true l k = absurd (omega arith)
       go false l k = ltb-false limit n l
 
-  pub admitted-una : admits y n d ≡ 0 → begins UNA d ≡ true → begins (nine y) d ≡ true
+  pub admitted-valid : admits y n d ≡ 0 → valid y ≡ true
   unfolding admits
-  admitted-una e u = go (ltb limit n) (begins (nine y) d) refl (rw u at e)
+  admitted-valid e = go (ltb limit n) (valid y) refl e
     where
-      go
-          : (b t : Bool) → begins (nine y) d ≡ t → _≡_ {A = ℕ} (cond b 1 (cond (not t) 2 0)) 0
-          → begins (nine y) d ≡ true
-      go true t l k = absurd (omega arith)
+      go : (b v : Bool) → valid y ≡ v → _≡_ {A = ℕ} (told b v (begins UNA d && not (begins (nine y) d))) 0 → valid y ≡ true
+      go true v l k = absurd (omega arith)
       go false true l k = l
       go false false l k = absurd (omega arith)
 
-  pub admitted-by : n ≤ limit → (begins UNA d ≡ true → begins (nine y) d ≡ true) → admits y n d ≡ 0
+  pub admitted-una : admits y n d ≡ 0 → begins UNA d ≡ true → begins (nine y) d ≡ true
   unfolding admits
-  admitted-by h t = rw (le-ltb limit n h) (go (begins UNA d) refl)
+  admitted-una e u = go (ltb limit n) (valid y) (begins (nine y) d) refl (rw u at e)
+    where
+      go : (b v t : Bool) → begins (nine y) d ≡ t → _≡_ {A = ℕ} (told b v (not t)) 0 → begins (nine y) d ≡ true
+      go true v t l k = absurd (omega arith)
+      go false v true l k = l
+      go false true false l k = absurd (omega arith)
+      go false false false l k = absurd (omega arith)
+
+  pub admitted-by : n ≤ limit → valid y ≡ true → (begins UNA d ≡ true → begins (nine y) d ≡ true) → admits y n d ≡ 0
+  unfolding admits
+  admitted-by h v t = rw (le-ltb limit n h, v) (go (begins UNA d) refl)
     where
       go : (u : Bool) → begins UNA d ≡ u → _≡_ {A = ℕ} (cond (u && not (begins (nine y) d)) 2 0) 0
       go true e = rw (t e)
       go false e = refl
 
 -- a front without the line breaks at its start, before a tail that begins UNH
-module _ (y : Syntax) (n : ℕ) (front tail : List ℕ) (no-U : has 85 (service y) ≡ false) (a : admits y n (front ++ tail) ≡ 0) (u : begins UNH tail ≡ true) where
+module _ (y : Syntax) (n : ℕ) (front tail : List ℕ) (a : admits y n (front ++ tail) ≡ 0) (u : begins UNH tail ≡ true) where
   tail-byte : (i : ℕ) → i < 3 → getD (front ++ tail) (length front + i) 0 ≡ getD UNH i 0
   tail-byte i h = getD-append-add front tail i 0 ∙ begins-at UNH tail i u h
 
@@ -96,7 +130,7 @@ module _ (y : Syntax) (n : ℕ) (front tail : List ℕ) (no-U : has 85 (service 
       go (x ∷ xs) e false l =
           let h = leb-false 9 (length front) l in
           let k = ap length e in
-          absurd (nine-U y (length front) no-U (omega arith) h (first-byte h))
+          absurd (nine-U y (length front) (no-U y (admitted-valid y n (front ++ tail) a)) (omega arith) h (first-byte h))
 
   una-same : begins UNA (front ++ tail) ≡ begins UNA front
   una-same = go (begins UNA (front ++ tail)) (begins UNA front) refl refl
@@ -120,7 +154,7 @@ module _ (y : Syntax) (n : ℕ) (front tail : List ℕ) (no-U : has 85 (service 
 
   front-admits : (m : ℕ) → m ≤ n → admits y m front ≡ 0
   front-admits m h =
-      admitted-by y m front (omega (arith, admitted-length y n (front ++ tail) a))
+      admitted-by y m front (omega (arith, admitted-length y n (front ++ tail) a)) (admitted-valid y n (front ++ tail) a)
       (λ v. sym (begins-front (nine y) front tail (una-front (una-same ∙ v))) ∙ admitted-una y n (front ++ tail) a (una-same ∙ v))
 
 -- U is no line break
@@ -150,6 +184,10 @@ pub admission-short : (y : Syntax) (d : List ℕ) → admissionOf y d ≡ 0 → 
 unfolding admissionOf
 admission-short y d e = admitted-length y (length d) (unbroken y d) e
 
+pub admission-valid : (y : Syntax) (d : List ℕ) → admissionOf y d ≡ 0 → valid y ≡ true
+unfolding admissionOf
+admission-valid y d e = admitted-valid y (length d) (unbroken y d) e
+
 -- a delivery that begins UNH has no line break at its start and no UNA
 module _ (y : Syntax) (d : List ℕ) (u : begins UNH d ≡ true) where
   unh-start : pastAt y d 0 ≡ 0
@@ -163,10 +201,10 @@ module _ (y : Syntax) (d : List ℕ) (u : begins UNH d ≡ true) where
   unfolding openingOf opens
   unh-opening = rw (unh-start, unh-una d u)
 
-module _ (y : Syntax) (d : List ℕ) (h : length d ≤ limit) (u : begins UNH d ≡ true) where
+module _ (y : Syntax) (d : List ℕ) (h : length d ≤ limit) (v : valid y ≡ true) (u : begins UNH d ≡ true) where
   pub unh-admitted : admissionOf y d ≡ 0
   unfolding admissionOf
-  unh-admitted = ap (admits y (length d)) (unh-unbroken y d u) ∙ admitted-by y (length d) d h (λ v. absurd (true≢false (sym v ∙ unh-una d u)))
+  unh-admitted = ap (admits y (length d)) (unh-unbroken y d u) ∙ admitted-by y (length d) d h v (λ w. absurd (true≢false (sym w ∙ unh-una d u)))
 
 module _ (y : Syntax) (front tail : List ℕ) (t : Tail y front tail) where
   abbrev start : ℕ
@@ -189,19 +227,19 @@ module _ (y : Syntax) (front tail : List ℕ) (t : Tail y front tail) where
   unfolding openingOf
   opening-same =
       ap₂ _+_ (past-front y front tail (t .begins-UNH))
-      (ap opens unbroken-append ∙ opens-same y _ (unbroken y front) tail (t .no-U) admits-append (t .begins-UNH))
+      (ap opens unbroken-append ∙ opens-same y _ (unbroken y front) tail admits-append (t .begins-UNH))
 
   pub opening-fits : openingOf y front ≤ length front
   unfolding openingOf
   opening-fits =
-      let f = opens-fits y _ (unbroken y front) tail (t .no-U) admits-append (t .begins-UNH) in
+      let f = opens-fits y _ (unbroken y front) tail admits-append (t .begins-UNH) in
       omega (arith, start-fits, length-drop start front)
 
   -- front and tail are admitted by themselves
   pub front-admitted : admissionOf y front ≡ 0
   unfolding admissionOf
   front-admitted =
-      front-admits y _ (unbroken y front) tail (t .no-U) admits-append (t .begins-UNH) (length front) (omega (arith, length-append front tail))
+      front-admits y _ (unbroken y front) tail admits-append (t .begins-UNH) (length front) (omega (arith, length-append front tail))
 
   pub tail-start : pastAt y tail 0 ≡ 0
   tail-start = unh-start y tail (t .begins-UNH)
@@ -211,7 +249,7 @@ module _ (y : Syntax) (front tail : List ℕ) (t : Tail y front tail) where
   tail-short = omega (arith, length-append front tail, admission-short y (front ++ tail) (t .admitted))
 
   pub tail-admitted : admissionOf y tail ≡ 0
-  tail-admitted = unh-admitted y tail tail-short (t .begins-UNH)
+  tail-admitted = unh-admitted y tail tail-short (admission-valid y (front ++ tail) (t .admitted)) (t .begins-UNH)
 
   pub tail-opening : openingOf y tail ≡ 0
   tail-opening = unh-opening y tail (t .begins-UNH)

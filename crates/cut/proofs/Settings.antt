@@ -13,7 +13,7 @@ use Rattle.bytewise.proofs.Booleans.{and-both, both-and, or-neither}
 use Rattle.cut.specs.Base.{strictly}
 use Rattle.cut.specs.Segments.{Segment, endOf, ends, frees, join, segmentsFrom, isBreak, trim, trimmed, segmentsOf, segmentsAt, past, pastAt, joined}
 use Rattle.cut.specs.Admission.{admits, opens, unbroken, admissionOf, openingOf, onlyIf, segments}
-use Rattle.cut.specs.Fronts.{has}
+use Rattle.cut.specs.Characters.{has, valid}
 use Rattle.cut.proofs.Appended.{segments-joined}
 use Rattle.cut.proofs.Skips.{trim-kept, segments-are}
 use Rattle.cut.proofs.Chains.{Chain, chained}
@@ -69,7 +69,7 @@ module _ (y : Syntax) where
     opening-strictly = rw (past-strictly 0 d) (zero-add (opens d))
 
     admission-strictly : admissionOf (strictly y) d ≡ admits y (length d) d
-    unfolding admissionOf admits
+    unfolding admissionOf admits valid
     admission-strictly = rw (past-strictly 0 d)
 
     -- the delivery as document 01 cuts it

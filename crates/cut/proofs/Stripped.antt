@@ -18,7 +18,9 @@ use Rattle.cut.proofs.Appended.{segments-append, cuts-moved}
 use Rattle.cut.proofs.First.{first, cutting}
 use Rattle.cut.proofs.Meeting.{after-whole}
 use Rattle.cut.proofs.Ahead.{FirstAhead, first-ahead}
-use Rattle.cut.proofs.Places.{of-segments}
+use Rattle.cut.specs.Characters.{valid}
+use Rattle.cut.proofs.Fronting.{admission-valid}
+use Rattle.cut.proofs.Places.{refused, of-segments}
 use Rattle.cut.proofs.Settings.{strict-segments, strict-delivery}
 
 -- a segment without its place
@@ -110,6 +112,10 @@ pub usual-is-strict
 usual-is-strict y d at q =
     joined-cut y d at q (segmentsAt y d at) refl ∙ ap (map placeless) (sym (strict-segments y q (joined (segmentsAt y d at))))
 
+strictly-valid : (y : Syntax) → valid (strictly y) ≡ valid y
+unfolding valid
+strictly-valid y = refl
+
 begins-itself : (xs zs : List ℕ) → begins xs (xs ++ zs) ≡ true
 unfolding begins
 begins-itself [] zs = refl
@@ -127,9 +133,9 @@ module _ (y : Syntax) (d : List ℕ) where
   unfolding opens begins
   stripped-opens = refl
 
-  stripped-admitted : length stripped ≤ limit → admits y (length stripped) stripped ≡ 0
+  stripped-admitted : valid y ≡ true → length stripped ≤ limit → admits y (length stripped) stripped ≡ 0
   unfolding admits
-  stripped-admitted h = rw (le-ltb limit (length stripped) h) (nine-right y (joined (segments y d)))
+  stripped-admitted v h = rw (le-ltb limit (length stripped) h, v) (nine-right y (joined (segments y d)))
 
   delivery-cut : map placeless (segments y d) ≡ map placeless (segmentsFrom y 9 false (joined (segments y d)))
   unfolding joined segmentsFrom
@@ -137,11 +143,18 @@ module _ (y : Syntax) (d : List ℕ) where
       of-segments y d (λ (ss : List Segment). map placeless ss ≡ map placeless (segmentsFrom y 9 false (joined ss))) refl
       (joined-cut y d (openingOf y d) 9 (segmentsAt y d (openingOf y d)) refl)
 
-  strict-stripped : length stripped ≤ limit → segments (strictly y) stripped ≡ segmentsFrom y 9 false (joined (segments y d))
-  strict-stripped h =
+  strict-stripped : valid y ≡ true → length stripped ≤ limit → segments (strictly y) stripped ≡ segmentsFrom y 9 false (joined (segments y d))
+  strict-stripped v h =
       strict-delivery y stripped
-      ∙ ap₂ (λ (a o : ℕ). onlyIf (eqb a 0) (segmentsFrom y o false (drop o stripped))) (stripped-admitted h) stripped-opens
+      ∙ ap₂ (λ (a o : ℕ). onlyIf (eqb a 0) (segmentsFrom y o false (drop o stripped))) (stripped-admitted v h) stripped-opens
 
   -- a whole delivery: places aside, it holds what the strict reading finds in it once the skipped bytes are taken out
   pub delivery-is-strict : length stripped ≤ limit → map placeless (segments y d) ≡ map placeless (segments (strictly y) stripped)
-  delivery-is-strict h = delivery-cut ∙ sym (ap (map placeless) (strict-stripped h))
+  delivery-is-strict h = go (valid y) refl
+    where
+      unusable : (e : List ℕ) (z : Syntax) → valid z ≡ false → segments z e ≡ []
+      unusable e z v = refused z e (λ a. true≢false (sym (admission-valid z e a) ∙ v))
+
+      go : (b : Bool) → valid y ≡ b → map placeless (segments y d) ≡ map placeless (segments (strictly y) stripped)
+      go true v = delivery-cut ∙ sym (ap (map placeless) (strict-stripped v h))
+      go false v = ap (map placeless) (unusable d y v ∙ sym (unusable stripped (strictly y) (strictly-valid y ∙ v)))

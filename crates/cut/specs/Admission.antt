@@ -6,6 +6,7 @@ use lib.ListN.{length, drop}
 use lib.Dec.{eqb, ltb}
 use Rattle.cut.specs.declared.service.Syntax.{Syntax}
 use Rattle.bytewise.specs.Bytes.{bytesOf, begins}
+use Rattle.cut.specs.Characters.{valid}
 use Rattle.cut.specs.Segments.{Segment, segmentsAt, pastAt}
 
 -- "at most 1,048,576 bytes"
@@ -19,9 +20,9 @@ UNA = bytesOf "UNA"
 abbrev pub nine : Syntax → List ℕ
 nine y = UNA ++ (y .component ∷ y .element ∷ y .decimal ∷ y .release ∷ bytesOf " " ++ (y .terminator ∷ []))
 
--- 1: longer than the limit; 2: "begins `UNA`, first nine bytes not those above"; 1 before 2; else 0
+-- 1: longer than the limit; 2: these characters may not be used, or "begins `UNA`, first nine bytes not those above"; 1 before 2; else 0
 unfoldable pub admits : Syntax → ℕ → List ℕ → ℕ
-admits y n d = cond (ltb limit n) 1 (cond (begins UNA d && not (begins (nine y) d)) 2 0)
+admits y n d = cond (ltb limit n) 1 (cond (valid y) (cond (begins UNA d && not (begins (nine y) d)) 2 0) 2)
 
 -- "its first nine bytes .. are skipped": where the first segment begins
 unfoldable pub opens : List ℕ → ℕ

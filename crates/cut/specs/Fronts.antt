@@ -33,21 +33,10 @@ unfoldable pub meet : List Segment → List Segment → List Segment
 meet [] ts = ts
 meet (s ∷ ss) ts = cond (s .piece) (glued s ts) (s ∷ meet ss ts)
 
--- the five service characters
-abbrev pub service : Syntax → List ℕ
-service y = y .component ∷ y .element ∷ y .decimal ∷ y .release ∷ y .terminator ∷ []
-
--- whether x is one of xs
-unfoldable pub has : ℕ → List ℕ → Bool
-has x [] = false
-has x (z ∷ zs) = eqb x z || has x zs
-
 abbrev pub UNH : List ℕ
 UNH = bytesOf "UNH"
 
--- "two admitted deliveries, one the tail of the other, the tail starting with the bytes UNH"; U (85) and N (78) are no service characters
+-- "two admitted deliveries, one the tail of the other, the tail starting with the bytes UNH"
 pub record Tail (y : Syntax) (front tail : List ℕ) : Type 0 where
-  pub no-U : has 85 (service y) ≡ false
-  pub no-N : has 78 (service y) ≡ false
   pub admitted : admissionOf y (front ++ tail) ≡ 0
   pub begins-UNH : begins UNH tail ≡ true

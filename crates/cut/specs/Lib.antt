@@ -1,3 +1,4 @@
+pub mod Characters
 pub mod Segments
 pub mod Since
 pub mod Admission
@@ -5,4 +6,5 @@ pub mod Calls
 pub mod Fronts
 pub mod Laying
 pub mod Base
+pub mod Used
 pub mod workers

@@ -1,5 +1,6 @@
 // Whether a delivery is read at all, and where its segments are looked for from.
 use crate::breaks::past_breaks;
+use crate::serving::may_be_used;
 use crate::service::Syntax;
 use bytewise::begins_with;
 ghost use mathlib.Core.Path.{_≡_};
@@ -8,12 +9,16 @@ ghost use Rattle.cut.specs.Admission.{admissionOf, openingOf};
 // The most bytes that a delivery has.
 const LIMIT: usize = 1_048_576;
 
-// 1: longer than the limit; 2: begins UNA, line breaks aside, and these nine bytes are not those of these service characters; else 0.
+// 1: longer than the limit; 2: these service characters may not be used, or the delivery begins UNA, line breaks aside, and its nine bytes are not theirs;
+// else 0.
 pub fn admission(y: Syntax, d: &[u8]) -> u32
     ensures { λ r. ⌜ r ≡ admissionOf y (now (d .entry)) ⌝ }
 {
     if d.len() > LIMIT {
         return 1;
+    }
+    if !may_be_used(y) {
+        return 2;
     }
     let k = past_breaks(y, d, 0);
     let rest = &d[k..];

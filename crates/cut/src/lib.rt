@@ -5,7 +5,9 @@ mod begins;
 mod breaks;
 mod scan;
 mod service;
+mod serving;
 mod steps;
+mod used;
 
 pub use admit::admission;
 pub use admit::opening;
@@ -23,3 +25,4 @@ pub use service::strict;
 pub use service::usual;
 pub use steps::Cursor;
 pub use steps::Step;
+pub use used::characters;

@@ -17,7 +17,7 @@ use Rattle.cut.specs.Fronts.{moved, UNH}
 use Rattle.messages.specs.Fronts.{movedMessage}
 use Rattle.cut.proofs.Moving.{segments-moved}
 use Rattle.bytewise.proofs.Words.{begins-more}
-use Rattle.cut.proofs.Fronting.{admission-short, unh-admitted, unh-opening}
+use Rattle.cut.proofs.Fronting.{admission-short, admission-valid, unh-admitted, unh-opening}
 use Rattle.messages.proofs.walks.Grouping.{messages-moved}
 use Rattle.messages.proofs.Members.{Each, Lies, messages-lie}
 use Rattle.bytewise.proofs.Parts.{length-part, part-parts}
@@ -108,11 +108,11 @@ module _ (y : Syntax) (d : List ℕ) (a : admissionOf y d ≡ 0) (m : Message) (
   own-short = omega (arith, length-part d (startOf m) (closeOf m) (l .fits), l .fits, admission-short y d a)
 
   own-segments : segments y own ≡ segmentsOf y 0 own
-  own-segments = admitted y own (unh-admitted y own own-short own-begins) ∙ ap (segmentsAt y own) (unh-opening y own own-begins)
+  own-segments = admitted y own (unh-admitted y own own-short (admission-valid y d a) own-begins) ∙ ap (segmentsAt y own) (unh-opening y own own-begins)
 
   stands : (ms : List Message) → messages y own ≡ ms → map (movedMessage (startOf m)) ms ≡ m ∷ [] → ByItself y d m
   stands [] e h = absurd (nil≢cons h)
-  stands (n ∷ []) e h = record { alone = n; admits = unh-admitted y own own-short own-begins; only = e; same = head-eq-of-cons-eq h }
+  stands (n ∷ []) e h = record { alone = n; admits = unh-admitted y own own-short (admission-valid y d a) own-begins; only = e; same = head-eq-of-cons-eq h }
   stands (n ∷ o ∷ ms) e h = absurd (nil≢cons (sym (tail-eq-of-cons-eq h)))
 
   by-itself : ByItself y d m

@@ -11,7 +11,9 @@ use Rattle.bytewise.proofs.Words.{begins-at, begins-length}
 use Rattle.cut.specs.declared.service.Syntax.{Syntax}
 use Rattle.cut.specs.Segments.{segmentsOf}
 use Rattle.cut.specs.Admission.{segments}
-use Rattle.cut.specs.Fronts.{moved, whole, meet, has, service, UNH, Tail}
+use Rattle.cut.specs.Fronts.{moved, whole, meet, UNH, Tail}
+use Rattle.cut.specs.Characters.{has, service, valid}
+use Rattle.cut.proofs.Fronting.{no-U, no-N, admission-valid}
 use Rattle.cut.proofs.Demand3.{plain-ends, plain-frees, tail-segments, segments-any-front, segments-whole-front}
 use Rattle.messages.specs.Messages.{body, messages}
 use Rattle.messages.specs.Fronts.{movedMessage, begunIn}
@@ -46,8 +48,11 @@ drop-map f [] = refl
 drop-map f (x ∷ xs) = refl
 
 module _ (y : Syntax) (front tail : List ℕ) (t : Tail y front tail) where
+  usable : valid y ≡ true
+  usable = admission-valid y (front ++ tail) (t .admitted)
+
   pub first-headed : Headed (segments y tail)
-  first-headed = rw (tail-segments y front tail t) (tail-headed y tail (t .no-U) (t .no-N) (t .begins-UNH))
+  first-headed = rw (tail-segments y front tail t) (tail-headed y tail (no-U y usable) (no-N y usable) (t .begins-UNH))
 
   moved-body : body (map (moved (length front)) (segments y tail)) ≡ []
   moved-body = body-moved (length front) (segments y tail) ∙ rw (headed-body (segments y tail) first-headed)

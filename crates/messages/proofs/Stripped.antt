@@ -7,7 +7,7 @@ use lib.ListN.{length}
 use Rattle.cut.specs.declared.service.Syntax.{Syntax}
 use Rattle.cut.specs.Base.{strictly}
 use Rattle.cut.specs.Admission.{limit, segments}
-use Rattle.cut.specs.Fronts.{has}
+use Rattle.cut.specs.Characters.{has}
 use Rattle.cut.proofs.Stripped.{placeless, stripped, delivery-is-strict}
 use Rattle.cut.proofs.Settings.{without-breaks}
 use Rattle.messages.specs.Messages.{Message, messagesIn, messages}
