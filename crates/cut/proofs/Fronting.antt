@@ -194,7 +194,7 @@ module _ (y : Syntax) (d : List ℕ) (u : begins UNH d ≡ true) where
   unfolding past
   unh-start = past-front y [] d u
 
-  unh-unbroken : unbroken y d ≡ d
+  pub unh-unbroken : unbroken y d ≡ d
   unh-unbroken = ap (λ (k : ℕ). drop k d) unh-start
 
   pub unh-opening : openingOf y d ≡ 0

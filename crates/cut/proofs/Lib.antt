@@ -14,6 +14,7 @@ pub mod Fronting
 pub mod Demand3
 pub mod Kept
 pub mod Empty
+pub mod Using
 pub mod Settings
 pub mod Folded
 pub mod Stripped

@@ -7,4 +7,5 @@ pub mod Fronts
 pub mod Laying
 pub mod Base
 pub mod Used
+pub mod Readable
 pub mod workers

@@ -1,7 +1,7 @@
 // Whether a delivery is read at all, and where its segments are looked for from.
 use crate::breaks::past_breaks;
-use crate::serving::may_be_used;
 use crate::service::Syntax;
+use crate::serving::may_be_used;
 use bytewise::begins_with;
 ghost use mathlib.Core.Path.{_≡_};
 ghost use Rattle.cut.specs.Admission.{admissionOf, openingOf};

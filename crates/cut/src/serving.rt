@@ -53,7 +53,13 @@ fn are_distinct(y: Syntax) -> bool
     if stands_in(y.element, y.decimal, y.release, y.terminator, y.terminator) {
         return false;
     }
-    if stands_in(y.decimal, y.release, y.terminator, y.terminator, y.terminator) {
+    if stands_in(
+        y.decimal,
+        y.release,
+        y.terminator,
+        y.terminator,
+        y.terminator,
+    ) {
         return false;
     }
     y.release != y.terminator

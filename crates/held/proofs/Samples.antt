@@ -11,6 +11,7 @@ use Rattle.bytewise.specs.Bytes.{bytesOf, begins}
 use Rattle.cut.specs.Base.{edifact, strictly}
 use Rattle.cut.specs.Segments.{ends, frees, join, segmentsFrom, isBreak, trim, trimmed, segmentsOf, past}
 use Rattle.cut.specs.Admission.{admits, opens, admissionOf, openingOf}
+use Rattle.cut.specs.Characters.{between, allowedByte, mayServe, has, allServe, distinct, valid}
 use Rattle.cut.specs.Calls.{headCut, segmentAt, stepOf}
 use Rattle.held.specs.Reading.{nextFrom, placeAfter, readerOn, answerOf, movedOn, answers}
 
@@ -23,13 +24,15 @@ module _ (p : ℕ × ℕ) (γ : GName) where
       : answers 5 (readerOn edifact (lent p γ (bytesOf "UNA:+.? 'A?'B''UNH")))
       ≡ Segment 9 14 false ∷ Segment 14 15 false ∷ Segment 15 18 true ∷ Nothing ∷ Nothing ∷ []
   unfolding
-      answers answerOf movedOn nextFrom placeAfter stepOf headCut segmentAt admits opens admissionOf openingOf segmentsFrom join ends frees isBreak trim trimmed
+      answers answerOf movedOn nextFrom placeAfter stepOf headCut segmentAt between allowedByte mayServe has allServe
+      distinct valid admits opens admissionOf openingOf segmentsFrom join ends frees isBreak trim trimmed
       segmentsOf past begins
   una-released-piece = refl
 
   not-admitted : answers 2 (readerOn edifact (lent p γ (bytesOf "UNA:+,? 'A'"))) ≡ Nothing ∷ Nothing ∷ []
   unfolding
-      answers answerOf movedOn nextFrom placeAfter stepOf headCut segmentAt admits opens admissionOf openingOf segmentsFrom join ends frees isBreak trim trimmed
+      answers answerOf movedOn nextFrom placeAfter stepOf headCut segmentAt between allowedByte mayServe has allServe
+      distinct valid admits opens admissionOf openingOf segmentsFrom join ends frees isBreak trim trimmed
       segmentsOf past begins
   not-admitted = refl
 
@@ -38,7 +41,8 @@ module _ (p : ℕ × ℕ) (γ : GName) where
       : answers 3 (readerOn edifact (lent p γ ((10 ∷ bytesOf "UNA:+.? '") ++ (13 ∷ 10 ∷ bytesOf "A'") ++ (13 ∷ 10 ∷ bytesOf "B'") ++ (10 ∷ []))))
       ≡ Segment 12 14 false ∷ Segment 16 18 false ∷ Nothing ∷ []
   unfolding
-      answers answerOf movedOn nextFrom placeAfter stepOf headCut segmentAt admits opens admissionOf openingOf segmentsFrom join ends frees isBreak trim trimmed
+      answers answerOf movedOn nextFrom placeAfter stepOf headCut segmentAt between allowedByte mayServe has allServe
+      distinct valid admits opens admissionOf openingOf segmentsFrom join ends frees isBreak trim trimmed
       segmentsOf past begins
   usual-breaks = refl
 
@@ -47,6 +51,7 @@ module _ (p : ℕ × ℕ) (γ : GName) where
       : answers 3 (readerOn (strictly edifact) (lent p γ (bytesOf "A'" ++ (13 ∷ 10 ∷ bytesOf "B'"))))
       ≡ Segment 0 2 false ∷ Segment 2 6 false ∷ Nothing ∷ []
   unfolding
-      answers answerOf movedOn nextFrom placeAfter stepOf headCut segmentAt admits opens admissionOf openingOf segmentsFrom join ends frees isBreak trim trimmed
+      answers answerOf movedOn nextFrom placeAfter stepOf headCut segmentAt between allowedByte mayServe has allServe
+      distinct valid admits opens admissionOf openingOf segmentsFrom join ends frees isBreak trim trimmed
       segmentsOf past begins
   strict-break = refl

@@ -9,7 +9,7 @@ use Rattle.bytewise.specs.Bytes.{bytesOf}
 use Rattle.cut.specs.Admission.{nine}
 use Rattle.cut.specs.Base.{edifact}
 use Rattle.cut.specs.Segments.{breaks, isBreak}
-use Rattle.cut.specs.Fronts.{has, Tail}
+use Rattle.cut.specs.Fronts.{Tail}
 use Rattle.guide.specs.Answers.{accepts, refuses}
 use Rattle.verdict.specs.Moves.{movedVerdict}
 use Rattle.schaumtruhe.specs.Calls.{verdictAt, pricedAt, rowAt}
@@ -69,8 +69,8 @@ abbrev front : List ℕ
 front = (10 ∷ []) ++ (nine edifact ++ (13 ∷ 10 ∷ []))
 
 fronted : Tail edifact front pricedSecond
-unfolding has judgedAt
-fronted = record { no-U = refl; no-N = refl; admitted = refl; begins-UNH = refl }
+unfolding judgedAt
+fronted = record { admitted = refl; begins-UNH = refl }
 
 fronted-kept : FromFirst edifact front pricedSecond
 unfolding breaks isBreak

@@ -13,7 +13,7 @@ use Rattle.cut.specs.Base.{edifact, strictly}
 use Rattle.bytewise.specs.Bytes.{part, begins}
 use Rattle.messages.specs.Messages.{Message, messages}
 use Rattle.messages.specs.Fronts.{movedMessage}
-use Rattle.cut.specs.Fronts.{whole, has, UNH, Tail}
+use Rattle.cut.specs.Fronts.{whole, UNH, Tail}
 use Rattle.cut.proofs.Fronting.{front-admitted, tail-admitted}
 use Rattle.messages.proofs.TailFirst.{Opens, tail-opens}
 use Rattle.messages.proofs.Demand3.{messages-any-front, messages-whole-front}
@@ -107,10 +107,8 @@ demand3-una y a b tail h k t = demand3-whole y (a ++ (nine y ++ b)) tail t (ap w
 -- at the service characters `:+.?'`, in the usual and in the strict reading, nothing more is asked than that the longer delivery is admitted and
 -- the tail begins UNH
 pub demand3-usual : (front tail : List ℕ) → admissionOf edifact (front ++ tail) ≡ 0 → begins UNH tail ≡ true → Demand3 edifact front tail
-unfolding has
-demand3-usual front tail a u = demand3 edifact front tail (record { no-U = refl; no-N = refl; admitted = a; begins-UNH = u })
+demand3-usual front tail a u = demand3 edifact front tail (record { admitted = a; begins-UNH = u })
 
 pub demand3-strict
     : (front tail : List ℕ) → admissionOf (strictly edifact) (front ++ tail) ≡ 0 → begins UNH tail ≡ true → Demand3 (strictly edifact) front tail
-unfolding has
-demand3-strict front tail a u = demand3 (strictly edifact) front tail (record { no-U = refl; no-N = refl; admitted = a; begins-UNH = u })
+demand3-strict front tail a u = demand3 (strictly edifact) front tail (record { admitted = a; begins-UNH = u })

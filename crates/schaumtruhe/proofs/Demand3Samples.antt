@@ -10,7 +10,7 @@ use Rattle.cut.specs.Segments.{breaks}
 use Rattle.bytewise.specs.Bytes.{bytesOf}
 use Rattle.messages.specs.Messages.{messages}
 use Rattle.messages.specs.Fronts.{movedMessage}
-use Rattle.cut.specs.Fronts.{whole, has, Tail}
+use Rattle.cut.specs.Fronts.{whole, Tail}
 use Rattle.guide.specs.Answers.{accepts, refuses}
 use Rattle.verdict.specs.Moves.{movedVerdict}
 use Rattle.schaumtruhe.specs.Calls.{verdictAt, pricedAt, rowAt}
@@ -52,8 +52,8 @@ module _ (front : List ℕ) (t : Tail edifact front pricedSecond) where
 
 -- a front that spoils the first UNH: the tail's first message is lost, and the second is the only one
 glued : Tail edifact (bytesOf "X") pricedSecond
-unfolding has judgedAt
-glued = record { no-U = refl; no-N = refl; admitted = refl; begins-UNH = refl }
+unfolding judgedAt
+glued = record { admitted = refl; begins-UNH = refl }
 
 glued-messages : messages edifact (bytesOf "X" ++ pricedSecond) ≡ movedMessage 1 sheet ∷ []
 unfolding judgedAt
@@ -72,8 +72,8 @@ glued-row = second-row (bytesOf "X") glued
 
 -- a front that ends in a release mark, and so releases the U: the same
 released : Tail edifact (bytesOf "UNB+UNOC:3?") pricedSecond
-unfolding has judgedAt
-released = record { no-U = refl; no-N = refl; admitted = refl; begins-UNH = refl }
+unfolding judgedAt
+released = record { admitted = refl; begins-UNH = refl }
 
 released-messages : messages edifact (bytesOf "UNB+UNOC:3?" ++ pricedSecond) ≡ movedMessage 11 sheet ∷ []
 unfolding judgedAt
@@ -84,8 +84,8 @@ released-verdict = second-verdict (bytesOf "UNB+UNOC:3?") released
 
 -- UNA alone in front of document 01's input line: both messages from the first on
 una : Tail edifact (nine edifact) refusedTwice
-unfolding has judgedAt
-una = record { no-U = refl; no-N = refl; admitted = refl; begins-UNH = refl }
+unfolding judgedAt
+una = record { admitted = refl; begins-UNH = refl }
 
 una-kept : FromFirst edifact (nine edifact) refusedTwice
 unfolding breaks

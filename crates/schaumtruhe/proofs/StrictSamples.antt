@@ -7,7 +7,7 @@ use lib.ListN.{drop}
 use Rattle.cut.specs.declared.service.Syntax.{Syntax}
 use Rattle.cut.specs.Admission.{segments}
 use Rattle.cut.specs.Base.{edifact, strictly}
-use Rattle.cut.specs.Fronts.{whole, has, Tail}
+use Rattle.cut.specs.Fronts.{whole, Tail}
 use Rattle.messages.specs.Messages.{messages}
 use Rattle.messages.specs.Fronts.{movedMessage}
 use Rattle.guide.specs.Answers.{accepts}
@@ -40,8 +40,8 @@ strict-priced = (refl, refl)
 
 -- behind a line break the tail's first message is lost, and the second is the only one
 broken : Tail strict lineBreak pricedSecond
-unfolding has judgedAt
-broken = record { no-U = refl; no-N = refl; admitted = refl; begins-UNH = refl }
+unfolding judgedAt
+broken = record { admitted = refl; begins-UNH = refl }
 
 broken-messages : messages strict (lineBreak ++ pricedSecond) ≡ movedMessage 2 sheet ∷ []
 unfolding judgedAt

@@ -7,6 +7,7 @@ use mathlib.Core.List.{List, _++_, List·Memᴰ}
 use lib.ListN.{length}
 use Rattle.cut.specs.declared.service.Syntax.{Syntax}
 use Rattle.bytewise.specs.Bytes.{begins}
+use Rattle.cut.specs.Characters.{valid}
 use Rattle.cut.specs.Segments.{breaks}
 use Rattle.cut.specs.Admission.{limit, UNA, nine}
 use Rattle.messages.specs.Messages.{Message, startOf, closeOf, messages}
@@ -32,11 +33,13 @@ module _ (y : Syntax) where
   -- "A delivery is admitted if it gets neither 1 nor 2"
   pub record Admitted (d : List ℕ) : Type 0 where
     pub short : TooLong d → ⊥
+    pub usable : valid y ≡ true
     pub right : OtherUNA d → ⊥
 
   -- "1, 2 first, for the whole delivery, and then nothing else is read"
   pub data DeliveryRefused (d : List ℕ) : ℕ → Type 0 where
     too-long : TooLong d → DeliveryRefused d 1
+    unusable : (TooLong d → ⊥) → valid y ≡ false → DeliveryRefused d 2
     other-UNA : (TooLong d → ⊥) → OtherUNA d → DeliveryRefused d 2
 
   -- m is a message of the delivery and begins at the place

@@ -1,5 +1,4 @@
-// The article of a price: why it is refused, where it stands, and itself.
-use crate::reading::Reading;
+// Where the article of a price stands.
 use crate::sheets::Standing;
 use crate::sheets::sheet_at;
 use cut::Syntax;
@@ -7,7 +6,7 @@ use element::Span;
 use price::fill;
 ghost use mathlib.Core.Path.{_≡_};
 ghost use lib.ListN.{length};
-ghost use Rattle.price.specs.Calls.{pricesIn, IsPart};
+ghost use Rattle.price.specs.Calls.{pricesIn};
 ghost use Rattle.schaumtruhe.specs.Calls.{articleRefusal, articleAt};
 ghost use Rattle.schaumtruhe.specs.workers.Answers.{refusalBy};
 
@@ -30,20 +29,16 @@ fn refusal_by(y: Syntax, d: &[u8], sheet: Standing, k: usize) -> u32
     }
 }
 
-// Why the article of price k is refused: 1, 2, 31, 30, 32, in this order; 0 if it is not.
-pub fn article_refusal(how: Reading, d: &[u8], at: usize, k: usize) -> u32
-    ensures { λ r. ⌜ r ≡ articleRefusal (how .syntax) (now (d .entry)) at k ⌝ }
+pub(crate) fn article_refused(y: Syntax, d: &[u8], at: usize, k: usize) -> u32
+    ensures { λ r. ⌜ r ≡ articleRefusal y (now (d .entry)) at k ⌝ }
 {
-    let y = how.syntax;
     refusal_by(y, d, sheet_at(y, d, at), k)
 }
 
-// Where the article of price k stands: an absent one is the empty part at the message's start, that of a refused call the empty part at the
-// delivery's start.
-pub fn article_at(how: Reading, d: &[u8], at: usize, k: usize) -> Span
-    ensures { λ r. ⌜ r ≡ articleAt (how .syntax) (now (d .entry)) at k ⌝ }
+// A refused call has the empty part at the delivery's start.
+pub(crate) fn article_in(y: Syntax, d: &[u8], at: usize, k: usize) -> Span
+    ensures { λ r. ⌜ r ≡ articleAt y (now (d .entry)) at k ⌝ }
 {
-    let y = how.syntax;
     let sheet = sheet_at(y, d, at);
     let refused = refusal_by(y, d, sheet, k);
     let Standing::Accepted { start, end } = sheet else {
@@ -53,14 +48,4 @@ pub fn article_at(how: Reading, d: &[u8], at: usize, k: usize) -> Span
         return Span { start: 0, end: 0 };
     }
     price::article_at(y, d, start, end, k)
-}
-
-// The article itself, as that part of the delivery.
-pub fn article(how: Reading, d: &[u8], at: usize, k: usize) -> &[u8]
-    ensures { λ r. ⌜ IsPart (d .entry) r (articleAt (how .syntax) (now (d .entry)) at k .start) (articleAt (how .syntax) (now (d .entry)) at k .end) ⌝ }
-{
-    let s = article_at(how, d, at, k);
-    let a = s.start;
-    let e = s.end;
-    &d[a..e]
 }

@@ -1,5 +1,5 @@
 // The verdict of the message that begins at a place.
-use crate::reading::Reading;
+use cut::Syntax;
 use verdict::Verdict;
 use verdict::judged;
 ghost use mathlib.Core.Path.{_≡_};
@@ -19,10 +19,9 @@ fn refused(number: u32) -> Verdict
 }
 
 // 1 or 2; 31 if no message begins there; else the message's verdict.
-pub fn judge_at(how: Reading, d: &[u8], at: usize) -> Verdict
-    ensures { λ r. ⌜ r ≡ declared (verdictAt (how .syntax) (now (d .entry)) at) ⌝ }
+pub(crate) fn verdict_at(y: Syntax, d: &[u8], at: usize) -> Verdict
+    ensures { λ r. ⌜ r ≡ declared (verdictAt y (now (d .entry)) at) ⌝ }
 {
-    let y = how.syntax;
     let refusal = cut::admission(y, d);
     if refusal != 0 {
         return refused(refusal);

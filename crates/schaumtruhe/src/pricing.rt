@@ -1,7 +1,7 @@
 // The prices of the message that begins at a place, into a lent row.
-use crate::reading::Reading;
 use crate::sheets::Standing;
 use crate::sheets::sheet_at;
+use cut::Syntax;
 use price::fill;
 ghost use mathlib.Core.Path.{_≡_};
 ghost use Rattle.schaumtruhe.specs.Calls.{pricedAt, rowAt};
@@ -12,12 +12,11 @@ pub enum Priced {
     Refused { number: u32 },
 }
 
-// The prices from the k-th on, eight numbers to a price, as many as fit whole; a refusal writes nothing.
-pub fn prices(how: Reading, d: &[u8], at: usize, k: usize, row: &mut [i64]) -> Priced
-    ensures { λ r. ⌜ r ≡ pricedAt (how .syntax) (now (d .entry)) at k (now (row .entry)) ⌝ }
-    ensures { λ _. ⌜ now (row .exit) ≡ rowAt (how .syntax) (now (d .entry)) at k (now (row .entry)) ⌝ }
+// The prices from the k-th on; a refusal writes nothing.
+pub(crate) fn fill_at(y: Syntax, d: &[u8], at: usize, k: usize, row: &mut [i64]) -> Priced
+    ensures { λ r. ⌜ r ≡ pricedAt y (now (d .entry)) at k (now (row .entry)) ⌝ }
+    ensures { λ _. ⌜ now (row .exit) ≡ rowAt y (now (d .entry)) at k (now (row .entry)) ⌝ }
 {
-    let y = how.syntax;
     let sheet = sheet_at(y, d, at);
     match sheet {
         Standing::Accepted { start, end } => {

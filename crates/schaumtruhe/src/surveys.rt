@@ -1,5 +1,4 @@
 // The whole delivery: messages found, accepted, and segments outside.
-use crate::reading::Reading;
 use cut::Syntax;
 use messages::Outer;
 use messages::outer_at;
@@ -80,11 +79,10 @@ fn step_at(y: Syntax, d: &[u8], at: usize) -> Counts
     }
 }
 
-// The whole delivery: one walk, in which each message is judged once and its end is found on the way.
-pub fn survey(how: Reading, d: &[u8]) -> Surveyed
-    ensures { λ r. ⌜ r ≡ surveyOf (how .syntax) (now (d .entry)) ⌝ }
+// One walk over the delivery, in which each message is judged once and its end is found on the way.
+pub(crate) fn counted(y: Syntax, d: &[u8]) -> Surveyed
+    ensures { λ r. ⌜ r ≡ surveyOf y (now (d .entry)) ⌝ }
 {
-    let y = how.syntax;
     let refusal = cut::admission(y, d);
     if refusal != 0 {
         return Surveyed::Refused { number: refusal };

@@ -11,7 +11,8 @@ use Rattle.cut.specs.Base.{edifact}
 use Rattle.bytewise.specs.Bytes.{bytesOf, begins}
 use Rattle.cut.specs.Segments.{ends, frees, join, segmentsFrom, isBreak, trim, trimmed, segmentsOf, past}
 use Rattle.messages.specs.Messages.{Message, tagOf, body, messagesIn, messages}
-use Rattle.clean.specs.Clean.{between, allowedByte, allowedBytes, capital, endsTag, lettered, taggedBytes}
+use Rattle.cut.specs.Characters.{between, allowedByte, mayServe, has, allServe, distinct, valid}
+use Rattle.clean.specs.Clean.{allowedBytes, capital, endsTag, lettered, taggedBytes}
 use Rattle.element.specs.Components.{inElement, width, inElements, components, spanIn}
 use Rattle.value.specs.Digits.{padded, isCount, countOf}
 use Rattle.element.specs.Elements.{endingOf, stays, releases, before, splitFrom, elements, component}
@@ -45,8 +46,9 @@ use Rattle.schaumtruhe.specs.declared.pricing.Priced.the-variants as pri
 -- judge_at
 unfoldable pub judgedAt : List ℕ → ℕ → Verdict
 unfolding
-    begins ends frees join segmentsFrom isBreak trim trimmed segmentsOf past admits opens admissionOf openingOf segments tagOf body messagesIn messages
-    between allowedByte allowedBytes capital endsTag lettered taggedBytes padded isCount countOf
+    begins ends frees join segmentsFrom isBreak trim trimmed segmentsOf past between allowedByte mayServe
+    has allServe distinct valid admits opens admissionOf openingOf segments tagOf body messagesIn messages
+    allowedBytes capital endsTag lettered taggedBytes padded isCount countOf
     endingOf stays releases before splitFrom elements component fitsFormat
     some none isDigit digitsAhead behindDigits minus unsigned whole fraction digits isTail isNumber decimal unlessMark plain same
     S009 C002 C106 C507 C506 C082 C212 services C509 basis text

@@ -11,6 +11,7 @@ use borrow.Author.Tests.{eqb-true, ltb-true, ltb-false}
 use Rattle.cut.specs.declared.service.Syntax.{Syntax}
 use Rattle.bytewise.specs.Bytes.{part, begins}
 use Rattle.bytewise.proofs.Words.{begins-at}
+use Rattle.cut.specs.Characters.{valid}
 use Rattle.cut.specs.Segments.{pastAt, breaks}
 use Rattle.cut.specs.Admission.{limit, UNA, nine, admits, unbroken, admissionOf}
 use Rattle.cut.proofs.Ahead.{pasts}
@@ -19,7 +20,7 @@ use Rattle.cut.proofs.Empty.{unbroken-behind}
 use Rattle.messages.specs.Messages.{Message, startOf, messages}
 use Rattle.schaumtruhe.specs.Calls.{beginningAt, nowhere, verdictAt, judged, Sheet, missing, sheetBy, sheetAt}
 use Rattle.schaumtruhe.proofs.places.Only.{only-here}
-use Rattle.schaumtruhe.specs.Demands.{TooLong, OtherUNA, Admitted, DeliveryRefused, too-long, other-UNA, Begins, NoMessage, whole-delivery, none-begins}
+use Rattle.schaumtruhe.specs.Demands.{TooLong, OtherUNA, Admitted, DeliveryRefused, too-long, unusable, other-UNA, Begins, NoMessage, whole-delivery, none-begins}
 
 -- the message that is found at a place begins there
 found-begins : (at : ℕ) (m : Message) (ms rest : List Message) → beginningAt at ms ≡ m ∷ rest → List·Memᴰ m ms × (startOf m ≡ at)
@@ -75,31 +76,38 @@ module _ (y : Syntax) (d : List ℕ) where
 
   pub admission : Admission
   unfolding admissionOf admits
-  admission = go (ltb limit (length d)) refl
+  admission = go (ltb limit (length d)) (valid y) refl refl
     where
       short : ltb limit (length d) ≡ false → TooLong d → ⊥
       short e l =
           let n = ltb-false limit (length d) e in
           omega (arith, l, n)
 
-      nines : (b c : Bool) → ltb limit (length d) ≡ false → begins UNA (unbroken y d) ≡ b → begins (nine y) (unbroken y d) ≡ c → Admission
-      nines true false e p q = refused 1 (rw (e, p, q)) (other-UNA (short e) (other p q))
-      nines true true e p q = admitted (rw (e, p, q)) (record { short = short e; right = not-other true true p q refl })
-      nines false c e p q = admitted (rw (e, p)) (record { short = short e; right = not-other false c p q refl })
+      nines : (b c : Bool) → ltb limit (length d) ≡ false → valid y ≡ true → begins UNA (unbroken y d) ≡ b → begins (nine y) (unbroken y d) ≡ c → Admission
+      nines true false e v p q = refused 1 (rw (e, v, p, q)) (other-UNA (short e) (other p q))
+      nines true true e v p q = admitted (rw (e, v, p, q)) (record { short = short e; usable = v; right = not-other true true p q refl })
+      nines false c e v p q = admitted (rw (e, v, p)) (record { short = short e; usable = v; right = not-other false c p q refl })
 
-      go : (b : Bool) → ltb limit (length d) ≡ b → Admission
-      go true e = refused 0 (rw e) (too-long (ltb-true limit (length d) e))
-      go false e = nines (begins UNA (unbroken y d)) (begins (nine y) (unbroken y d)) e refl refl
+      go : (b v : Bool) → ltb limit (length d) ≡ b → valid y ≡ v → Admission
+      go true v e f = refused 0 (rw e) (too-long (ltb-true limit (length d) e))
+      go false false e f = refused 1 (rw (e, f)) (unusable (short e) f)
+      go false true e f = nines (begins UNA (unbroken y d)) (begins (nine y) (unbroken y d)) e f refl refl
 
   -- one number refuses a delivery, and none an admitted one
   pub one-refusal : (k n : ℕ) → DeliveryRefused y d k → DeliveryRefused y d n → k ≡ n
   one-refusal k n (too-long l) (too-long i) = refl
+  one-refusal k n (too-long l) (unusable s v) = absurd (s l)
   one-refusal k n (too-long l) (other-UNA s o) = absurd (s l)
+  one-refusal k n (unusable s v) (too-long l) = absurd (s l)
+  one-refusal k n (unusable s v) (unusable t w) = refl
+  one-refusal k n (unusable s v) (other-UNA t i) = refl
   one-refusal k n (other-UNA s o) (too-long l) = absurd (s l)
+  one-refusal k n (other-UNA s o) (unusable t w) = refl
   one-refusal k n (other-UNA s o) (other-UNA t i) = refl
 
   pub none-admitted : (k : ℕ) → DeliveryRefused y d k → Admitted y d → ⊥
   none-admitted k (too-long l) a = a .short l
+  none-admitted k (unusable s v) a = true≢false (sym (a .usable) ∙ v)
   none-admitted k (other-UNA s o) a = a .right o
 
   module _ (at : ℕ) where

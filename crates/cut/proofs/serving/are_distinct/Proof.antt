@@ -5,7 +5,6 @@ use Rattle.cut.proofs.cutting.Serving.{component-again, element-again, 
 use Rattle.cut.proofs.serving.are_distinct.Statement.{statement}
 use Rattle.cut.proofs.serving.are_distinct.Tie as tie
 
-
 stands-in-requires : tie.Need-stands-in-requires
 stands-in-requires c κs = search needs
 

@@ -5,7 +5,6 @@ use Rattle.cut.proofs.cutting.Serving.{allowed-first, allowed-second}
 use Rattle.cut.proofs.serving.is_allowed.Statement.{statement}
 use Rattle.cut.proofs.serving.is_allowed.Tie as tie
 
-
 lies-in-requires : tie.Need-lies-in-requires
 lies-in-requires c κs = search needs
 

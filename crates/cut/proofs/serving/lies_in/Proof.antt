@@ -4,7 +4,6 @@ use Rattle.cut.proofs.cutting.Serving.{below, not-below}
 use Rattle.cut.proofs.serving.lies_in.Statement.{statement}
 use Rattle.cut.proofs.serving.lies_in.Tie as tie
 
-
 returns : tie.Need-returns
 returns c = sym (below _ _ _ (c .if1 .taken))
 

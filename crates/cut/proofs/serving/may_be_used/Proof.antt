@@ -6,7 +6,6 @@ use Rattle.cut.proofs.cutting.Serving.{component-not, element-not, deci
 use Rattle.cut.proofs.serving.may_be_used.Statement.{statement}
 use Rattle.cut.proofs.serving.may_be_used.Tie as tie
 
-
 may-serve-requires : tie.Need-may-serve-requires
 may-serve-requires c κs = search needs
 

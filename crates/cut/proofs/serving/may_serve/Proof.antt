@@ -6,7 +6,6 @@ use Rattle.cut.proofs.cutting.Serving.{not-allowed, a-capital, a-small,
 use Rattle.cut.proofs.serving.may_serve.Statement.{statement}
 use Rattle.cut.proofs.serving.may_serve.Tie as tie
 
-
 is-allowed-requires : tie.Need-is-allowed-requires
 is-allowed-requires c κs = search needs
 

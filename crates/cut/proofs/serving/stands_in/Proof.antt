@@ -4,7 +4,6 @@ use Rattle.cut.proofs.cutting.Serving.{first-stands, second-stands, thi
 use Rattle.cut.proofs.serving.stands_in.Statement.{statement}
 use Rattle.cut.proofs.serving.stands_in.Tie as tie
 
-
 returns : tie.Need-returns
 returns c = sym (first-stands _ _ _ _ _ (c .if1 .taken))
 

@@ -5,7 +5,6 @@ use borrow.Author.Needs.{needs}
 use Rattle.cut.proofs.used.byte_of.Statement.{statement}
 use Rattle.cut.proofs.used.byte_of.Tie as tie
 
-
 returns : tie.Need-returns
 returns c = sym (List·getD-eq-default (c .before .args .d .now) 0 (c .if1 .taken))
 

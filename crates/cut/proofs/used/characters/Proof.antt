@@ -5,7 +5,6 @@ use Rattle.cut.proofs.cutting.Admitting.{start-fits, characters-una, ch
 use Rattle.cut.proofs.used.characters.Statement.{statement}
 use Rattle.cut.proofs.used.characters.Tie as tie
 
-
 usual-as-requires : tie.Need-usual-as-requires
 usual-as-requires c κs = search needs
 

@@ -4,7 +4,6 @@ use borrow.Author.Needs.{needs}
 use Rattle.cut.proofs.used.named_by.Statement.{statement}
 use Rattle.cut.proofs.used.named_by.Tie as tie
 
-
 byte-of-requires : tie.Need-byte-of-requires
 byte-of-requires c κs = search needs
 

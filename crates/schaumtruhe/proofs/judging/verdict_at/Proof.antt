@@ -1,9 +1,9 @@
--- `schaumtruhe::judging::judge_at` meets its contract.
+-- `schaumtruhe::judging::verdict_at` meets its contract.
 use borrow.Author.Tests.{not-true, not-false}
 use Rattle.schaumtruhe.proofs.judging.Verdicts.{delivery-refused, place-refused, message-judged}
 use borrow.Author.Needs.{needs}
-use Rattle.schaumtruhe.proofs.judging.judge_at.Statement.{statement}
-use Rattle.schaumtruhe.proofs.judging.judge_at.Tie as tie
+use Rattle.schaumtruhe.proofs.judging.verdict_at.Statement.{statement}
+use Rattle.schaumtruhe.proofs.judging.verdict_at.Tie as tie
 
 admission-requires : tie.Need-admission-requires
 admission-requires c κs = search needs
@@ -37,8 +37,8 @@ returns-3 c =
     message-judged _ _ _ _ (admitted .before .admission .ensures) (admitted .if1 .left) _ (some .before .message-begins .ensures)
     (not-false _ (some .if2 .left)) _ (c .judged .ensures)
 
-pub judge-at-spec : {M : Type 1} → statement M
-judge-at-spec =
+pub verdict-at-spec : {M : Type 1} → statement M
+verdict-at-spec =
     tie.close
     (tie.spec
     admission-requires

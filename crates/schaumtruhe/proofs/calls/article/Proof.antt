@@ -1,4 +1,4 @@
--- `schaumtruhe::articles::article` meets its contract.
+-- `schaumtruhe::calls::article` meets its contract.
 use Prim.Native.Nat.{_≤_}
 use mathlib.Core.Path.{refl}
 use native.Mathlib.Omega.{arith}
@@ -6,8 +6,8 @@ use lib.ListN.{length}
 use Rattle.bytewise.specs.Bytes.{part}
 use Rattle.schaumtruhe.proofs.ArticlePlaces.{article-within}
 use borrow.Author.Needs.{needs}
-use Rattle.schaumtruhe.proofs.articles.article.Statement.{statement}
-use Rattle.schaumtruhe.proofs.articles.article.Tie as tie
+use Rattle.schaumtruhe.proofs.calls.article.Statement.{statement}
+use Rattle.schaumtruhe.proofs.calls.article.Tie as tie
 
 found
     : (c : tie.After-article-at)

@@ -1,8 +1,8 @@
--- `schaumtruhe::pricing::prices` meets its contract.
+-- `schaumtruhe::pricing::fill_at` meets its contract.
 use Rattle.schaumtruhe.proofs.pricing.Filling.{priced-written, row-written, priced-refused, row-unchanged}
 use borrow.Author.Needs.{needs}
-use Rattle.schaumtruhe.proofs.pricing.prices.Statement.{statement}
-use Rattle.schaumtruhe.proofs.pricing.prices.Tie as tie
+use Rattle.schaumtruhe.proofs.pricing.fill_at.Statement.{statement}
+use Rattle.schaumtruhe.proofs.pricing.fill_at.Tie as tie
 
 sheet-at-requires : tie.Need-sheet-at-requires
 sheet-at-requires c κs = search needs
@@ -32,8 +32,8 @@ returns-2 c =
     let sheet = c .before .before .before .sheet-at .ensures in
     (priced-refused _ _ _ _ sheet _ (c .before .sheet2 .given .1) _ _, row-unchanged _ _ _ _ sheet _ (c .before .sheet2 .given .1) _ _)
 
-pub prices-spec : {M : Type 1} → statement M
-prices-spec =
+pub fill-at-spec : {M : Type 1} → statement M
+fill-at-spec =
     tie.close
     (tie.spec
     sheet-at-requires

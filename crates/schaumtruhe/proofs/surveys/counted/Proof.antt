@@ -1,4 +1,4 @@
--- `schaumtruhe::surveys::survey` meets its contract. The loop's invariant: `Passed`.
+-- `schaumtruhe::surveys::counted` meets its contract. The loop's invariant: `Passed`.
 use Prim.Native.Nat.{_-_}
 use mathlib.Core.Path.{sym, _∙_}
 use native.Mathlib.Omega.{arith}
@@ -6,14 +6,14 @@ use lib.ListN.{length}
 use Rattle.cut.specs.Admission.{admissionOf}
 use Rattle.schaumtruhe.proofs.surveys.Steps.{Passed, passed-first, passed-on, passed-all, survey-refused}
 use borrow.Author.Needs.{needs}
-use Rattle.schaumtruhe.proofs.surveys.survey.Statement.{statement}
-use Rattle.schaumtruhe.proofs.surveys.survey.Tie as tie
+use Rattle.schaumtruhe.proofs.surveys.counted.Statement.{statement}
+use Rattle.schaumtruhe.proofs.surveys.counted.Tie as tie
 
 abbrev Inv-loop : tie.InvT-loop
-Inv-loop d y refusal messages₀ accepted₀ outside₀ at₀ messages accepted outside at = Passed y d messages accepted outside at
+Inv-loop y d refusal messages₀ accepted₀ outside₀ at₀ messages accepted outside at = Passed y d messages accepted outside at
 
 abbrev μ-loop : tie.MeasureT-loop
-μ-loop d y refusal messages₀ accepted₀ outside₀ at₀ messages accepted outside at = length d - at
+μ-loop y d refusal messages₀ accepted₀ outside₀ at₀ messages accepted outside at = length d - at
 
 admission-requires : tie.Need-admission-requires Inv-loop μ-loop
 admission-requires c κs = search needs
@@ -74,8 +74,8 @@ returns-2 c =
     let started = c .before .before .before in
     passed-all _ _ _ _ _ _ (c .before .loop .inv) (search needs) (sym (started .before .admission .ensures) ∙ started .if1 .left)
 
-pub survey-spec : {M : Type 1} → statement M
-survey-spec =
+pub counted-spec : {M : Type 1} → statement M
+counted-spec =
     tie.close
     (tie.spec
     Inv-loop

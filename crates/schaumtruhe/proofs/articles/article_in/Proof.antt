@@ -1,8 +1,8 @@
--- `schaumtruhe::articles::article_at` meets its contract.
+-- `schaumtruhe::articles::article_in` meets its contract.
 use Rattle.schaumtruhe.proofs.ArticlePlaces.{article-lost, article-refused, article-found}
 use borrow.Author.Needs.{needs}
-use Rattle.schaumtruhe.proofs.articles.article_at.Statement.{statement}
-use Rattle.schaumtruhe.proofs.articles.article_at.Tie as tie
+use Rattle.schaumtruhe.proofs.articles.article_in.Statement.{statement}
+use Rattle.schaumtruhe.proofs.articles.article_in.Tie as tie
 
 sheet-at-requires : tie.Need-sheet-at-requires
 sheet-at-requires c κs = search needs
@@ -34,8 +34,8 @@ returns-3 c =
     article-found _ _ _ _ _ (asked .before .sheet-at .ensures) _ (asked .refusal-by .ensures) _ _ (some .sheet .given .1) (c .before .if1 .left) _
     (c .article-at .ensures)
 
-pub article-at-spec : {M : Type 1} → statement M
-article-at-spec =
+pub article-in-spec : {M : Type 1} → statement M
+article-in-spec =
     tie.close
     (tie.spec
     sheet-at-requires
