@@ -16,7 +16,8 @@ use Rattle.cut.specs.declared.steps.Step.the-variants as step
 use Rattle.bytewise.specs.Bytes.{part}
 use Rattle.cut.specs.Segments.{Segment, segmentsAt}
 use Rattle.cut.specs.Admission.{admissionOf, openingOf, onlyIf, segments}
-use Rattle.cut.specs.Calls.{segmentAt, stepped, openedAt, stepOf}
+use Rattle.cut.specs.Used.{charactersOf}
+use Rattle.cut.specs.Calls.{segmentAt, stepped, openedOn, stepOf}
 use Rattle.cut.proofs.Ahead.{CutAhead, cut-ahead, none-ahead}
 
 module _ (c : Cursor) (d : List ℕ) where
@@ -37,10 +38,11 @@ ahead c d =
     (segmentsAt (c .syntax) d (max (c .at) (openingOf (c .syntax) d)))
 
 -- at first: all of the delivery's
-pub ahead-opened : (y : Syntax) (d : List ℕ) → ahead (openedAt y) d ≡ segments y d
+pub ahead-opened : (y : Syntax) (d : List ℕ) → ahead (openedOn y d) d ≡ segments (charactersOf y d) d
 unfolding ahead segments
 ahead-opened y d =
-    let m : max 0 (openingOf y d) ≡ openingOf y d = omega arith in
+    let z = charactersOf y d in
+    let m : max 0 (openingOf z d) ≡ openingOf z d = omega arith in
     rw m
 
 -- what a step that gives a segment says

@@ -12,6 +12,7 @@ use Rattle.cut.specs.declared.steps.Step.{Step}
 use Rattle.cut.specs.declared.steps.Step.the-variants as step
 use Rattle.cut.specs.Segments.{Segment, endOf, segmentsFrom, isBreak, segmentsAt, beginsIn}
 use Rattle.cut.specs.Admission.{admissionOf, openingOf, segments}
+use Rattle.cut.specs.Used.{charactersOf}
 
 -- the first of some segments, as an answer
 unfoldable pub headCut : List Segment → Cut
@@ -44,9 +45,9 @@ abbrev pub stepped : Syntax → Cut → Step
 stepped y (cut.Segment s e p) = step.Segment s e p (record { syntax = y; at = e })
 stepped y cut.Nothing = step.Nothing
 
--- Cursor::opened: before the first segment
-abbrev pub openedAt : Syntax → Cursor
-openedAt y = record { syntax = y; at = 0 }
+-- Cursor::opened: before the first segment, with the characters that the delivery is read with
+abbrev pub openedOn : Syntax → List ℕ → Cursor
+openedOn y d = record { syntax = charactersOf y d; at = 0 }
 
 -- Cursor::step: the segment from the cursor's place on, a place before the first or within UNA being before the first; nothing, if the delivery is not admitted
 unfoldable pub stepOf : Cursor → List ℕ → Step

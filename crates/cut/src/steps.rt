@@ -4,9 +4,10 @@ use crate::admit::opening;
 use crate::scan::Cut;
 use crate::scan::segment_at;
 use crate::service::Syntax;
+use crate::used::characters;
 ghost use Prim.Native.Nat.{max};
 ghost use mathlib.Core.Path.{_≡_};
-ghost use Rattle.cut.specs.Calls.{openedAt, stepOf};
+ghost use Rattle.cut.specs.Calls.{openedOn, stepOf};
 
 // The service characters and the place that the next segment is looked for at.
 pub struct Cursor {
@@ -26,11 +27,12 @@ pub enum Step {
 }
 
 impl Cursor {
-    // Before the first segment.
-    pub fn opened(y: Syntax) -> Cursor
-        ensures { λ r. ⌜ r ≡ openedAt y ⌝ }
+    // Before the first segment of a delivery, with the characters that it is read with.
+    pub fn opened(y: Syntax, d: &[u8]) -> Cursor
+        ensures { λ r. ⌜ r ≡ openedOn y (now (d .entry)) ⌝ }
     {
-        Cursor { syntax: y, at: 0 }
+        let z = characters(y, d);
+        Cursor { syntax: z, at: 0 }
     }
 
     // A place within UNA counts as before the first segment.

@@ -111,7 +111,8 @@ module _ (y : Syntax) where
   unfolding distinct
   apart a b c e h i j k =
       ap₂ (λ (p q : Bool). not p && q) h
-      (ap₂ (λ (p q : Bool). not p && q) (sym element-apart ∙ i) (ap₂ (λ (p q : Bool). not p && q) (sym decimal-apart ∙ j) (last-two (y .release) (y .terminator) e k)))
+      (ap₂ (λ (p q : Bool). not p && q) (sym element-apart ∙ i)
+      (ap₂ (λ (p q : Bool). not p && q) (sym decimal-apart ∙ j) (last-two (y .release) (y .terminator) e k)))
 
   pub component-again : has (y .component) (y .element ∷ y .decimal ∷ y .release ∷ y .terminator ∷ []) ≡ true → distinct (service y) ≡ false
   component-again h = apart true of-element of-decimal (eqb (y .release) (y .terminator)) h refl refl refl
@@ -140,7 +141,8 @@ module _ (y : Syntax) where
 
   pub component-not : mayServe (y .component) ≡ false → valid y ≡ false
   component-not h =
-      usable false (mayServe (y .element)) (mayServe (y .decimal)) (mayServe (y .release)) (mayServe (y .terminator)) (distinct (service y)) h refl refl refl refl refl
+      usable false (mayServe (y .element)) (mayServe (y .decimal)) (mayServe (y .release)) (mayServe (y .terminator)) (distinct (service y))
+      h refl refl refl refl refl
 
   module _ (a : mayServe (y .component) ≡ true) where
     pub element-not : mayServe (y .element) ≡ false → valid y ≡ false

@@ -20,7 +20,8 @@ use Rattle.cut.proofs.Empty.{unbroken-behind}
 use Rattle.messages.specs.Messages.{Message, startOf, messages}
 use Rattle.schaumtruhe.specs.Calls.{beginningAt, nowhere, verdictAt, judged, Sheet, missing, sheetBy, sheetAt}
 use Rattle.schaumtruhe.proofs.places.Only.{only-here}
-use Rattle.schaumtruhe.specs.Demands.{TooLong, OtherUNA, Admitted, DeliveryRefused, too-long, unusable, other-UNA, Begins, NoMessage, whole-delivery, none-begins}
+use Rattle.schaumtruhe.specs.Demands.{TooLong, OtherUNA, Admitted, DeliveryRefused, too-long, unusable, other-UNA}
+use Rattle.schaumtruhe.specs.Demands.{Begins, NoMessage, whole-delivery, none-begins}
 
 -- the message that is found at a place begins there
 found-begins : (at : ℕ) (m : Message) (ms rest : List Message) → beginningAt at ms ≡ m ∷ rest → List·Memᴰ m ms × (startOf m ≡ at)

@@ -42,7 +42,8 @@ returns-3 c =
     let start = c .before .before .before .before in
     let used = start .before in
     sym
-    (admission-plain _ _ _ (start .past-breaks .ensures) (used .before .before .if1 .left) (sym (used .before .may-be-used .ensures) ∙ not-false _ (used .if2 .left))
+    (admission-plain _ _ _ (start .past-breaks .ensures) (used .before .before .if1 .left)
+    (sym (used .before .may-be-used .ensures) ∙ not-false _ (used .if2 .left))
     (sym (c .before .begins-with .ensures) ∙ not-true _ (c .if3 .taken)))
 
 slice-aggregate-begins-with-2 : tie.Need-slice-aggregate-begins-with-2

@@ -17,7 +17,8 @@ stands-in-requires-2 c κs = search needs
 returns-2 : tie.Need-returns-2
 returns-2 c =
     let first = c .before .before in
-    sym (element-again (first .before .before .args .y) (sym (first .before .stands-in .ensures) ∙ first .if1 .left) (sym (c .before .stands-in2 .ensures) ∙ c .if2 .taken))
+    sym (element-again (first .before .before .args .y) (sym (first .before .stands-in .ensures) ∙ first .if1 .left)
+    (sym (c .before .stands-in2 .ensures) ∙ c .if2 .taken))
 
 stands-in-requires-3 : tie.Need-stands-in-requires-3
 stands-in-requires-3 c κs = search needs
@@ -27,7 +28,8 @@ returns-3 c =
     let second = c .before .before in
     let first = second .before .before in
     sym
-    (decimal-again (first .before .before .args .y) (sym (first .before .stands-in .ensures) ∙ first .if1 .left) (sym (second .before .stands-in2 .ensures) ∙ second .if2 .left)
+    (decimal-again (first .before .before .args .y) (sym (first .before .stands-in .ensures) ∙ first .if1 .left)
+    (sym (second .before .stands-in2 .ensures) ∙ second .if2 .left)
     (sym (c .before .stands-in3 .ensures) ∙ c .if3 .taken))
 
 returns-4 : tie.Need-returns-4
@@ -36,7 +38,8 @@ returns-4 c =
     let second = third .before .before in
     let first = second .before .before in
     sym
-    (all-apart (first .before .before .args .y) (sym (first .before .stands-in .ensures) ∙ first .if1 .left) (sym (second .before .stands-in2 .ensures) ∙ second .if2 .left)
+    (all-apart (first .before .before .args .y) (sym (first .before .stands-in .ensures) ∙ first .if1 .left)
+    (sym (second .before .stands-in2 .ensures) ∙ second .if2 .left)
     (sym (third .before .stands-in3 .ensures) ∙ third .if3 .left))
 
 pub are-distinct-spec : {M : Type 1} → statement M

@@ -31,7 +31,8 @@ returns-3 c =
     let second = c .before .before in
     let first = second .before .before in
     sym
-    (decimal-not (first .before .before .args .y) (sym (first .before .may-serve .ensures) ∙ not-false _ (first .if1 .left)) (sym (second .before .may-serve2 .ensures) ∙ not-false _ (second .if2 .left))
+    (decimal-not (first .before .before .args .y) (sym (first .before .may-serve .ensures) ∙ not-false _ (first .if1 .left))
+    (sym (second .before .may-serve2 .ensures) ∙ not-false _ (second .if2 .left))
     (sym (c .before .may-serve3 .ensures) ∙ not-true _ (c .if3 .taken)))
 
 may-serve-requires-4 : tie.Need-may-serve-requires-4
@@ -43,7 +44,9 @@ returns-4 c =
     let second = third .before .before in
     let first = second .before .before in
     sym
-    (release-not (first .before .before .args .y) (sym (first .before .may-serve .ensures) ∙ not-false _ (first .if1 .left)) (sym (second .before .may-serve2 .ensures) ∙ not-false _ (second .if2 .left)) (sym (third .before .may-serve3 .ensures) ∙ not-false _ (third .if3 .left))
+    (release-not (first .before .before .args .y) (sym (first .before .may-serve .ensures) ∙ not-false _ (first .if1 .left))
+    (sym (second .before .may-serve2 .ensures) ∙ not-false _ (second .if2 .left))
+    (sym (third .before .may-serve3 .ensures) ∙ not-false _ (third .if3 .left))
     (sym (c .before .may-serve4 .ensures) ∙ not-true _ (c .if4 .taken)))
 
 may-serve-requires-5 : tie.Need-may-serve-requires-5
@@ -56,7 +59,10 @@ returns-5 c =
     let second = third .before .before in
     let first = second .before .before in
     sym
-    (terminator-not (first .before .before .args .y) (sym (first .before .may-serve .ensures) ∙ not-false _ (first .if1 .left)) (sym (second .before .may-serve2 .ensures) ∙ not-false _ (second .if2 .left)) (sym (third .before .may-serve3 .ensures) ∙ not-false _ (third .if3 .left)) (sym (fourth .before .may-serve4 .ensures) ∙ not-false _ (fourth .if4 .left))
+    (terminator-not (first .before .before .args .y) (sym (first .before .may-serve .ensures) ∙ not-false _ (first .if1 .left))
+    (sym (second .before .may-serve2 .ensures) ∙ not-false _ (second .if2 .left))
+    (sym (third .before .may-serve3 .ensures) ∙ not-false _ (third .if3 .left))
+    (sym (fourth .before .may-serve4 .ensures) ∙ not-false _ (fourth .if4 .left))
     (sym (c .before .may-serve5 .ensures) ∙ not-true _ (c .if5 .taken)))
 
 are-distinct-requires : tie.Need-are-distinct-requires
