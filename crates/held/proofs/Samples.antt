@@ -1,5 +1,5 @@
--- Walks by computation: UNA, a released terminator, a terminator alone and a piece; a delivery whose UNA has another decimal mark; and line breaks
--- in both readings.
+-- Walks by computation: UNA, a released terminator, a terminator alone and a piece; a delivery whose UNA has other characters, and one that may not be
+-- read; and line breaks in both readings.
 use Prim.Native.Nat.{ℕ}
 use mathlib.Core.Bool.{true, false}
 use mathlib.Core.Path.{_≡_, refl}
@@ -12,6 +12,7 @@ use Rattle.cut.specs.Base.{edifact, strictly}
 use Rattle.cut.specs.Segments.{ends, frees, join, segmentsFrom, isBreak, trim, trimmed, segmentsOf, past}
 use Rattle.cut.specs.Admission.{admits, opens, admissionOf, openingOf}
 use Rattle.cut.specs.Characters.{between, allowedByte, mayServe, has, allServe, distinct, valid}
+use Rattle.cut.specs.Used.{named, charactersOf}
 use Rattle.cut.specs.Calls.{headCut, segmentAt, stepOf}
 use Rattle.held.specs.Reading.{nextFrom, placeAfter, readerOn, answerOf, movedOn, answers}
 
@@ -25,14 +26,24 @@ module _ (p : ℕ × ℕ) (γ : GName) where
       ≡ Segment 9 14 false ∷ Segment 14 15 false ∷ Segment 15 18 true ∷ Nothing ∷ Nothing ∷ []
   unfolding
       answers answerOf movedOn nextFrom placeAfter stepOf headCut segmentAt between allowedByte mayServe has allServe
-      distinct valid admits opens admissionOf openingOf segmentsFrom join ends frees isBreak trim trimmed
+      distinct valid admits opens admissionOf openingOf charactersOf named segmentsFrom join ends frees isBreak trim trimmed
       segmentsOf past begins
   una-released-piece = refl
 
-  not-admitted : answers 2 (readerOn edifact (lent p γ (bytesOf "UNA:+,? 'A'"))) ≡ Nothing ∷ Nothing ∷ []
+  -- other characters of UNA: the terminator is `~`, the release character `!`
+  other-characters
+      : answers 3 (readerOn edifact (lent p γ (bytesOf "UNA|^,! ~A!~'~B?~"))) ≡ Segment 9 14 false ∷ Segment 14 17 false ∷ Nothing ∷ []
   unfolding
       answers answerOf movedOn nextFrom placeAfter stepOf headCut segmentAt between allowedByte mayServe has allServe
-      distinct valid admits opens admissionOf openingOf segmentsFrom join ends frees isBreak trim trimmed
+      distinct valid admits opens admissionOf openingOf charactersOf named segmentsFrom join ends frees isBreak trim trimmed
+      segmentsOf past begins
+  other-characters = refl
+
+  -- two of UNA's characters are equal
+  not-admitted : answers 2 (readerOn edifact (lent p γ (bytesOf "UNA:+:? 'A'"))) ≡ Nothing ∷ Nothing ∷ []
+  unfolding
+      answers answerOf movedOn nextFrom placeAfter stepOf headCut segmentAt between allowedByte mayServe has allServe
+      distinct valid admits opens admissionOf openingOf charactersOf named segmentsFrom join ends frees isBreak trim trimmed
       segmentsOf past begins
   not-admitted = refl
 
@@ -42,7 +53,7 @@ module _ (p : ℕ × ℕ) (γ : GName) where
       ≡ Segment 12 14 false ∷ Segment 16 18 false ∷ Nothing ∷ []
   unfolding
       answers answerOf movedOn nextFrom placeAfter stepOf headCut segmentAt between allowedByte mayServe has allServe
-      distinct valid admits opens admissionOf openingOf segmentsFrom join ends frees isBreak trim trimmed
+      distinct valid admits opens admissionOf openingOf charactersOf named segmentsFrom join ends frees isBreak trim trimmed
       segmentsOf past begins
   usual-breaks = refl
 
@@ -52,6 +63,6 @@ module _ (p : ℕ × ℕ) (γ : GName) where
       ≡ Segment 0 2 false ∷ Segment 2 6 false ∷ Nothing ∷ []
   unfolding
       answers answerOf movedOn nextFrom placeAfter stepOf headCut segmentAt between allowedByte mayServe has allServe
-      distinct valid admits opens admissionOf openingOf segmentsFrom join ends frees isBreak trim trimmed
+      distinct valid admits opens admissionOf openingOf charactersOf named segmentsFrom join ends frees isBreak trim trimmed
       segmentsOf past begins
   strict-break = refl

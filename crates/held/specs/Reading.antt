@@ -1,4 +1,4 @@
--- The reader that holds the delivery, how it is cut and its place. Document 01, 'What is handed out'; item 4.
+-- The reader that holds the delivery, how it is cut and its place. Document 01, 'What is handed out'; items 4 and 6.
 use Prim.Native.Nat.{ℕ, zero, suc}
 use mathlib.Core.List.{List, [], _∷_}
 use lib.ListN.{drop}
@@ -10,6 +10,7 @@ use Rattle.cut.specs.declared.steps.Step.{Step}
 use Rattle.cut.specs.declared.steps.Step.the-variants as step
 use Rattle.cut.specs.Segments.{Segment, endOf}
 use Rattle.cut.specs.Admission.{segments}
+use Rattle.cut.specs.Used.{charactersOf}
 use Rattle.cut.specs.Calls.{headCut, stepOf}
 use Rattle.held.specs.declared.reader.Reader.{Reader}
 
@@ -18,10 +19,10 @@ abbrev pub asCut : Step → Cut
 asCut (step.Segment s e p n) = cut.Segment s e p
 asCut step.Nothing = cut.Nothing
 
--- step_from: the segment from a place on, as the by-value cursor there steps to it: a place within UNA is before the first, and "on a delivery not
--- admitted, none at once"
+-- step_from: the segment from a place on, as the by-value cursor with the delivery's own characters steps to it: a place within UNA is before the
+-- first, and "on a delivery not admitted, none at once"
 unfoldable pub nextFrom : Syntax → List ℕ → ℕ → Cut
-nextFrom y d at = asCut (stepOf (record { syntax = y; at = at }) d)
+nextFrom y d at = asCut (stepOf (record { syntax = charactersOf y d; at = at }) d)
 
 -- the place after a step from the place `at`: the segment's end; at none the place stays
 unfoldable pub placeAfter : Cut → ℕ → ℕ
@@ -61,4 +62,4 @@ segmentCut s = cut.Segment (s .start) (endOf s) (s .piece)
 
 -- the segment with the number n, from 0; none past the last
 abbrev pub segmentNo : Syntax → List ℕ → ℕ → Cut
-segmentNo y d n = headCut (drop n (segments y d))
+segmentNo y d n = headCut (drop n (segments (charactersOf y d) d))

@@ -3,13 +3,15 @@ use cut::Cursor;
 use cut::Cut;
 use cut::Step;
 use cut::Syntax;
+use cut::characters;
 ghost use mathlib.Core.Path.{_≡_};
 ghost use Rattle.held.specs.Reading.{nextFrom, placeAfter};
 
 pub(crate) fn next_from(y: Syntax, d: &[u8], at: usize) -> Cut
     ensures { λ r. ⌜ r ≡ nextFrom y (now (d .entry)) at ⌝ }
 {
-    let c = Cursor { syntax: y, at };
+    let z = characters(y, d);
+    let c = Cursor { syntax: z, at };
     let s = c.step(d);
     match s {
         Step::Segment {

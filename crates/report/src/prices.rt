@@ -4,6 +4,7 @@ use crate::writing::complain;
 use crate::writing::put;
 use crate::writing::put_signed;
 use cut::Syntax;
+use cut::characters;
 use schaumtruhe::Priced;
 use schaumtruhe::Reading;
 use schaumtruhe::prices;
@@ -62,7 +63,7 @@ fn left_of(k: usize, written: usize, total: usize) -> Left {
 fn some_lines(how: Reading, d: &[u8], start: usize, end: usize, k: usize) -> Left
     requires { ⌜ (start ≤ end) × (end ≤ length (now d)) ⌝ }
 {
-    let y = how.syntax;
+    let y = characters(how.syntax, d);
     let mut row = [0i64; 512];
     let p = prices(how, d, start, k, &mut row);
     let Priced::Written { written, total } = p else {

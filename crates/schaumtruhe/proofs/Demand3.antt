@@ -9,7 +9,6 @@ use lib.ListN.{length, drop, length-map, length-append, length-drop}
 use lib.Seq.{drop-append-add}
 use Rattle.cut.specs.declared.service.Syntax.{Syntax}
 use Rattle.cut.specs.Admission.{admissionOf, segments, nine}
-use Rattle.cut.specs.Base.{edifact, strictly}
 use Rattle.bytewise.specs.Bytes.{part, begins}
 use Rattle.messages.specs.Messages.{Message, messages}
 use Rattle.messages.specs.Fronts.{movedMessage}
@@ -19,7 +18,10 @@ use Rattle.messages.proofs.TailFirst.{Opens, tail-opens}
 use Rattle.messages.proofs.Demand3.{messages-any-front, messages-whole-front}
 use Rattle.cut.specs.Segments.{breaks}
 use Rattle.cut.proofs.Empty.{empty-front, empty-una}
-use Rattle.schaumtruhe.specs.Demand3.{Kept, earlier, FromSecond, FromFirst, AtMostFirst, Demand3}
+use Rattle.cut.proofs.Using.{used-handed}
+use Rattle.schaumtruhe.specs.declared.reading.Reading.{Reading}
+use Rattle.schaumtruhe.specs.Readings.{usedIn}
+use Rattle.schaumtruhe.specs.Demand3.{Kept, earlier, FromSecond, FromFirst, AtMostFirst, Demand3, Demand3Read}
 use Rattle.schaumtruhe.proofs.keeping.Kept.{kept}
 use Rattle.schaumtruhe.proofs.Demand3Alone.{each-alone}
 
@@ -104,11 +106,10 @@ pub demand3-una
 unfolding whole
 demand3-una y a b tail h k t = demand3-whole y (a ++ (nine y ++ b)) tail t (ap whole (empty-una y a b h k))
 
--- at the service characters `:+.?'`, in the usual and in the strict reading, nothing more is asked than that the longer delivery is admitted and
--- the tail begins UNH
-pub demand3-usual : (front tail : List ℕ) → admissionOf edifact (front ++ tail) ≡ 0 → begins UNH tail ≡ true → Demand3 edifact front tail
-demand3-usual front tail a u = demand3 edifact front tail (record { admitted = a; begins-UNH = u })
-
-pub demand3-strict
-    : (front tail : List ℕ) → admissionOf (strictly edifact) (front ++ tail) ≡ 0 → begins UNH tail ≡ true → Demand3 (strictly edifact) front tail
-demand3-strict front tail a u = demand3 (strictly edifact) front tail (record { admitted = a; begins-UNH = u })
+-- in any reading nothing more is asked than that the longer delivery is admitted and the tail begins UNH
+pub demand3-read
+    : (how : Reading) (front tail : List ℕ) → admissionOf (usedIn how (front ++ tail)) (front ++ tail) ≡ 0 → begins UNH tail ≡ true
+    → Demand3Read how front tail
+demand3-read how front tail a u =
+    let z = usedIn how (front ++ tail) in
+    record { tail-read = used-handed z tail u; demand = demand3 z front tail (record { admitted = a; begins-UNH = u }) }

@@ -5,6 +5,7 @@ use mathlib.Core.List.{List, [], _∷_, _++_}
 use lib.Dec.{eqb, ltb}
 use lib.IntN.{ℤ}
 use lib.ListN.{length, drop}
+use denote.Ref.{RefT}
 use Rattle.cut.specs.declared.service.Syntax.{Syntax}
 use Rattle.cut.specs.Admission.{admissionOf}
 use Rattle.messages.specs.Messages.{Message, startOf, messages, outside}
@@ -13,7 +14,7 @@ use Rattle.guide.specs.Accepted.{segmentsOf}
 use Rattle.guide.specs.Choices.{pickℕ}
 use Rattle.guide.specs.Answers.{Verdict, accepts, refuses}
 use Rattle.verdict.specs.Verdicts.{namedOf}
-use Rattle.price.specs.Calls.{filledOf, rowAfter, firstArticle}
+use Rattle.price.specs.Calls.{filledOf, rowAfter, firstArticle, IsPart}
 use Rattle.price.specs.Listing.{pricesOf}
 use Rattle.price.specs.Numbers.{Listed}
 use Rattle.price.specs.declared.filling.Filled.{Filled}
@@ -136,6 +137,10 @@ module _ (y : Syntax) where
   -- article_at: "an absent one is the empty part at the message's start, a refused call gives the empty part at the delivery's start"
   unfoldable pub articleAt : List ℕ → ℕ → ℕ → Span
   articleAt d at k = articleUnless (articleRefusal d at k) (articleBy (sheetAt d at) k)
+
+-- article: "as that part of the delivery itself"
+abbrev pub IsSpan : RefT (List ℕ) → RefT (List ℕ) → Span → Type 0
+IsSpan d r s = IsPart d r (s .start) (s .end)
 
 -- document 01's numbers for each case; a refusal has 0 in place of the counts
 unfoldable pub pricedNumbers : Priced → List ℕ

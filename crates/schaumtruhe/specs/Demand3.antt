@@ -11,12 +11,15 @@ use Rattle.cut.specs.declared.service.Syntax.{Syntax}
 use Rattle.messages.specs.declared.found.Found.the-variants as found
 use Rattle.bytewise.specs.Bytes.{part}
 use Rattle.cut.specs.Admission.{admissionOf, segments}
+use Rattle.cut.specs.Used.{charactersOf}
 use Rattle.messages.specs.Messages.{Message, startOf, closeOf, messages}
 use Rattle.messages.specs.Calls.{nextMessage}
 use Rattle.cut.specs.Fronts.{moved, whole, meet}
 use Rattle.messages.specs.Fronts.{movedMessage, begunIn}
 use Rattle.element.specs.declared.components.Span.{Span}
 use Rattle.verdict.specs.Moves.{movedVerdict}
+use Rattle.schaumtruhe.specs.declared.reading.Reading.{Reading}
+use Rattle.schaumtruhe.specs.Readings.{usedIn}
 use Rattle.schaumtruhe.specs.Calls.{judged, verdictAt, pricedAt, rowAt, articleRefusal, articleAt}
 
 -- the same part k places later
@@ -87,3 +90,9 @@ pub record Demand3 (y : Syntax) (front tail : List ℕ) : Type 0 where
   pub from-second : FromSecond y front tail
   pub from-first : whole (segments y front) ≡ true → FromFirst y front tail
   pub at-most-first : AtMostFirst y front tail
+
+-- demand 3 of deliveries as they are read: the longer one in a reading, the tail with the longer one's service characters handed in. Item 6
+pub record Demand3Read (how : Reading) (front tail : List ℕ) : Type 0 where
+  -- the tail has no UNA, so that the calls read it with those handed in
+  pub tail-read : charactersOf (usedIn how (front ++ tail)) tail ≡ usedIn how (front ++ tail)
+  pub demand : Demand3 (usedIn how (front ++ tail)) front tail

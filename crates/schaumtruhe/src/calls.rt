@@ -15,10 +15,9 @@ use verdict::Verdict;
 ghost use mathlib.Core.Path.{_≡_};
 ghost use Rattle.cut.specs.Used.{charactersOf};
 ghost use Rattle.messages.specs.Calls.{nextMessage};
-ghost use Rattle.price.specs.Calls.{IsPart};
 ghost use Rattle.verdict.specs.Answers.{declared};
 ghost use Rattle.schaumtruhe.specs.Readings.{usedIn};
-ghost use Rattle.schaumtruhe.specs.Calls.{surveyOf, verdictAt, pricedAt, rowAt, articleRefusal, articleAt};
+ghost use Rattle.schaumtruhe.specs.Calls.{surveyOf, verdictAt, pricedAt, rowAt, articleRefusal, articleAt, IsSpan};
 
 // The whole delivery: messages found, accepted, and segments outside; or 1 or 2.
 pub fn survey(how: Reading, d: &[u8]) -> Surveyed
@@ -66,7 +65,7 @@ pub fn article_at(how: Reading, d: &[u8], at: usize, k: usize) -> Span
 
 // The article itself, as that part of the delivery.
 pub fn article(how: Reading, d: &[u8], at: usize, k: usize) -> &[u8]
-    ensures { λ r. ⌜ IsPart (d .entry) r (articleAt (usedIn how (now (d .entry))) (now (d .entry)) at k .start) (articleAt (usedIn how (now (d .entry))) (now (d .entry)) at k .end) ⌝ }
+    ensures { λ r. ⌜ IsSpan (d .entry) r (articleAt (usedIn how (now (d .entry))) (now (d .entry)) at k) ⌝ }
 {
     let s = article_at(how, d, at, k);
     let a = s.start;

@@ -2,6 +2,7 @@
 use Prim.Native.Nat.{ℕ, _-_}
 use mathlib.Core.Bool.{cond}
 use mathlib.Core.List.{List, [], _∷_}
+use Rattle.cut.specs.declared.service.Syntax.{Syntax}
 use Rattle.cut.specs.declared.scan.Cut.{Cut}
 use Rattle.cut.specs.declared.scan.Cut.the-variants as cut
 use Rattle.messages.specs.declared.found.Found.{Found}
@@ -13,6 +14,7 @@ use Rattle.schaumtruhe.specs.declared.pricing.Priced.{Priced}
 use Rattle.schaumtruhe.specs.declared.pricing.Priced.the-variants as priced
 use Rattle.schaumtruhe.specs.declared.surveys.Surveyed.{Surveyed}
 use Rattle.schaumtruhe.specs.declared.surveys.Surveyed.the-variants as surveyed
+use Rattle.schaumtruhe.specs.Calls.{articleRefusal, articleAt}
 use Rattle.schaumtruhe_c.specs.declared.answers.Totals.{Totals}
 use Rattle.schaumtruhe_c.specs.declared.answers.Next.{Next}
 use Rattle.schaumtruhe_c.specs.declared.answers.Judged.{Judged}
@@ -43,6 +45,9 @@ pricesOf (priced.Refused n) = record { number = n; written = 0; total = 0 }
 -- "The article of a price, as that part of the delivery itself": its place and length there
 unfoldable pub articleOf : ℕ → Span → Article
 articleOf n s = record { number = n; place = s .start; length = s .end - s .start }
+
+abbrev pub articleAnswer : Syntax → List ℕ → ℕ → ℕ → Article
+articleAnswer y d at k = articleOf (articleRefusal y d at k) (articleAt y d at k)
 
 -- "the next segment's start, end and whether it is a piece, or none"
 unfoldable pub segmentOf : Cut → Segment

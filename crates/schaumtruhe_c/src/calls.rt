@@ -7,7 +7,9 @@ use crate::answers::Prices;
 use crate::answers::Segment;
 use crate::answers::Totals;
 use cut::Syntax;
+use cut::characters;
 use held::step_from;
+use plain::copy_plain;
 use schaumtruhe::Reading;
 use schaumtruhe::article_at;
 use schaumtruhe::article_refusal;
@@ -18,12 +20,14 @@ use schaumtruhe::strict;
 use schaumtruhe::survey;
 use schaumtruhe::usual;
 ghost use mathlib.Core.Path.{_≡_};
+ghost use Rattle.cut.specs.Used.{charactersOf};
+ghost use Rattle.plain.specs.Plain.{decoded, fitting, copied};
 ghost use Rattle.messages.specs.Calls.{nextMessage};
 ghost use Rattle.held.specs.Reading.{nextFrom};
 ghost use Rattle.verdict.specs.Answers.{declared};
-ghost use Rattle.schaumtruhe.specs.Readings.{usualReading, strictReading};
-ghost use Rattle.schaumtruhe.specs.Calls.{surveyOf, verdictAt, pricedAt, rowAt, articleRefusal, articleAt};
-ghost use Rattle.schaumtruhe_c.specs.Answers.{totalsOf, nextOf, judgedOf, pricesOf, articleOf, segmentOf};
+ghost use Rattle.schaumtruhe.specs.Readings.{usualReading, strictReading, usedIn};
+ghost use Rattle.schaumtruhe.specs.Calls.{surveyOf, verdictAt, pricedAt, rowAt};
+ghost use Rattle.schaumtruhe_c.specs.Answers.{totalsOf, nextOf, judgedOf, pricesOf, articleAnswer, segmentOf};
 
 // Line breaks between segments are skipped.
 #[no_mangle]
@@ -44,7 +48,7 @@ pub extern "C" fn schaumtruhe_strict() -> Reading
 // The whole delivery; or 1 or 2.
 #[no_mangle]
 pub extern "C" fn schaumtruhe_survey(how: Reading, d: &[u8]) -> Totals
-    ensures { λ r. ⌜ r ≡ totalsOf (surveyOf (how .syntax) (now (d .entry))) ⌝ }
+    ensures { λ r. ⌜ r ≡ totalsOf (surveyOf (usedIn how (now (d .entry))) (now (d .entry))) ⌝ }
 {
     answers::totals_of(survey(how, d))
 }
@@ -52,7 +56,7 @@ pub extern "C" fn schaumtruhe_survey(how: Reading, d: &[u8]) -> Totals
 // The next message that begins at `from` or later; none in a delivery that is not admitted.
 #[no_mangle]
 pub extern "C" fn schaumtruhe_next_message(y: Syntax, d: &[u8], from: usize) -> Next
-    ensures { λ r. ⌜ r ≡ nextOf (nextMessage y (now (d .entry)) from) ⌝ }
+    ensures { λ r. ⌜ r ≡ nextOf (nextMessage (charactersOf y (now (d .entry))) (now (d .entry)) from) ⌝ }
 {
     answers::next_of(next_message(y, d, from))
 }
@@ -60,7 +64,7 @@ pub extern "C" fn schaumtruhe_next_message(y: Syntax, d: &[u8], from: usize) -> 
 // The verdict of the message that begins at a place; or 1, 2 or 31.
 #[no_mangle]
 pub extern "C" fn schaumtruhe_judge_at(how: Reading, d: &[u8], at: usize) -> Judged
-    ensures { λ r. ⌜ r ≡ judgedOf (declared (verdictAt (how .syntax) (now (d .entry)) at)) ⌝ }
+    ensures { λ r. ⌜ r ≡ judgedOf (declared (verdictAt (usedIn how (now (d .entry))) (now (d .entry)) at)) ⌝ }
 {
     answers::judged_of(judge_at(how, d, at))
 }
@@ -74,8 +78,8 @@ pub extern "C" fn schaumtruhe_prices(
     k: usize,
     row: &mut [i64],
 ) -> Prices
-    ensures { λ r. ⌜ r ≡ pricesOf (pricedAt (how .syntax) (now (d .entry)) at k (now (row .entry))) ⌝ }
-    ensures { λ _. ⌜ now (row .exit) ≡ rowAt (how .syntax) (now (d .entry)) at k (now (row .entry)) ⌝ }
+    ensures { λ r. ⌜ r ≡ pricesOf (pricedAt (usedIn how (now (d .entry))) (now (d .entry)) at k (now (row .entry))) ⌝ }
+    ensures { λ _. ⌜ now (row .exit) ≡ rowAt (usedIn how (now (d .entry))) (now (d .entry)) at k (now (row .entry)) ⌝ }
 {
     answers::prices_of(prices(how, d, at, k, row))
 }
@@ -83,7 +87,7 @@ pub extern "C" fn schaumtruhe_prices(
 // Where the article of price k stands; or 1, 2, 31, 30 or 32.
 #[no_mangle]
 pub extern "C" fn schaumtruhe_article(how: Reading, d: &[u8], at: usize, k: usize) -> Article
-    ensures { λ r. ⌜ r ≡ articleOf (articleRefusal (how .syntax) (now (d .entry)) at k) (articleAt (how .syntax) (now (d .entry)) at k) ⌝ }
+    ensures { λ r. ⌜ r ≡ articleAnswer (usedIn how (now (d .entry))) (now (d .entry)) at k ⌝ }
 {
     let number = article_refusal(how, d, at, k);
     let s = article_at(how, d, at, k);
@@ -101,4 +105,19 @@ pub extern "C" fn schaumtruhe_segment_at(y: Syntax, d: &[u8], at: usize) -> Segm
     ensures { λ r. ⌜ r ≡ segmentOf (nextFrom y (now (d .entry)) at) ⌝ }
 {
     answers::segment_of(step_from(y, d, at))
+}
+
+// The bytes of the delivery from a place up to another, releases removed, into the lent row, as many as fit; and how many these are.
+#[no_mangle]
+pub extern "C" fn schaumtruhe_plain(
+    y: Syntax,
+    d: &[u8],
+    start: usize,
+    end: usize,
+    out: &mut [u8],
+) -> usize
+    ensures { λ r. ⌜ r ≡ fitting (decoded (charactersOf y (now (d .entry))) start end (now (d .entry))) (now (out .entry)) ⌝ }
+    ensures { λ _. ⌜ now (out .exit) ≡ copied (decoded (charactersOf y (now (d .entry))) start end (now (d .entry))) (now (out .entry)) ⌝ }
+{
+    copy_plain(characters(y, d), d, start, end, out)
 }

@@ -4,6 +4,9 @@ use Rattle.held.proofs.Walking.{next-stepped}
 use Rattle.held.proofs.next.next_from.Statement.{statement}
 use Rattle.held.proofs.next.next_from.Tie as tie
 
+characters-requires : tie.Need-characters-requires
+characters-requires c κs = search needs
+
 step-requires : tie.Need-step-requires
 step-requires c κs = search needs
 
@@ -15,16 +18,18 @@ enum-told c = search needs
 
 returns : tie.Need-returns
 returns c =
-    next-stepped _ _ _ _ _
+    next-stepped _ _ _ _ _ _
+    (c .before .before .before .before .characters .ensures)
     (c .before .before .before .step .ensures)
     (c .before .s .given .1)
 
 returns-2 : tie.Need-returns-2
 returns-2 c =
-    next-stepped _ _ _ _ _
+    next-stepped _ _ _ _ _ _
+    (c .before .before .before .characters .ensures)
     (c .before .before .step .ensures)
     (c .enum-told .given .1)
 
 pub next-from-spec : {M : Type 1} → statement M
 next-from-spec =
-    tie.close (tie.spec step-requires enum-known-s enum-told returns returns-2)
+    tie.close (tie.spec characters-requires step-requires enum-known-s enum-told returns returns-2)
