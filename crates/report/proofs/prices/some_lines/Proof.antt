@@ -4,6 +4,9 @@ use Rattle.report.proofs.Rows.{written-lies}
 use Rattle.report.proofs.prices.some_lines.Statement.{statement}
 use Rattle.report.proofs.prices.some_lines.Tie as tie
 
+characters-requires : tie.Need-characters-requires
+characters-requires c κs = search needs
+
 slice-aggregate-prices : tie.Need-slice-aggregate-prices
 slice-aggregate-prices c = search needs
 
@@ -50,6 +53,7 @@ pub some-lines-spec : {M : Type 1} → statement M
 some-lines-spec =
     tie.close
     (tie.spec
+    characters-requires
     slice-aggregate-prices
     prices-requires
     enum-known-p
