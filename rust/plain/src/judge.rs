@@ -52,7 +52,8 @@ struct Sheet<'a, M, P> {
     room: Room,
 }
 
-/// Judges the message that begins at `start`.
+/// Judges the message that begins at `start`. It stays a function of its own: put into the call that hands out prices it takes a tenth longer.
+#[inline(never)]
 pub fn judge<M: Marks, P: Prices>(y: Syntax<M>, d: &[u8], start: usize, positions: &mut Positions, prices: &mut P) -> Judged {
     positions.all.clear();
     let mut sheet = Sheet::new(y, d, positions, prices);

@@ -96,12 +96,14 @@ pub fn judge_at(reading: Reading, d: &[u8], at: usize) -> Verdict {
 /// 1, 2 and 31, else the judged message.
 fn judge_with<P: Prices>(reading: Reading, d: &[u8], at: usize, prices: &mut P) -> Result<Judged, u32> {
     let admitted = admitted(reading, d)?;
-    with_syntax!(admitted, y => {
-        if !segments::begins_message(y, d, admitted.front, at) {
-            return Err(31);
-        }
-        Ok(judge(y, d, at, &mut Positions::default(), prices))
-    })
+    with_syntax!(admitted, y => judge_in(y, d, admitted.front, at, prices))
+}
+
+fn judge_in<M: Marks, P: Prices>(y: Syntax<M>, d: &[u8], front: usize, at: usize, prices: &mut P) -> Result<Judged, u32> {
+    if !segments::begins_message(y, d, front, at) {
+        return Err(31);
+    }
+    Ok(judge(y, d, at, &mut Positions::default(), prices))
 }
 
 /// As `judge_with`, with 30 for a refused message.

@@ -3,7 +3,7 @@
 //! Between the end of a segment and the next one there may be line breaks if the reading skips them, so the two places are
 //! kept apart: `end` is the byte after a segment, and `past_breaks` of it the place where the next one begins.
 
-use crate::cut::{head, tag_of, UNH, UNT, UNZ};
+use crate::cut::{head, tag_of, UNA, UNH, UNT, UNZ};
 use crate::marks::{are_valid, Characters, Marks, Syntax, USUAL};
 use crate::Reading;
 
@@ -21,22 +21,28 @@ pub struct Admitted {
 }
 
 /// Refusal 1 or 2, or how the delivery is read.
+#[inline]
 pub fn admitted(reading: Reading, d: &[u8]) -> Result<Admitted, u32> {
     if d.len() > LIMIT {
         return Err(1);
     }
     let begin = past_breaks(reading.skips, d, 0);
-    let (front, characters) = match d[begin..] {
-        [b'U', b'N', b'A', component, element, decimal, release, b' ', terminator, ..] => {
-            (begin + 9, [component, element, decimal, release, terminator])
-        }
-        [b'U', b'N', b'A', ..] => return Err(2),
+    let (front, characters) = match tag_of(head(d, begin)) {
+        UNA => (begin + 9, of_una(&d[begin..]).ok_or(2u32)?),
         _ => (0, reading.characters),
     };
     if characters != USUAL && !are_valid(&characters) {
         return Err(2);
     }
     Ok(Admitted { front, characters, skips: reading.skips })
+}
+
+/// The characters of UNA, which `d` begins with.
+fn of_una(d: &[u8]) -> Option<Characters> {
+    match *d {
+        [_, _, _, component, element, decimal, release, b' ', terminator, ..] => Some([component, element, decimal, release, terminator]),
+        _ => None,
+    }
 }
 
 /// Whether CR or LF stands at a place.
