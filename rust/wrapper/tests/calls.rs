@@ -127,7 +127,7 @@ fn deliveries_not_admitted() {
     long.resize(LIMIT, b' ');
     assert_eq!(survey(usual(), &long).number, 0);
     long.push(b' ');
-    for (number, delivery) in [(1, &long[..]), (2, &b"UNA:+.? ;UNH+1'"[..])] {
+    for (number, delivery) in [(1, &long[..]), (2, &b"UNA:+.?;'UNH+1'"[..])] {
         assert_eq!(survey(usual(), delivery), Totals { number, messages: 0, accepted: 0, outside: 0 });
         assert_eq!(next_message(usual(), delivery, 0), Next { found: 0, start: 0, end: 0 });
         assert_eq!(judge_at(usual(), delivery, FIRST), refused(number));
