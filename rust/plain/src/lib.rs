@@ -2,9 +2,9 @@
 //! and the guides' pages.
 //!
 //! It is the other side of the comparison: nothing here is taken from the proved library. The layers stand as the
-//! paper has them: `marks` has the service characters, `segments` knows segments and messages, `cut` separators, `text` reads decoded components, `guide`, `pages` and `edition`
-//! are the tables, `judge` puts a verdict on one message (`answers`), `agree` is rule 23, `reader` has the calls,
-//! `report` the lines.
+//! paper has them: `marks` has the service characters, `segments` knows segments and messages, `cut` separators, `text`
+//! reads decoded components, `guide`, `pages` and `edition` are the tables, `judge` puts a verdict on one message
+//! (`answers`), `agree` is rule 23, `reader` has the calls, `report` the lines.
 
 mod agree;
 mod answers;

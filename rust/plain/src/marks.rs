@@ -32,12 +32,33 @@ pub enum Class {
 
 /// The characters in use. What reads by them is compiled twice: once for the usual ones, which are then known, once for any.
 pub trait Marks: Copy {
-    fn component(self) -> u8;
-    fn element(self) -> u8;
-    fn decimal(self) -> u8;
-    fn release(self) -> u8;
-    fn terminator(self) -> u8;
+    fn characters(self) -> Characters;
     fn class(self, byte: u8) -> Class;
+
+    #[inline(always)]
+    fn component(self) -> u8 {
+        self.characters()[0]
+    }
+
+    #[inline(always)]
+    fn element(self) -> u8 {
+        self.characters()[1]
+    }
+
+    #[inline(always)]
+    fn decimal(self) -> u8 {
+        self.characters()[2]
+    }
+
+    #[inline(always)]
+    fn release(self) -> u8 {
+        self.characters()[3]
+    }
+
+    #[inline(always)]
+    fn terminator(self) -> u8 {
+        self.characters()[4]
+    }
 }
 
 /// `:+.?'`
@@ -100,28 +121,8 @@ const fn class_of(characters: &Characters, byte: u8) -> Class {
 
 impl Marks for Usual {
     #[inline(always)]
-    fn component(self) -> u8 {
-        USUAL[0]
-    }
-
-    #[inline(always)]
-    fn element(self) -> u8 {
-        USUAL[1]
-    }
-
-    #[inline(always)]
-    fn decimal(self) -> u8 {
-        USUAL[2]
-    }
-
-    #[inline(always)]
-    fn release(self) -> u8 {
-        USUAL[3]
-    }
-
-    #[inline(always)]
-    fn terminator(self) -> u8 {
-        USUAL[4]
+    fn characters(self) -> Characters {
+        USUAL
     }
 
     #[inline(always)]
@@ -132,28 +133,8 @@ impl Marks for Usual {
 
 impl Marks for Others {
     #[inline(always)]
-    fn component(self) -> u8 {
-        self.0[0]
-    }
-
-    #[inline(always)]
-    fn element(self) -> u8 {
-        self.0[1]
-    }
-
-    #[inline(always)]
-    fn decimal(self) -> u8 {
-        self.0[2]
-    }
-
-    #[inline(always)]
-    fn release(self) -> u8 {
-        self.0[3]
-    }
-
-    #[inline(always)]
-    fn terminator(self) -> u8 {
-        self.0[4]
+    fn characters(self) -> Characters {
+        self.0
     }
 
     #[inline(always)]
