@@ -7,7 +7,9 @@ like `{a}` stands at the place) and puts the lines together in document 01's pri
 
 places.py FOLDER writes FOLDER/stdin, FOLDER/sheetcheck.stdout (M, P and E lines); the same of "Interval pairs" in FOLDER/pairs,
 of "Interval pairs" with CR LF after UNA and each segment in FOLDER/pairs_lines, and of "Line breaks" in FOLDER/lines; and for
-each of the other deliveries FOLDER/other/NN.edi and NN.out, and FOLDER/strict/NN.edi and NN.out where a table has strict lines for it.
+each of the other deliveries FOLDER/other/NN.edi and NN.out, and FOLDER/strict/NN.edi and NN.out where a table has strict lines for it; the same of
+"Service characters" in FOLDER/una and FOLDER/strict_una, and of "Service characters handed in", with the five characters as NN.characters, in
+FOLDER/handed and FOLDER/strict_handed.
 """
 import pathlib
 import re
@@ -126,6 +128,14 @@ def write_other(folder, number, cell, lines):
     write(stem.with_suffix(".edi"), stem.with_suffix(".out"), delivery, printed(lines, places))
 
 
+def write_both(folders, rows):
+    """Deliveries with the lines of the usual reading and those of the strict one, if there are any."""
+    for number, cell, *readings, _ in rows:
+        for folder, lines in zip(folders, readings):
+            if lines:
+                write_other(folder, number, cell, lines)
+
+
 def main():
     text = (pathlib.Path(__file__).parent / "VECTORS.md").read_text(encoding="ascii")
     sections = {part.partition("\n")[0]: part for part in text.split("\n## ")}
@@ -136,10 +146,14 @@ def main():
     write_delivery(folder / "lines", sections["Line breaks"])
     for number, cell, lines, _ in table(sections["Other deliveries"]):
         write_other(folder / "other", number, cell, lines)
-    for number, cell, usual, strict, _ in table(sections["Line breaks in both readings"]):
-        write_other(folder / "other", number, cell, usual)
-        if strict:
-            write_other(folder / "strict", number, cell, strict)
+    write_both([folder / "other", folder / "strict"], table(sections["Line breaks in both readings"]))
+    write_both([folder / "una", folder / "strict_una"], table(sections["Service characters"]))
+    handed = table(sections["Service characters handed in"])
+    both = [folder / "handed", folder / "strict_handed"]
+    write_both(both, [[number, *rest] for number, _, *rest in handed])
+    for place in both:
+        for number, characters, *_ in handed:
+            (place / number.zfill(2)).with_suffix(".characters").write_bytes(raw(characters))
 
 
 main()

@@ -1,6 +1,7 @@
 /* Reads a file and prints what the checking program of document 01 prints: X and a refusal of the delivery; or a line M for each message, a
  * line P for each price of an accepted one, and a line E with the survey. With -s it prints a line S for each segment instead: its first byte,
- * the byte after its last, and 1 if it is a piece. --strict before that reads strictly: line breaks are not skipped. */
+ * the byte after its last, and 1 if it is a piece. --strict before that reads strictly: line breaks are not skipped. --characters and five bytes hand
+ * these in as the service characters of a delivery without UNA. */
 #include <inttypes.h>
 #include <stdbool.h>
 #include <stdio.h>
@@ -14,21 +15,18 @@
 static struct schaumtruhe_reading reading;
 static int64_t row[ROWS * SCHAUMTRUHE_PRICE];
 static uint8_t delivery[SCHAUMTRUHE_LIMIT + 1]; /* one more than the limit, so that a longer file is told apart */
+static uint8_t text[SCHAUMTRUHE_LIMIT];
 
 /* The article of a price without its release marks; `-` if it is absent. The row has its place in the message and its length. */
-static void print_article(size_t message, const int64_t *price)
+static void print_article(size_t length, size_t message, const int64_t *price)
 {
-    size_t length = (size_t)price[SCHAUMTRUHE_LENGTH];
-    if (length == 0) {
+    size_t count = (size_t)price[SCHAUMTRUHE_LENGTH];
+    if (count == 0) {
         putchar('-');
         return;
     }
-    const uint8_t *article = delivery + message + (size_t)price[SCHAUMTRUHE_ARTICLE];
-    for (size_t i = 0; i < length; i++) {
-        if (article[i] == '?' && i + 1 < length)
-            i++;
-        putchar(article[i]);
-    }
+    size_t place = message + (size_t)price[SCHAUMTRUHE_ARTICLE];
+    fwrite(text, 1, schaumtruhe_plain(reading.syntax, delivery, length, place, count, text, sizeof text), stdout);
 }
 
 static void print_prices(size_t length, size_t at)
@@ -40,7 +38,7 @@ static void print_prices(size_t length, size_t at)
         for (size_t i = 0; i < got.written; i++) {
             const int64_t *price = row + i * SCHAUMTRUHE_PRICE;
             printf("P %" PRId64 " ", price[SCHAUMTRUHE_POSITION]);
-            print_article(at, price);
+            print_article(length, at, price);
             printf(" %" PRId64 " %" PRId64 "\n", price[SCHAUMTRUHE_AMOUNT], price[SCHAUMTRUHE_DECIMALS]);
         }
         k += got.written;
@@ -89,15 +87,31 @@ static bool passed(char ***words, const char *word)
     return is;
 }
 
+/* Hands in five characters; false if there are not five. */
+static bool set_characters(const char *five)
+{
+    if (five == NULL || strlen(five) != 5)
+        return false;
+    const uint8_t *bytes = (const uint8_t *)five;
+    reading.syntax.component = bytes[0];
+    reading.syntax.element = bytes[1];
+    reading.syntax.decimal = bytes[2];
+    reading.syntax.release = bytes[3];
+    reading.syntax.terminator = bytes[4];
+    return true;
+}
+
 int main(int argc, char **argv)
 {
     char **words = argv + (argc > 0);
     reading = passed(&words, "--strict") ? schaumtruhe_strict() : schaumtruhe_usual();
+    if (passed(&words, "--characters"))
+        words += set_characters(words[0]);
     bool segments = passed(&words, "-s");
     const char *name = words[0];
     FILE *in = name != NULL && words[1] == NULL ? fopen(name, "rb") : NULL;
     if (in == NULL) {
-        fprintf(stderr, "usage: example [--strict] [-s] FILE\n");
+        fprintf(stderr, "usage: example [--strict] [--characters FIVE] [-s] FILE\n");
         return 2;
     }
     size_t length = fread(delivery, 1, sizeof delivery, in);

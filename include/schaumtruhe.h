@@ -4,15 +4,15 @@
  * number of threads may call at once.
  *
  * What a caller owes is what C asks of any pointer and length, and nothing more:
- *   - `delivery` points to `length` bytes that nobody writes to during the call; `row` points to `count` numbers that nobody else reads or
- *     writes during the call, apart from the delivery and aligned for int64_t;
- *   - neither pointer is NULL, even where the length is 0;
- *   - how a delivery is read is a value that `schaumtruhe_usual` or `schaumtruhe_strict` made (see there).
+ *   - `delivery` points to `length` bytes that nobody writes to during the call; `row` points to `count` numbers, and `out` to `room` bytes,
+ *     that nobody else reads or writes during the call, apart from the delivery and the row aligned for int64_t;
+ *   - no pointer is NULL, even where the length is 0;
+ *   - how a delivery is read is a value that `schaumtruhe_usual` or `schaumtruhe_strict` made (see there), its service characters set or not.
  * Every content, every place and every number is answered. Places count bytes from 0 in the delivery, skipped line breaks too.
  *
  * `number` is 0 or the refusal:
- *    1 delivery longer than 1,048,576 bytes       2 it begins UNA, and the nine bytes there are not UNA:+.? '
- *   10 a byte not allowed                        11 no tag of three capital letters followed by + or '
+ *    1 delivery longer than 1,048,576 bytes       2 the service characters cannot be used (see below)
+ *   10 a byte not allowed                        11 no tag of three capital letters followed by the element separator or the terminator
  *   12 a piece without its terminator            13 no node with this tag and code can come here
  *   14 a required node is missing                15 the limit of a node is passed           16 the same, for LIN
  *   17 component missing      18 component not used      19 wrong format      20 code not on its page
@@ -33,10 +33,15 @@
 extern "C" {
 #endif
 
-/* How a delivery is read. Make the value by one of the two calls below and hand it in as it is: all zeros is no reading, and a later version
- * may add fields. What only cuts takes the `syntax` of a reading. */
+/* How a delivery is read. Make the value by one of the two calls below: all zeros is no reading, and a later version may add fields. What only cuts
+ * takes the `syntax` of a reading.
+ *
+ * The five service characters are :+.?' in a value that was made, and may be set to others. They are used for a delivery without UNA. A delivery that
+ * begins UNA has UNA's characters, and those in the value are then not looked at. The five used have to be distinct, and each of them a byte from 33 to
+ * 126 or from 160 to 255 that is no ASCII letter, no digit and no minus; UNA has nine bytes, of which the eighth is a blank. A delivery for which one of
+ * these conditions fails is refused with 2. The decimal mark is that byte alone: where it is a comma, 1.5 is no number. */
 struct schaumtruhe_syntax {
-    uint8_t component, element, decimal, release, terminator; /* the service characters :+.?' */
+    uint8_t component, element, decimal, release, terminator; /* the service characters, in UNA's order without the reserved byte */
     bool skips;                                               /* whether line breaks are skipped */
 };
 
@@ -134,6 +139,13 @@ struct schaumtruhe_article schaumtruhe_article(struct schaumtruhe_reading readin
  * then 0. From 0 on, and then from each `end`, it gives every segment once, in order. A place where no segment begins is taken as one where
  * one does. */
 struct schaumtruhe_segment schaumtruhe_segment_at(struct schaumtruhe_syntax syntax, const uint8_t *delivery, size_t length, size_t at);
+
+/* The part of the delivery from `place` on, `count` bytes as far as they lie within it, without its release marks: as many bytes as fit into the `room`
+ * bytes of `out`. The rest of `out` is unchanged. Gives how many bytes the part has without its marks, so that a call with room 0 tells how many are
+ * needed. The release is the delivery's own: UNA's, or the one in `syntax` if there is no UNA. An article, or any component, is such a part.
+ * 0 in a delivery that is refused with 1 or 2; `out` is then unchanged. */
+size_t schaumtruhe_plain(struct schaumtruhe_syntax syntax, const uint8_t *delivery, size_t length, size_t place, size_t count, uint8_t *out,
+                         size_t room);
 
 #ifdef __cplusplus
 }

@@ -16,11 +16,12 @@ cargo test --quiet --offline --release --manifest-path rust/wrapper/Cargo.toml
 cargo build --quiet --offline --release --manifest-path rust/wrapper/Cargo.toml --example report
 report=$CARGO_TARGET_DIR/release/examples/report
 
-check() { # DELIVERY LINES [--strict]
-    target/example ${3:-} "$1" | cmp "$2" -
-    "$report" ${3:-} "$1" | cmp "$2" -
-    target/example ${3:-} -s "$1" >target/segments
-    "$report" ${3:-} -s "$1" | cmp target/segments -
+check() { # DELIVERY LINES [WORD ..]
+    local words=("${@:3}")
+    target/example "${words[@]}" "$1" | cmp "$2" -
+    "$report" "${words[@]}" "$1" | cmp "$2" -
+    target/example "${words[@]}" -s "$1" >target/segments
+    "$report" "${words[@]}" -s "$1" | cmp target/segments -
 }
 for reading in "" --strict; do # neither holds a break that is skipped
     check $vectors/stdin $vectors/sheetcheck.stdout $reading
@@ -28,10 +29,16 @@ for reading in "" --strict; do # neither holds a break that is skipped
 done
 check $vectors/pairs_lines/stdin $vectors/pairs_lines/sheetcheck.stdout
 check $vectors/lines/stdin $vectors/lines/sheetcheck.stdout
-for delivery in $vectors/other/*.edi; do
+for delivery in $vectors/other/*.edi $vectors/una/*.edi; do
     [ "$(wc -c <"$delivery")" -gt 65536 ] || check "$delivery" "${delivery%.edi}.out" # the examples read more than the programs do
 done
-for delivery in $vectors/strict/*.edi; do
+for delivery in $vectors/strict/*.edi $vectors/strict_una/*.edi; do
     check "$delivery" "${delivery%.edi}.out" --strict
+done
+for delivery in $vectors/handed/*.edi; do
+    check "$delivery" "${delivery%.edi}.out" --characters "$(cat "${delivery%.edi}.characters")"
+done
+for delivery in $vectors/strict_handed/*.edi; do
+    check "$delivery" "${delivery%.edi}.out" --strict --characters "$(cat "${delivery%.edi}.characters")"
 done
 echo "the C example and the Rust wrapper print the same, as they should"

@@ -11,8 +11,10 @@ folder=$(mktemp -d)
 trap 'rm -r "$folder"' EXIT
 python3 ../docs/places.py "$folder"
 differences=0
-lines_of() { # DELIVERY LINES [--strict]
-    $check $3 < "$1" | cmp - "$2" || differences=$((differences + 1))
+lines_of() { # DELIVERY LINES [WORD ..]
+    delivery=$1 lines=$2
+    shift 2
+    $check "$@" < "$delivery" | cmp - "$lines" || differences=$((differences + 1))
 }
 # These hold no break that is skipped, so both readings give their lines.
 for reading in "" --strict; do
@@ -24,16 +26,22 @@ for reading in "" --strict; do
 done
 lines_of "$folder/pairs_lines/stdin" "$folder/pairs_lines/sheetcheck.stdout"
 lines_of "$folder/lines/stdin" "$folder/lines/sheetcheck.stdout"
-for delivery in "$folder"/other/*.edi; do
+for delivery in "$folder"/other/*.edi "$folder"/una/*.edi; do
     lines_of "$delivery" "${delivery%.edi}.out"
 done
-for delivery in "$folder"/strict/*.edi; do
+for delivery in "$folder"/strict/*.edi "$folder"/strict_una/*.edi; do
     lines_of "$delivery" "${delivery%.edi}.out" --strict
+done
+for delivery in "$folder"/handed/*.edi; do
+    lines_of "$delivery" "${delivery%.edi}.out" --characters "$(cat "${delivery%.edi}.characters")"
+done
+for delivery in "$folder"/strict_handed/*.edi; do
+    lines_of "$delivery" "${delivery%.edi}.out" --strict --characters "$(cat "${delivery%.edi}.characters")"
 done
 [ $differences = 0 ]
 echo "docs/VECTORS.md: all lines equal"
 outside=../../shared/tools/vectors.py
 if [ -f $outside ]; then
-    python3 $outside $check request04
+    python3 $outside $check request06
 fi
 nice target/release/compare --deliveries "${1:-5000}" --seed "${2:-1}"

@@ -3,7 +3,7 @@
 use std::hint::black_box;
 use std::time::{Duration, Instant};
 
-use generator::{kind, without_lines, LINES};
+use generator::{kind, usual_form, LINES, OTHERS};
 use plain::{Library, Reading};
 
 use crate::walk::walk;
@@ -14,8 +14,9 @@ pub struct Case {
     pub name: &'static str,
     pub d: Vec<u8>,
     outside: Vec<u8>,
-    /// The same sheets without line breaks, if they have some.
-    bare: Option<Vec<u8>>,
+    /// The same sheets without line breaks or with the usual characters, if they have others.
+    form: Option<Vec<u8>>,
+    segments: usize,
     pub yardstick: Duration,
     pub best: Vec<Best>,
 }
@@ -26,8 +27,8 @@ pub struct Best {
     pub survey: Duration,
     pub count: Duration,
     pub walk: Duration,
-    /// Survey without the line breaks.
-    pub bare: Duration,
+    /// Survey of the same sheets in their usual form.
+    pub form: Duration,
 }
 
 /// What is timed is the usual reading.
@@ -37,9 +38,11 @@ impl Case {
     pub fn new(name: &'static str, size: usize, libraries: Libraries) -> Case {
         let d = kind(name, size, 7);
         let outside = without_messages(&d);
-        let bare = LINES.contains(&name).then(|| without_lines(name, size, 7));
-        let never = Best { survey: Duration::MAX, count: Duration::MAX, walk: Duration::MAX, bare: Duration::MAX };
-        Case { name, d, outside, bare, yardstick: Duration::MAX, best: vec![never; libraries.len()] }
+        let is_other = LINES.contains(&name) || OTHERS.contains(&name);
+        let form = is_other.then(|| usual_form(name, size, 7));
+        let segments = count(libraries[0], &d);
+        let never = Best { survey: Duration::MAX, count: Duration::MAX, walk: Duration::MAX, form: Duration::MAX };
+        Case { name, d, outside, form, segments, yardstick: Duration::MAX, best: vec![never; libraries.len()] }
     }
 
     /// One more time of each.
@@ -49,8 +52,8 @@ impl Case {
         for (best, library) in self.best.iter_mut().zip(libraries) {
             shorten(&mut best.survey, || ignore(library.survey(USUAL, black_box(d))));
             shorten(&mut best.count, || ignore(library.survey(USUAL, black_box(&self.outside))));
-            if let Some(bare) = &self.bare {
-                shorten(&mut best.bare, || ignore(library.survey(USUAL, black_box(bare))));
+            if let Some(form) = &self.form {
+                shorten(&mut best.form, || ignore(library.survey(USUAL, black_box(form))));
             }
             shorten(&mut best.walk, || ignore(walk(*library, black_box(d), row)));
         }
@@ -60,7 +63,7 @@ impl Case {
         println!("{}", self.describe(libraries[0]));
         println!("  {:<12} {:>9.1} us", "yardstick", self.yardstick.as_secs_f64() * 1e6);
         for (best, library) in self.best.iter().zip(libraries) {
-            let bare = self.bare.as_ref().map(|_| format!("; without line breaks {:.1} us", best.bare.as_secs_f64() * 1e6));
+            let form = self.form.as_ref().map(|_| format!("; in the usual form {:.1} us", best.form.as_secs_f64() * 1e6));
             println!(
                 "  {:<12} {:>9.1} us  {:.2} yardsticks; counting segments {:.2} yardsticks; all messages and prices {:.2} surveys{}",
                 library.name(),
@@ -68,7 +71,7 @@ impl Case {
                 ratio(best.survey, self.yardstick),
                 ratio(best.count, self.yardstick),
                 ratio(best.walk, best.survey),
-                bare.unwrap_or_default()
+                form.unwrap_or_default()
             );
         }
     }
@@ -79,7 +82,7 @@ impl Case {
                 "{}, {} bytes, {} segments, {} messages, {} accepted, {} outside",
                 self.name,
                 self.d.len(),
-                terminators(&self.d),
+                self.segments,
                 survey.messages,
                 survey.accepted,
                 survey.outside
@@ -87,6 +90,10 @@ impl Case {
             Err(number) => format!("{}, {} bytes, refused with {number}", self.name, self.d.len()),
         }
     }
+}
+
+fn count(library: &dyn Library, d: &[u8]) -> usize {
+    std::iter::successors(library.segment_at(USUAL, d, 0), |(_, end, _)| library.segment_at(USUAL, d, *end)).count()
 }
 
 /// The same bytes without any UNH: all segments lie outside, and survey does nothing but count them.

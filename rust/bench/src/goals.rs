@@ -1,6 +1,6 @@
 //! What is to be reached, with the figure of this run: the worst of all kinds that a goal speaks of.
 
-use generator::LINES;
+use generator::{LINES, OTHERS};
 
 use crate::case::{ratio, Best, Case};
 
@@ -13,8 +13,9 @@ struct Goal {
 
 /// The last library against the first, which is the plain reader. `long` and `short` have the same kinds in the same order.
 pub fn print_goals(long: &[Case], short: &[Case]) {
-    let (lines, bare): (Vec<_>, Vec<_>) = long.iter().zip(short).partition(|(case, _)| LINES.contains(&case.name));
-    for goal in goals(&bare).iter().chain(&line_goals(&lines)) {
+    let (others, rest): (Vec<_>, Vec<_>) = long.iter().zip(short).partition(|(case, _)| OTHERS.contains(&case.name));
+    let (lines, bare): (Vec<_>, Vec<_>) = rest.into_iter().partition(|(case, _)| LINES.contains(&case.name));
+    for goal in goals(&bare).iter().chain(&line_goals(&lines)).chain(&character_goals(&others)) {
         let word = if goal.figure <= goal.limit { "reached" } else { "missed" };
         println!("goal {word}: {} {:.2}, at most {:.2}", goal.name, goal.figure, goal.limit);
     }
@@ -46,7 +47,6 @@ fn goals(kinds: &[Kind]) -> [Goal; 7] {
 
 fn line_goals(kinds: &[Kind]) -> [Goal; 5] {
     let others = kinds.iter().filter(|(case, _)| case.name != "many_lines").map(against_plain);
-    let of_bare = kinds.iter().map(|(case, _)| ratio(last(case).survey, last(case).bare));
     [
         Goal { name: "with lines: survey on all but many, surveys of the plain reader", figure: worst(others), limit: AGAINST_PLAIN },
         Goal {
@@ -54,10 +54,28 @@ fn line_goals(kinds: &[Kind]) -> [Goal; 5] {
             figure: on(kinds, "many_lines"),
             limit: AGAINST_PLAIN_ON_MANY,
         },
-        Goal { name: "with lines: survey, surveys of the same sheets without line breaks", figure: worst(of_bare), limit: 1.25 },
+        Goal {
+            name: "with lines: survey, surveys of the same sheets without line breaks",
+            figure: worst(kinds.iter().map(of_usual_form)),
+            limit: 1.25,
+        },
         Goal { name: "with lines: growth", figure: worst(kinds.iter().map(growth)), limit: 1.2 },
         Goal { name: "with lines: all messages and prices, surveys", figure: worst(kinds.iter().map(walks)), limit: 3.0 },
     ]
+}
+
+/// At least a quarter of the speed with the usual characters.
+fn character_goals(kinds: &[Kind]) -> [Goal; 3] {
+    let of_usual = worst(kinds.iter().map(of_usual_form));
+    [
+        Goal { name: "with other characters: survey, surveys of the same sheets with the usual ones", figure: of_usual, limit: 4.0 },
+        Goal { name: "with other characters: growth", figure: worst(kinds.iter().map(growth)), limit: 1.2 },
+        Goal { name: "with other characters: all messages and prices, surveys", figure: worst(kinds.iter().map(walks)), limit: 3.0 },
+    ]
+}
+
+fn of_usual_form((case, _): &Kind) -> f64 {
+    ratio(last(case).survey, last(case).form)
 }
 
 fn of_kind<'a>(kinds: &[Kind<'a>], name: &str) -> &'a Case {

@@ -1,5 +1,5 @@
-//! Times and stack of libraries in the usual reading, on five kinds of deliveries, four of them also with CR LF after each segment;
-//! each has sheets of both editions.
+//! Times and stack of libraries in the usual reading, on five kinds of deliveries, four of them also with CR LF after each segment and one with
+//! other service characters; each has sheets of both editions.
 //!
 //! A wrapper crate implements `plain::Library` for another library and calls `run` with both.
 
@@ -11,7 +11,7 @@ mod yardstick;
 
 use std::time::{Duration, Instant};
 
-use generator::{kind, KINDS, LINES};
+use generator::{kind, KINDS, LINES, OTHERS};
 use plain::Library;
 
 use case::{ignore, Case, USUAL};
@@ -40,6 +40,7 @@ pub fn run(libraries: Libraries, length: Duration) {
     for size in [SHORT, LONG] {
         all.extend(KINDS.map(|name| Case::new(name, size, libraries)));
         all.extend(LINES.map(|name| Case::new(name, size, libraries)));
+        all.extend(OTHERS.map(|name| Case::new(name, size, libraries)));
     }
     all.extend(BETWEEN.map(|size| Case::new("dense", size, libraries)));
     let mut row = vec![0; ROW];
@@ -57,9 +58,9 @@ pub fn run(libraries: Libraries, length: Duration) {
     for case in &all {
         case.print(libraries);
     }
-    let kinds = KINDS.len() + LINES.len();
+    let kinds = KINDS.len() + LINES.len() + OTHERS.len();
     goals::print_goals(&all[kinds..2 * kinds], &all[..kinds]);
-    for name in KINDS.iter().chain(&LINES) {
+    for name in KINDS.iter().chain(&LINES).chain(&OTHERS) {
         stacks(name, libraries);
     }
 }

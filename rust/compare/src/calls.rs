@@ -1,25 +1,37 @@
-//! All calls on one delivery in both readings, with places and numbers in and out of range.
+//! All calls on one delivery in both readings, with places and numbers in and out of range, and with characters handed in.
 
-use generator::{Random, LIMIT};
+use generator::{Delivery, Random, LIMIT};
 use plain::{Library, Reading};
 
+use crate::used::used;
 use crate::{Guarded, Tally};
 
 /// Rows are at most so long.
 const LONGEST_ROW: usize = 1024;
+/// Room for a part without its release marks.
+const LONGEST_PART: usize = 256;
 /// Of a delivery with more messages only so many are asked for prices, or a long one would take too long.
 const MOST_ASKED: usize = 24;
 
 /// Where deliveries and rows stand while they are lent.
 pub struct Places {
     delivery: Guarded,
+    rows: Rows,
+}
+
+/// What is lent to be written to, for the one library and for the other.
+struct Rows {
     row: Guarded,
     other_row: Guarded,
+    part: Guarded,
+    other_part: Guarded,
 }
 
 impl Places {
     pub fn new() -> Places {
-        Places { delivery: Guarded::new(LIMIT + 65_536), row: Guarded::new(LONGEST_ROW * 8), other_row: Guarded::new(LONGEST_ROW * 8) }
+        let (row, other_row) = (Guarded::new(LONGEST_ROW * 8), Guarded::new(LONGEST_ROW * 8));
+        let (part, other_part) = (Guarded::new(LONGEST_PART), Guarded::new(LONGEST_PART));
+        Places { delivery: Guarded::new(LIMIT + 65_536), rows: Rows { row, other_row, part, other_part } }
     }
 }
 
@@ -43,25 +55,29 @@ struct Pair<'a> {
 
 type Outcome = Result<(), String>;
 
-/// Compares all calls; the difference, if there is one, in words.
+/// Compares all calls, with the characters handed in and, if those are others, with the usual ones too; the difference, if there is one, in words.
 pub fn compare_delivery(
     one: &dyn Library,
     other: &dyn Library,
-    delivery: &[u8],
+    delivery: &Delivery,
     random: &mut Random,
     places: &mut Places,
     tallies: &mut Tallies,
 ) -> Outcome {
     let is_at_begin = random.once_in(4);
-    let lent = if is_at_begin { places.delivery.at_the_begin(delivery.len()) } else { places.delivery.at_the_end(delivery.len()) };
-    lent.copy_from_slice(delivery);
+    let length = delivery.bytes.len();
+    let lent = if is_at_begin { places.delivery.at_the_begin(length) } else { places.delivery.at_the_end(length) };
+    lent.copy_from_slice(&delivery.bytes);
     let lent = &*lent;
-    let mut rows = (&mut places.row, &mut places.other_row);
-    for (reading, tally) in READINGS.into_iter().zip(tallies) {
-        let pair = Pair { reading, one, other, d: lent };
-        pair.all_calls(random, &mut rows, tally).map_err(|difference| format!("{reading:?}: {difference}"))?;
+    for (usual, tally) in READINGS.into_iter().zip(tallies) {
+        let given = usual.with_characters(delivery.characters);
+        let both = [given, usual];
+        for &reading in &both[..1 + (given != usual) as usize] {
+            let pair = Pair { reading, one, other, d: lent };
+            pair.all_calls(random, &mut places.rows, tally).map_err(|difference| format!("{reading:?}: {difference}"))?;
+        }
     }
-    if lent != delivery {
+    if lent != delivery.bytes {
         return Err("the delivery was changed".into());
     }
     Ok(())
@@ -76,8 +92,8 @@ fn equal<T: PartialEq + std::fmt::Debug>(call: std::fmt::Arguments, one: &T, oth
 }
 
 impl Pair<'_> {
-    fn all_calls(&self, random: &mut Random, rows: &mut (&mut Guarded, &mut Guarded), tally: &mut Tally) -> Outcome {
-        tally.delivery(self.d);
+    fn all_calls(&self, random: &mut Random, rows: &mut Rows, tally: &mut Tally) -> Outcome {
+        tally.delivery(self.reading, self.d);
         self.survey(tally)?;
         let breaks = break_places(random, self.d);
         self.segments(random, &breaks, tally)?;
@@ -86,10 +102,15 @@ impl Pair<'_> {
         for at in asked_places(random, self.d.len(), &starts, &breaks) {
             self.verdict(at, tally)?;
             for k in asked_numbers(random, self, at) {
-                self.article(at, k, tally)?;
+                let (place, length) = self.article(at, k, tally)?;
+                self.part(random, place, length, rows, tally)?;
                 let length = row_length(random);
-                self.prices(at, k, rows.0.numbers(length), rows.1.numbers(length), tally)?;
+                self.prices(at, k, rows.row.numbers(length), rows.other_row.numbers(length), tally)?;
             }
+        }
+        for _ in 0..4 {
+            let (place, length) = any_part(random, self.d.len());
+            self.part(random, place, length, rows, tally)?;
         }
         Ok(())
     }
@@ -118,10 +139,11 @@ impl Pair<'_> {
         for at in edge_places(self.d.len()).iter().chain(breaks) {
             self.segment_at(*at, tally)?;
         }
+        let mark = used(self.reading, self.d)[3];
         for _ in 0..12 {
             let place = random.below(self.d.len() + 2);
             // Behind a release mark the reader starts anew: its place is all that it knows.
-            let release = self.d.iter().skip(place).position(|&byte| byte == b'?');
+            let release = self.d.iter().skip(place).position(|&byte| byte == mark);
             self.segment_at(place, tally)?;
             self.segment_at(release.map_or(place, |after| place + after + 1), tally)?;
         }
@@ -166,15 +188,32 @@ impl Pair<'_> {
     fn verdict(&self, at: usize, tally: &mut Tally) -> Outcome {
         let (one, other) = (self.one.judge_at(self.reading, self.d, at), self.other.judge_at(self.reading, self.d, at));
         tally.calls += 1;
-        tally.verdict(self.d, at, &one);
+        tally.verdict(self.reading, self.d, at, &one);
         equal(format_args!("judge_at({at})"), &one, &other)
     }
 
-    fn article(&self, at: usize, k: usize, tally: &mut Tally) -> Outcome {
+    /// Place and length.
+    fn article(&self, at: usize, k: usize, tally: &mut Tally) -> Result<(usize, usize), String> {
         let (one, other) = (self.one.article(self.reading, self.d, at, k), self.other.article(self.reading, self.d, at, k));
         tally.calls += 1;
         tally.article(&one);
-        equal(format_args!("article({at}, {k})"), &one, &other)
+        equal(format_args!("article({at}, {k})"), &one, &other)?;
+        Ok((one.place, one.length))
+    }
+
+    /// A part without its release marks, with more or less room than it needs.
+    fn part(&self, random: &mut Random, place: usize, length: usize, rows: &mut Rows, tally: &mut Tally) -> Outcome {
+        let needed = self.one.without_releases(self.reading, self.d, place, length, &mut []);
+        let room = *random.pick(&[&0, &1, &needed, &needed, &needed.saturating_sub(1), &(needed + 1), &LONGEST_PART]);
+        let room = room.min(LONGEST_PART);
+        let (out, other_out) = (rows.part.at_the_end(room), rows.other_part.at_the_end(room));
+        out.fill(7);
+        other_out.fill(7);
+        let one = self.one.without_releases(self.reading, self.d, place, length, out);
+        let other = self.other.without_releases(self.reading, self.d, place, length, other_out);
+        tally.calls += 1;
+        equal(format_args!("without_releases({place}, {length}, room of {room})"), &one, &other)?;
+        equal(format_args!("what without_releases({place}, {length}, room of {room}) writes"), &out, &other_out)
     }
 
     /// The answers and both rows whole: what is not written has to keep its pattern.
@@ -200,6 +239,14 @@ fn break_places(random: &mut Random, d: &[u8]) -> Vec<usize> {
     let breaks: Vec<usize> = (0..d.len()).filter(|&at| matches!(d[at], b'\r' | b'\n')).collect();
     let count = breaks.len().min(6);
     (0..count).map(|_| breaks[random.below(breaks.len())]).flat_map(|at| [at, at + 1]).collect()
+}
+
+/// A part of the delivery, or one that reaches past its end.
+fn any_part(random: &mut Random, length: usize) -> (usize, usize) {
+    let anywhere = random.below(length + 2);
+    let place = *random.pick(&[&anywhere, &anywhere, &anywhere, &0, &length, &usize::MAX, &length.saturating_sub(3)]);
+    let count = *random.pick(&[&0, &1, &2, &9, &60, &length, &usize::MAX]);
+    (place, count)
 }
 
 /// A pattern that no price has.

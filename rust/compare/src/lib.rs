@@ -6,6 +6,7 @@ mod calls;
 mod guarded;
 mod naive;
 mod tally;
+mod used;
 
 pub use calls::{compare_delivery, Places, Tallies, READINGS};
 pub use guarded::Guarded;
@@ -57,7 +58,7 @@ pub fn run(one: &dyn Library, other: &dyn Library, order: &Order) -> bool {
         let d = generator::delivery(order.seed_of(number));
         let random = &mut Random::new(order.seed_of(number) ^ 1);
         if let Err(difference) = compare_delivery(one, other, &d, random, &mut places, &mut tallies) {
-            show(order, number, &d, &difference);
+            show(order, number, &d.bytes, &difference);
             return false;
         }
     }

@@ -1,4 +1,4 @@
-//! The calls once more, written slowly and sentence by sentence from document 01, items 1, 2 and 4: every segment is cut, decoded and
+//! The calls once more, written slowly and sentence by sentence from document 01, items 1, 2, 4 and 6: every segment is cut, decoded and
 //! copied first, the pages are read from docs/PAGES.md as they are printed there, and instances are kept as a stack.
 //! It shares nothing with the plain reader, so that the comparison means something before a library is linked.
 
@@ -7,14 +7,16 @@ mod cut;
 mod guide;
 mod judge;
 mod place;
+mod service;
 
 use std::cell::RefCell;
 use std::rc::Rc;
 
-use cut::{behind_breaks, front, messages, next_end, Message};
+use cut::{behind_breaks, decoded, messages, next_end, Message};
 use guide::Guide;
 use judge::{judge, Price};
 use plain::{Article, Library, Reading, Survey, Verdict};
+use service::front;
 
 /// All that is to be known of a delivery.
 struct Read {
@@ -60,9 +62,10 @@ impl Naive {
     }
 
     fn read_new(&self, reading: Reading, d: &[u8]) -> Whole {
-        let (all, outside) = messages(reading, d)?;
+        let (front, service) = front(reading, d)?;
+        let (all, outside) = messages(reading, service, d, front);
         let judged = |message: &Message| {
-            let (verdict, prices) = judge(d, message, self.guide(message));
+            let (verdict, prices) = judge(service, d, message, self.guide(message));
             (message.start, message.end, verdict, prices)
         };
         Ok(Rc::new(Read { messages: all.iter().map(judged).collect(), outside }))
@@ -126,8 +129,17 @@ impl Library for Naive {
     }
 
     fn segment_at(&self, reading: Reading, d: &[u8], at: usize) -> Option<(usize, usize, bool)> {
-        let front = front(reading, d).ok()?;
+        let (front, service) = front(reading, d).ok()?;
         let start = behind_breaks(reading, d, if at < front { front } else { at });
-        next_end(d, start).map(|(end, is_piece)| (start, end, is_piece))
+        next_end(service, d, start).map(|(end, is_piece)| (start, end, is_piece))
+    }
+
+    fn without_releases(&self, reading: Reading, d: &[u8], place: usize, count: usize, out: &mut [u8]) -> usize {
+        let Ok((_, service)) = front(reading, d) else { return 0 };
+        let part: Vec<u8> = d.iter().copied().skip(place).take(count).collect();
+        let text = decoded(service, &part);
+        let written = text.len().min(out.len());
+        out[..written].copy_from_slice(&text[..written]);
+        text.len()
     }
 }

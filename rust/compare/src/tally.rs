@@ -3,7 +3,10 @@
 use std::collections::BTreeMap;
 use std::fmt::Display;
 
-use plain::{Article, Survey, Verdict};
+use generator::{Characters, USUAL};
+use plain::{Article, Reading, Survey, Verdict};
+
+use crate::used::used;
 
 /// A number and how often it came.
 type Counts = BTreeMap<usize, u64>;
@@ -15,6 +18,11 @@ pub struct Tally {
     longest: usize,
     /// Deliveries that hold a line break somewhere.
     with_breaks: u64,
+    /// Deliveries with other characters: in UNA, handed in.
+    other_una: u64,
+    other_handed: u64,
+    /// Verdicts that accept a message of such a delivery.
+    other_accepted: u64,
     messages: u64,
     accepted: u64,
     outside: u64,
@@ -34,11 +42,14 @@ pub struct Tally {
 }
 
 impl Tally {
-    pub fn delivery(&mut self, d: &[u8]) {
+    pub fn delivery(&mut self, reading: Reading, d: &[u8]) {
         self.deliveries += 1;
         self.bytes += d.len() as u64;
         self.longest = self.longest.max(d.len());
         self.with_breaks += d.iter().any(|byte| matches!(byte, b'\r' | b'\n')) as u64;
+        let others = used(reading, d);
+        self.other_una += (others != USUAL && others != reading.characters) as u64;
+        self.other_handed += (others != USUAL && others == reading.characters) as u64;
     }
 
     pub fn survey(&mut self, survey: &Result<Survey, u32>) {
@@ -53,17 +64,19 @@ impl Tally {
     }
 
     /// The verdict on what begins at `at`.
-    pub fn verdict(&mut self, d: &[u8], at: usize, verdict: &Verdict) {
+    pub fn verdict(&mut self, reading: Reading, d: &[u8], at: usize, verdict: &Verdict) {
+        let edition = || edition(used(reading, d), d.get(at..).unwrap_or_default());
         match verdict {
             Verdict::Accepted { .. } => {
                 count(&mut self.verdicts, 0);
-                *self.editions.entry(edition(d.get(at..).unwrap_or_default())).or_default() += 1;
+                self.other_accepted += (used(reading, d) != USUAL) as u64;
+                *self.editions.entry(edition()).or_default() += 1;
             }
             Verdict::Refused { number, node, .. } => {
                 count(&mut self.verdicts, *number as usize);
                 count(&mut self.nodes, *node);
                 if *number == 14 {
-                    *self.missing.entry(format!("{} {node}", edition(&d[at..]))).or_default() += 1;
+                    *self.missing.entry(format!("{} {node}", edition())).or_default() += 1;
                 }
             }
         }
@@ -98,6 +111,10 @@ impl Tally {
             "deliveries {deliveries}, with line breaks {with_breaks}, bytes {}, longest {}, calls {}",
             self.bytes, self.longest, self.calls
         );
+        println!(
+            "with other characters in UNA {}, with others handed in {}, messages judged right in these {}",
+            self.other_una, self.other_handed, self.other_accepted
+        );
         println!("messages {}, accepted {}, segments outside {}", self.messages, self.accepted, self.outside);
         println!("prices compared {}", self.prices);
         println!("segment_at: {}", counted(&self.steps));
@@ -121,22 +138,22 @@ fn counted<T: Display>(all: &BTreeMap<T, u64>) -> String {
 }
 
 /// The decoded fifth component of the second element of the segment that `d` begins with.
-fn edition(d: &[u8]) -> String {
+fn edition(characters: Characters, d: &[u8]) -> String {
     let (mut element, mut component) = (0, 1);
     let mut named = String::new();
     let mut bytes = d.iter();
     while let Some(&byte) = bytes.next() {
-        let literal = match byte {
-            b'\'' => break,
-            b'+' => {
+        let literal = match characters.iter().position(|&one| one == byte) {
+            Some(4) => break,
+            Some(1) => {
                 (element, component) = (element + 1, 1);
                 continue;
             }
-            b':' => {
+            Some(0) => {
                 component += 1;
                 continue;
             }
-            b'?' => bytes.next().copied().unwrap_or(b'?'),
+            Some(3) => bytes.next().copied().unwrap_or(byte),
             _ => byte,
         };
         if (element, component) == (2, 5) {

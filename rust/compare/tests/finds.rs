@@ -1,7 +1,7 @@
 //! The comparison finds a library that is wrong in one call.
 
 use compare::{compare_delivery, Naive, Places, Tallies};
-use generator::Random;
+use generator::{una, Random};
 use plain::{Article, Library, Plain, Reading, Survey, Verdict};
 
 /// Which call is wrong.
@@ -25,6 +25,10 @@ enum Wrong {
     EndBehindBreaks,
     BreaksInSegment,
     BeginsAtBreaks,
+    HandedInAnyway,
+    PointIsMark,
+    ReservedByte,
+    UsualRelease,
 }
 
 struct Altered(Wrong);
@@ -57,8 +61,16 @@ impl Library for Altered {
     }
 
     fn judge_at(&self, reading: Reading, d: &[u8], at: usize) -> Verdict {
-        if self.0 == Wrong::Edition {
-            return Plain.judge_at(reading, &as_20d(d), at);
+        match self.0 {
+            Wrong::Edition => return Plain.judge_at(reading, &as_20d(d), at),
+            Wrong::HandedInAnyway => return Plain.judge_at(reading, &with_una(d, |_| una(reading.characters)), at),
+            Wrong::PointIsMark => {
+                return Plain.judge_at(reading, &with_una(d, |una| [&una[..5], b".", &una[6..]].concat().try_into().unwrap()), at)
+            }
+            Wrong::ReservedByte => {
+                return Plain.judge_at(reading, &with_una(d, |una| [&una[..7], b" ", &una[8..]].concat().try_into().unwrap()), at)
+            }
+            _ => {}
         }
         match Plain.judge_at(reading, d, at) {
             Verdict::Refused { number: 24, segment, place, node } if self.0 == Wrong::EndBehindBreaks => {
@@ -107,6 +119,22 @@ impl Library for Altered {
             _ => Some((start, end, is_piece)),
         }
     }
+
+    fn without_releases(&self, reading: Reading, d: &[u8], place: usize, count: usize, out: &mut [u8]) -> usize {
+        match self.0 {
+            // The place of a part means nothing to a delivery without UNA, but that it has the usual release.
+            Wrong::UsualRelease => Plain.without_releases(Reading::strict(), d.get(place..).unwrap_or_default(), 0, count, out),
+            _ => Plain.without_releases(reading, d, place, count, out),
+        }
+    }
+}
+
+/// The delivery with another UNA, if it has one at its very start.
+fn with_una(d: &[u8], change: impl Fn(&[u8; 9]) -> [u8; 9]) -> Vec<u8> {
+    match d.first_chunk::<9>() {
+        Some(nine) if nine.starts_with(b"UNA") => [&change(nine)[..], &d[9..]].concat(),
+        _ => d.to_vec(),
+    }
 }
 
 /// The delivery with every 2.0c made a 2.0d.
@@ -127,7 +155,7 @@ fn differences(other: &dyn Library) -> usize {
     (0..600)
         .filter(|&seed| {
             let d = generator::delivery(seed);
-            d.len() < 100_000 && compare_delivery(&Plain, other, &d, &mut Random::new(seed), &mut places, &mut tallies).is_err()
+            d.bytes.len() < 100_000 && compare_delivery(&Plain, other, &d, &mut Random::new(seed), &mut places, &mut tallies).is_err()
         })
         .count()
 }
@@ -151,5 +179,14 @@ fn wrong_breaks_are_found() {
     use Wrong::*;
     for wrong in [NeverSkips, AlwaysSkips, EndBehindBreaks, BreaksInSegment, BeginsAtBreaks] {
         assert!(differences(&Altered(wrong)) > 10, "{wrong:?}");
+    }
+}
+
+#[test]
+fn wrong_characters_are_found() {
+    use Wrong::*;
+    for (wrong, least) in [(HandedInAnyway, 10), (PointIsMark, 10), (ReservedByte, 1), (UsualRelease, 10)] {
+        let found = differences(&Altered(wrong));
+        assert!(found >= least, "{wrong:?} {found}");
     }
 }

@@ -1,11 +1,11 @@
 //! What the generator means to be right is accepted.
 
-use generator::{kind, message, without_lines, Edition, Random, Shape, LINES};
+use generator::{kind, message, usual_form, Edition, Random, Shape, LINES, OTHERS};
 use plain::{survey, Reading};
 
 #[test]
 fn the_kinds_that_are_timed() {
-    for name in ["valid", "many", "z04", "dense", "valid_lines", "many_lines", "z04_lines"] {
+    for name in ["valid", "many", "z04", "dense", "valid_lines", "many_lines", "z04_lines", "valid_other"] {
         for seed in 0..4 {
             let survey = survey(Reading::usual(), &kind(name, 65_536, seed)).expect("a delivery that is admitted");
             assert_eq!(survey.accepted, survey.messages, "{name} {seed}");
@@ -16,9 +16,18 @@ fn the_kinds_that_are_timed() {
 #[test]
 fn lines_change_no_count() {
     for name in LINES {
-        let (lines, bare) = (kind(name, 65_536, 1), without_lines(name, 65_536, 1));
+        let (lines, bare) = (kind(name, 65_536, 1), usual_form(name, 65_536, 1));
         assert!(lines.len() <= 65_536 && bare.len() < lines.len());
         assert_eq!(survey(Reading::usual(), &lines), survey(Reading::strict(), &bare), "{name}");
+    }
+}
+
+#[test]
+fn other_characters_change_no_count() {
+    for name in OTHERS {
+        let (others, usual) = (kind(name, 65_536, 1), usual_form(name, 65_536, 1));
+        assert!(others.len() <= 65_536 && others.starts_with(b"UNA*|,! ~") && usual.len() == others.len());
+        assert_eq!(survey(Reading::usual(), &others), survey(Reading::usual(), &usual), "{name}");
     }
 }
 

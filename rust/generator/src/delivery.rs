@@ -3,6 +3,7 @@
 use crate::breaks::lay_out;
 use crate::damage::{damage, FAULTS};
 use crate::edition::Edition;
+use crate::foreign::{addressed, Delivery};
 use crate::kinds::dense;
 use crate::random::Random;
 use crate::sheet::{message, Shape};
@@ -10,9 +11,14 @@ use crate::sheet::{message, Shape};
 /// The longest delivery that is admitted.
 pub const LIMIT: usize = 1_048_576;
 
-/// The delivery of a seed, nearly half of them with line breaks.
-pub fn delivery(seed: u64) -> Vec<u8> {
+/// The delivery of a seed, nearly half of them with line breaks, a third with other service characters.
+pub fn delivery(seed: u64) -> Delivery {
     let random = &mut Random::new(seed);
+    let d = usual_delivery(random);
+    addressed(random, d)
+}
+
+fn usual_delivery(random: &mut Random) -> Vec<u8> {
     let d = one_line(random);
     if random.below(20) >= 9 {
         return d;

@@ -5,22 +5,33 @@ use crate::damage::{damage, FAULTS};
 use crate::edition::Edition;
 use crate::random::Random;
 use crate::sheet::{message, Shape};
+use crate::spelling::{spelled, una, USUAL};
 
 pub const KINDS: [&str; 5] = ["valid", "many", "damaged", "z04", "dense"];
 /// Those with CR LF after each segment.
 pub const LINES: [&str; 4] = ["valid_lines", "many_lines", "damaged_lines", "z04_lines"];
+/// With other service characters.
+pub const OTHERS: [&str; 1] = ["valid_other"];
 
 /// A delivery of one kind with at most `size` bytes, filled as far as its messages allow.
 pub fn kind(name: &str, size: usize, seed: u64) -> Vec<u8> {
+    let usual = usual_form(name, size, seed);
     if name.ends_with("_lines") {
-        return in_lines(&without_lines(name, size, seed));
+        return in_lines(&usual);
     }
-    filled(name, size, seed, |message| message.len())
+    match usual.strip_prefix(&una(USUAL)) {
+        Some(sheets) => [&una(*b"*|,!~")[..], &spelled(sheets, *b"*|,!~")].concat(),
+        None => usual,
+    }
 }
 
-/// The same sheets as in `kind` of a name in `LINES`, without the line breaks.
-pub fn without_lines(name: &str, size: usize, seed: u64) -> Vec<u8> {
-    filled(name.trim_end_matches("_lines"), size, seed, |message| in_lines(message).len())
+/// The same sheets as in `kind`: those of `LINES` without the line breaks, those of `OTHERS` with UNA and the usual characters.
+pub fn usual_form(name: &str, size: usize, seed: u64) -> Vec<u8> {
+    match name.split_once('_') {
+        Some((name, "lines")) => filled(name, size, seed, |message| in_lines(message).len()),
+        Some((name, _)) => [&una(USUAL)[..], &filled(name, size - 9, seed, |message| message.len())].concat(),
+        None => filled(name, size, seed, |message| message.len()),
+    }
 }
 
 /// Messages as long as there is room for what each takes.

@@ -4,9 +4,9 @@
 //! into a table that has at least twice as many slots as positions; the segments themselves are compared only where
 //! two hashes are equal.
 
-use crate::cut::{head, tag, tag_of, Class, Part, Scanner};
+use crate::cut::{head, tag, tag_of, Part, Scanner};
+use crate::marks::{Class, Marks};
 use crate::segments::{past_breaks, segment_end};
-use crate::Reading;
 
 /// One position: the hash of what is compared, the place of its LIN, and what 23 would name. PIA and IMD follow LIN.
 #[derive(Clone, Copy)]
@@ -76,7 +76,7 @@ pub struct Positions {
 
 impl Positions {
     /// The first position that agrees with an earlier one.
-    pub fn first_agreeing(&mut self, d: &[u8]) -> Option<Position> {
+    pub fn first_agreeing<M: Marks>(&mut self, marks: M, d: &[u8]) -> Option<Position> {
         if self.all.len() < 2 {
             return None;
         }
@@ -84,17 +84,17 @@ impl Positions {
         self.slots.clear();
         self.slots.resize(1 << bits, 0);
         let (all, slots) = (&self.all, &mut self.slots);
-        all.iter().enumerate().find(|&(at, _)| !enter(d, all, slots, bits, at)).map(|(_, position)| *position)
+        all.iter().enumerate().find(|&(at, _)| !enter(marks, d, all, slots, bits, at)).map(|(_, position)| *position)
     }
 }
 
 /// Puts a position into the table; false if an earlier one agrees. A slot holds a position's number from 1; 0 is an
 /// empty slot.
-fn enter(d: &[u8], all: &[Position], slots: &mut [u32], bits: u32, at: usize) -> bool {
+fn enter<M: Marks>(marks: M, d: &[u8], all: &[Position], slots: &mut [u32], bits: u32, at: usize) -> bool {
     let mask = slots.len() - 1;
     let mut slot = (all[at].hash.wrapping_mul(MIX) >> (64 - bits)) as usize;
     while slots[slot] != 0 {
-        if agree(d, &all[slots[slot] as usize - 1], &all[at]) {
+        if agree(marks, d, &all[slots[slot] as usize - 1], &all[at]) {
             return false;
         }
         slot = (slot + 1) & mask;
@@ -103,29 +103,30 @@ fn enter(d: &[u8], all: &[Position], slots: &mut [u32], bits: u32, at: usize) ->
     true
 }
 
-fn agree(d: &[u8], one: &Position, other: &Position) -> bool {
-    one.hash == other.hash && agree_in_full(d, one.lin as usize, other.lin as usize)
+fn agree<M: Marks>(marks: M, d: &[u8], one: &Position, other: &Position) -> bool {
+    one.hash == other.hash && agree_in_full(marks, d, one.lin as usize, other.lin as usize)
 }
 
 #[cold]
-fn agree_in_full(d: &[u8], one: usize, other: usize) -> bool {
-    let (one_pia, one_imd) = belonging(d, one);
-    let (other_pia, other_imd) = belonging(d, other);
-    same_segment(d, Some(one), Some(other), 2) && same_segment(d, one_pia, other_pia, 1) && same_segment(d, one_imd, other_imd, 1)
+fn agree_in_full<M: Marks>(marks: M, d: &[u8], one: usize, other: usize) -> bool {
+    let (one_pia, one_imd) = belonging(marks, d, one);
+    let (other_pia, other_imd) = belonging(marks, d, other);
+    let same = |one, other, from_element| same_segment(marks, d, one, other, from_element);
+    same(Some(one), Some(other), 2) && same(one_pia, other_pia, 1) && same(one_imd, other_imd, 1)
 }
 
 /// The places of PIA and IMD behind a LIN, where they stand.
-fn belonging(d: &[u8], lin: usize) -> (Option<usize>, Option<usize>) {
-    let next = next_segment(d, lin);
+fn belonging<M: Marks>(marks: M, d: &[u8], lin: usize) -> (Option<usize>, Option<usize>) {
+    let next = next_segment(marks, d, lin);
     if tag_of(head(d, next)) != tag(b"PIA") {
         return (None, imd_at(d, next));
     }
-    (Some(next), imd_at(d, next_segment(d, next)))
+    (Some(next), imd_at(d, next_segment(marks, d, next)))
 }
 
 /// Where the next segment begins. The message has no fault, so a break between two segments is one that is skipped.
-fn next_segment(d: &[u8], at: usize) -> usize {
-    past_breaks(Reading::usual(), d, segment_end(d, at))
+fn next_segment<M: Marks>(marks: M, d: &[u8], at: usize) -> usize {
+    past_breaks(true, d, segment_end(marks, d, at))
 }
 
 fn imd_at(d: &[u8], at: usize) -> Option<usize> {
@@ -133,27 +134,27 @@ fn imd_at(d: &[u8], at: usize) -> Option<usize> {
 }
 
 /// Whether two segments agree from an element on. A missing segment agrees with a missing one alone.
-fn same_segment(d: &[u8], one: Option<usize>, other: Option<usize>, from_element: usize) -> bool {
+fn same_segment<M: Marks>(marks: M, d: &[u8], one: Option<usize>, other: Option<usize>, from_element: usize) -> bool {
     match (one, other) {
-        (Some(one), Some(other)) => contents(d, one, from_element).eq(contents(d, other, from_element)),
+        (Some(one), Some(other)) => contents(marks, d, one, from_element).eq(contents(marks, d, other, from_element)),
         _ => one == other,
     }
 }
 
 /// Every decoded byte of a segment with its element and component. Empty components give nothing, so it makes no
 /// difference whether they stand or are missing.
-fn contents(d: &[u8], at: usize, from_element: usize) -> impl Iterator<Item = (usize, usize, u8)> + '_ {
-    parts(d, at).filter(move |(element, _, _)| *element >= from_element).flat_map(move |(element, component, part)| {
-        crate::text::decoded(&d[part.from..part.to]).map(move |byte| (element, component, byte))
+fn contents<M: Marks>(marks: M, d: &[u8], at: usize, from_element: usize) -> impl Iterator<Item = (usize, usize, u8)> + use<'_, M> {
+    parts(marks, d, at).filter(move |(element, _, _)| *element >= from_element).flat_map(move |(element, component, part)| {
+        crate::text::decoded(marks.release(), &d[part.from..part.to]).map(move |byte| (element, component, byte))
     })
 }
 
 /// The components behind the tag, with their element and component from 1.
-fn parts(d: &[u8], at: usize) -> impl Iterator<Item = (usize, usize, Part)> + '_ {
+fn parts<M: Marks>(marks: M, d: &[u8], at: usize) -> impl Iterator<Item = (usize, usize, Part)> + use<'_, M> {
     let mut place = at + 4;
-    let mut scanner = Scanner::new(d, place);
+    let mut scanner = Scanner::new(marks, d, place);
     let (mut element, mut component) = (1, 0);
-    let mut is_over = d.get(place - 1) == Some(&b'\'');
+    let mut is_over = d.get(place - 1) == Some(&marks.terminator());
     std::iter::from_fn(move || {
         if is_over {
             return None;
@@ -163,8 +164,8 @@ fn parts(d: &[u8], at: usize) -> impl Iterator<Item = (usize, usize, Part)> + '_
         let found = (element, component, part);
         place = part.to + 1;
         match part.stop {
-            Class::Colon => {}
-            Class::Plus => (element, component) = (element + 1, 0),
+            Class::Component => {}
+            Class::Element => (element, component) = (element + 1, 0),
             _ => is_over = true,
         }
         Some(found)

@@ -1,43 +1,12 @@
 //! What bytes mean inside a segment, and its parts one after the other. Nothing here knows the guide.
 
+use crate::marks::{Class, Marks};
 use crate::segments::is_break_at;
 
+pub const UNA: u32 = tag(b"UNA");
 pub const UNH: u32 = tag(b"UNH");
 pub const UNT: u32 = tag(b"UNT");
 pub const UNZ: u32 = tag(b"UNZ");
-
-/// What a byte means inside a segment.
-#[derive(Clone, Copy, PartialEq, Eq)]
-pub enum Class {
-    /// An allowed byte that separates nothing.
-    Text,
-    Colon,
-    Plus,
-    Terminator,
-    Release,
-    /// Not in 32 to 126 or 160 to 255.
-    NotAllowed,
-    /// No byte at all: the delivery ends.
-    End,
-}
-
-static CLASSES: [Class; 256] = classes();
-
-const fn classes() -> [Class; 256] {
-    let mut all = [Class::Text; 256];
-    let mut byte = 0;
-    while byte < 256 {
-        if byte < 32 || (byte > 126 && byte < 160) {
-            all[byte] = Class::NotAllowed;
-        }
-        byte += 1;
-    }
-    all[b':' as usize] = Class::Colon;
-    all[b'+' as usize] = Class::Plus;
-    all[b'\'' as usize] = Class::Terminator;
-    all[b'?' as usize] = Class::Release;
-    all
-}
 
 /// The three bytes of a tag as one number, as `head` gives them.
 pub const fn tag(letters: &[u8; 3]) -> u32 {
@@ -99,16 +68,18 @@ pub fn may_be_no_segment(head: u32) -> bool {
     matches!(head as u8, 0..=b'\r' | b'U')
 }
 
-/// Three capital letters followed by `+` or `'`.
+/// Three capital letters followed by an element separator or a terminator.
 #[inline(always)]
-pub fn is_well_begun(head: u32) -> bool {
+pub fn is_well_begun<M: Marks>(marks: M, head: u32) -> bool {
     let [a, b, c, fourth] = head.to_le_bytes();
-    a.is_ascii_uppercase() && b.is_ascii_uppercase() && c.is_ascii_uppercase() && (fourth == b'+' || fourth == b'\'')
+    let is_tag = a.is_ascii_uppercase() && b.is_ascii_uppercase() && c.is_ascii_uppercase();
+    is_tag && (fourth == marks.element() || fourth == marks.terminator())
 }
 
 /// Finds the bytes that mean something, sixty-four at a time: a bit for every byte whose class is not `Text`.
 #[derive(Clone, Copy)]
-pub struct Scanner<'a> {
+pub struct Scanner<'a, M> {
+    marks: M,
     d: &'a [u8],
     /// Where the current block begins.
     block: usize,
@@ -118,11 +89,11 @@ pub struct Scanner<'a> {
 
 const BLOCK: usize = 64;
 
-impl<'a> Scanner<'a> {
+impl<'a, M: Marks> Scanner<'a, M> {
     /// A scanner for what stands at `from` or behind it.
-    pub fn new(d: &'a [u8], from: usize) -> Scanner<'a> {
+    pub fn new(marks: M, d: &'a [u8], from: usize) -> Scanner<'a, M> {
         let block = from - from % BLOCK;
-        Scanner { d, block, left: meaning_bits(d, block) & (u64::MAX << (from % BLOCK)) }
+        Scanner { marks, d, block, left: meaning_bits(marks, d, block) & (u64::MAX << (from % BLOCK)) }
     }
 
     /// The place of the next byte that is no `Text`, or the delivery's end. Each is given once.
@@ -133,7 +104,7 @@ impl<'a> Scanner<'a> {
             if self.block >= self.d.len() {
                 return self.d.len();
             }
-            self.left = meaning_bits(self.d, self.block);
+            self.left = meaning_bits(self.marks, self.d, self.block);
         }
         let at = self.block + self.left.trailing_zeros() as usize;
         self.left &= self.left - 1;
@@ -142,7 +113,7 @@ impl<'a> Scanner<'a> {
 
     /// The place behind the breaks that stand at `at`, which is where the scanner stands, and the scanner there.
     #[inline(always)]
-    pub fn past_breaks(mut self, at: usize) -> (usize, Scanner<'a>) {
+    pub fn past_breaks(mut self, at: usize) -> (usize, Scanner<'a, M>) {
         let mut at = at;
         while is_break_at(self.d, at) {
             at += 1;
@@ -151,7 +122,7 @@ impl<'a> Scanner<'a> {
             self.left &= u64::MAX << (at - self.block);
             (at, self)
         } else {
-            (at, Scanner::new(self.d, at))
+            (at, Scanner::new(self.marks, self.d, at))
         }
     }
 
@@ -159,7 +130,7 @@ impl<'a> Scanner<'a> {
     #[inline(always)]
     pub fn part(&mut self, from: usize) -> Part {
         let to = self.next();
-        match class_at(self.d, to) {
+        match self.class_at(to) {
             Class::Release => {
                 // By value, so that a scanner on the usual way can stay in registers.
                 let (part, scanner) = self.released_part(from, to);
@@ -172,11 +143,11 @@ impl<'a> Scanner<'a> {
 
     /// As `part`, for a component whose first release is at `release`; with the scanner behind it.
     #[inline(never)]
-    fn released_part(mut self, from: usize, release: usize) -> (Part, Scanner<'a>) {
+    fn released_part(mut self, from: usize, release: usize) -> (Part, Scanner<'a, M>) {
         let mut to = release;
         let mut releases = 0;
-        while class_at(self.d, to) == Class::Release {
-            match class_at(self.d, to + 1) {
+        while self.class_at(to) == Class::Release {
+            match self.class_at(to + 1) {
                 Class::End => return (Part { from, to: self.d.len(), releases, stop: Class::End }, self),
                 Class::NotAllowed => return (Part { from, to: to + 1, releases, stop: Class::NotAllowed }, self),
                 Class::Text => {}
@@ -188,39 +159,41 @@ impl<'a> Scanner<'a> {
             releases += 1;
             to = self.next();
         }
-        (Part { from, to, releases, stop: class_at(self.d, to) }, self)
+        (Part { from, to, releases, stop: self.class_at(to) }, self)
     }
-}
 
-#[inline(always)]
-fn class_at(d: &[u8], at: usize) -> Class {
-    d.get(at).map_or(Class::End, |&byte| CLASSES[byte as usize])
+    #[inline(always)]
+    fn class_at(&self, at: usize) -> Class {
+        self.d.get(at).map_or(Class::End, |&byte| self.marks.class(byte))
+    }
 }
 
 /// A bit for each byte of a block that is no `Text`; none for bytes behind the end.
 #[inline(always)]
-fn meaning_bits(d: &[u8], block: usize) -> u64 {
+fn meaning_bits<M: Marks>(marks: M, d: &[u8], block: usize) -> u64 {
     match d.get(block..block + BLOCK) {
-        Some(bytes) => bits(bytes.try_into().unwrap()),
-        None => last_bits(d, block),
+        Some(bytes) => bits(marks, bytes.try_into().unwrap()),
+        None => last_bits(marks, d, block),
     }
 }
 
+/// A blank serves nowhere, so it may stand for the bytes that are missing.
 #[cold]
-fn last_bits(d: &[u8], block: usize) -> u64 {
+fn last_bits<M: Marks>(marks: M, d: &[u8], block: usize) -> u64 {
     let mut bytes = [b' '; BLOCK];
     let rest = &d[block..];
     bytes[..rest.len()].copy_from_slice(rest);
-    bits(&bytes)
+    bits(marks, &bytes)
 }
 
 /// Written so that the compiler compares many bytes at once; the product gathers eight flags into eight bits.
 #[inline(always)]
-fn bits(bytes: &[u8; BLOCK]) -> u64 {
+fn bits<M: Marks>(marks: M, bytes: &[u8; BLOCK]) -> u64 {
     const GATHER: u64 = 0x0102_0408_1020_4080;
+    let (component, element, terminator, release) = (marks.component(), marks.element(), marks.terminator(), marks.release());
     let mut flags = [0u8; BLOCK];
     for (flag, &byte) in flags.iter_mut().zip(bytes) {
-        let is_separator = (byte == b':') | (byte == b'+') | (byte == b'\'') | (byte == b'?');
+        let is_separator = (byte == component) | (byte == element) | (byte == terminator) | (byte == release);
         *flag = (is_separator | (byte & 0x7f < 32) | (byte == 127)) as u8;
     }
     let mut bits = 0;
@@ -238,17 +211,17 @@ pub struct Tail {
 }
 
 #[cold]
-pub fn tail(d: &[u8], from: usize) -> Tail {
+pub fn tail<M: Marks>(marks: M, d: &[u8], from: usize) -> Tail {
     let mut has_byte_not_allowed = false;
     let mut at = from;
     while let Some(&byte) = d.get(at) {
-        match CLASSES[byte as usize] {
+        match marks.class(byte) {
             Class::Terminator => return Tail { next: at + 1, is_piece: false, has_byte_not_allowed },
             Class::NotAllowed => has_byte_not_allowed = true,
             Class::Release => {
                 // The released byte is literal, but still has to be an allowed one.
                 at += 1;
-                if d.get(at).is_some_and(|&byte| CLASSES[byte as usize] == Class::NotAllowed) {
+                if d.get(at).is_some_and(|&byte| marks.class(byte) == Class::NotAllowed) {
                     has_byte_not_allowed = true;
                 }
             }

@@ -7,12 +7,12 @@ mod components;
 
 use crate::agree::{Position, Positions, FIRST_HASH};
 use crate::answers::{Judged, Price, Prices, Verdict};
-use crate::cut::{self, Class, Part, Scanner, UNH, UNT, UNZ};
+use crate::cut::{self, Part, Scanner, UNH, UNT, UNZ};
 use crate::edition::{Edition, OF_20D};
 use crate::guide::{self, bit, AFTER, BELOW, INTERVAL, NEEDED, NODES};
+use crate::marks::{Class, Marks, Syntax};
 use crate::segments::{before_breaks, is_break_at, rest_of_message};
 use crate::text::{self, Number, Room};
-use crate::Reading;
 
 /// A fault with the node it names, and the place from which its segment was not looked at yet.
 struct Fault {
@@ -24,8 +24,8 @@ struct Fault {
 const NO_PART: Part = Part { from: 0, to: 0, releases: 0, stop: Class::End };
 
 /// What is known of the message so far.
-struct Sheet<'a, P> {
-    reading: Reading,
+struct Sheet<'a, M, P> {
+    y: Syntax<M>,
     d: &'a [u8],
     prices: &'a mut P,
     positions: &'a mut Positions,
@@ -52,16 +52,17 @@ struct Sheet<'a, P> {
     room: Room,
 }
 
-/// Judges the message that begins at `start`.
-pub fn judge<P: Prices>(reading: Reading, d: &[u8], start: usize, positions: &mut Positions, prices: &mut P) -> Judged {
+/// Judges the message that begins at `start`. It stays a function of its own: put into the call that hands out prices it takes a tenth longer.
+#[inline(never)]
+pub fn judge<M: Marks, P: Prices>(y: Syntax<M>, d: &[u8], start: usize, positions: &mut Positions, prices: &mut P) -> Judged {
     positions.all.clear();
-    let mut sheet = Sheet::new(reading, d, positions, prices);
-    let mut scanner = Scanner::new(d, start);
+    let mut sheet = Sheet::new(y, d, positions, prices);
+    let mut scanner = Scanner::new(y.marks, d, start);
     let mut at = start;
     loop {
         let mut head = cut::head(d, at);
         if sheet.segment != 0 && cut::may_be_no_segment(head) {
-            if reading.skips && is_break_at(d, at) {
+            if y.skips && is_break_at(d, at) {
                 (at, scanner) = scanner.past_breaks(at);
                 head = cut::head(d, at);
             }
@@ -84,10 +85,10 @@ fn refused(number: u32, segment: usize, place: usize, node: usize) -> Verdict {
     Verdict::Refused { number, segment, place, node }
 }
 
-impl<'a, P: Prices> Sheet<'a, P> {
-    fn new(reading: Reading, d: &'a [u8], positions: &'a mut Positions, prices: &'a mut P) -> Sheet<'a, P> {
+impl<'a, M: Marks, P: Prices> Sheet<'a, M, P> {
+    fn new(y: Syntax<M>, d: &'a [u8], positions: &'a mut Positions, prices: &'a mut P) -> Sheet<'a, M, P> {
         Sheet {
-            reading,
+            y,
             d,
             prices,
             positions,
@@ -113,19 +114,19 @@ impl<'a, P: Prices> Sheet<'a, P> {
     /// 12 and 10 come before any other fault of a segment; then what follows in the message is passed over.
     #[cold]
     fn refuse(&self, at: usize, tag: u32, fault: Fault) -> Judged {
-        let tail = cut::tail(self.d, fault.from);
+        let tail = cut::tail(self.y.marks, self.d, fault.from);
         let (number, node) = match (tail.is_piece, tail.has_byte_not_allowed) {
             (true, _) => (12, 0),
             (_, true) => (10, 0),
             _ => (fault.number, self.edition.number(fault.node)),
         };
-        let end = if tag == UNT { tail.next } else { rest_of_message(self.reading, self.d, tail.next) };
+        let end = if tag == UNT { tail.next } else { rest_of_message(self.y, self.d, tail.next) };
         Judged { verdict: refused(number, self.segment, at, node), end }
     }
 
     /// All else holds: 23 or accepted.
     fn verdict(&mut self, end: usize) -> Verdict {
-        match self.positions.first_agreeing(self.d) {
+        match self.positions.first_agreeing(self.y.marks, self.d) {
             Some(position) => refused(23, position.segment(), position.lin as usize, self.edition.number(position.node())),
             None => Verdict::Accepted { segments: self.segment, end },
         }
@@ -133,11 +134,11 @@ impl<'a, P: Prices> Sheet<'a, P> {
 
     /// Judges one segment and gives the place behind it.
     #[inline(always)]
-    fn segment(&mut self, scanner: &mut Scanner, at: usize, head: u32) -> Result<usize, Fault> {
-        if !cut::is_well_begun(head) {
+    fn segment(&mut self, scanner: &mut Scanner<M>, at: usize, head: u32) -> Result<usize, Fault> {
+        if !cut::is_well_begun(self.y.marks, head) {
             return Err(Fault { number: 11, node: 0, from: at });
         }
-        let first = first_part(scanner, at, head);
+        let first = first_part(self.y.marks, scanner, at, head);
         if first.is_broken() {
             return Err(Fault { number: 10, node: 0, from: first.to });
         }
@@ -152,7 +153,7 @@ impl<'a, P: Prices> Sheet<'a, P> {
     /// The node for a tag and code, or 13.
     #[inline(always)]
     fn choose(&self, tag: u32, first: &Part) -> Result<usize, Fault> {
-        let nodes = guide::nodes_of(tag, || text::key_of(self.d, first)) & AFTER[self.last] & self.edition.nodes;
+        let nodes = guide::nodes_of(tag, || self.key_of(first)) & AFTER[self.last] & self.edition.nodes;
         if nodes == 0 {
             return Err(Fault { number: 13, node: 0, from: first.to });
         }
@@ -185,7 +186,8 @@ impl<'a, P: Prices> Sheet<'a, P> {
 
     /// The first or second interval of a price: not the same code twice.
     fn interval(&mut self, count: u32, first: &Part) -> Result<(), Fault> {
-        let earlier = std::mem::replace(&mut self.interval, text::key_of(self.d, first));
+        let code = self.key_of(first);
+        let earlier = std::mem::replace(&mut self.interval, code);
         if count > 1 && earlier == self.interval {
             return Err(Fault { number: 25, node: INTERVAL, from: first.to });
         }
@@ -250,16 +252,22 @@ impl<'a, P: Prices> Sheet<'a, P> {
 
     /// UNT's count is the count of segments, and its reference UNH's.
     fn is_counted_right(&self) -> bool {
-        self.count.is_plain && self.count.amount == self.segment as i64 && text::same(self.d, &self.reference, &self.last_reference)
+        let is_same = |reference| text::same(self.y.marks.release(), self.d, reference, &self.last_reference);
+        self.count.is_plain && self.count.amount == self.segment as i64 && is_same(&self.reference)
+    }
+
+    #[inline(always)]
+    fn key_of(&self, part: &Part) -> u64 {
+        text::key_of(self.y.marks.release(), self.d, part)
     }
 }
 
 /// The first component of the first element; a segment of the tag alone has an empty one.
 #[inline(always)]
-fn first_part(scanner: &mut Scanner, at: usize, head: u32) -> Part {
+fn first_part<M: Marks>(marks: M, scanner: &mut Scanner<M>, at: usize, head: u32) -> Part {
     // The byte behind the tag.
     scanner.next();
-    if head >> 24 == b'\'' as u32 {
+    if head >> 24 == marks.terminator() as u32 {
         return Part { from: at + 3, to: at + 3, releases: 0, stop: Class::Terminator };
     }
     scanner.part(at + 4)

@@ -13,6 +13,9 @@ pub trait Library {
 
     /// One step of the segment reader from a place: start, end and whether it is a piece.
     fn segment_at(&self, reading: Reading, d: &[u8], at: usize) -> Option<(usize, usize, bool)>;
+
+    /// A part of the delivery without its release marks, as far as `out` has room, and how many bytes it has.
+    fn without_releases(&self, reading: Reading, d: &[u8], place: usize, count: usize, out: &mut [u8]) -> usize;
 }
 
 /// This reader.
@@ -45,5 +48,9 @@ impl Library for Plain {
 
     fn segment_at(&self, reading: Reading, d: &[u8], at: usize) -> Option<(usize, usize, bool)> {
         reader::segment_at(reading, d, at)
+    }
+
+    fn without_releases(&self, reading: Reading, d: &[u8], place: usize, count: usize, out: &mut [u8]) -> usize {
+        reader::without_releases(reading, d, place, count, out)
     }
 }

@@ -4,7 +4,9 @@ use crate::agree::Positions;
 use crate::answers::{Judged, NoPrices, Price, Prices, Verdict};
 use crate::cut;
 use crate::judge::judge;
-use crate::segments::{self, past_breaks, rest_of_message, segment_end};
+use crate::marks::{with_syntax, Marks, Syntax};
+use crate::segments::{self, admitted, past_breaks, rest_of_message, segment_end};
+use crate::text::decoded;
 use crate::Reading;
 
 #[derive(Clone, Copy, PartialEq, Eq, Debug)]
@@ -27,31 +29,37 @@ pub const WIDTH: usize = 8;
 
 /// Messages, accepted, segments outside; or refusal 1 or 2.
 pub fn survey(reading: Reading, d: &[u8]) -> Result<Survey, u32> {
-    let mut at = past_breaks(reading, d, segments::front(reading, d)?);
+    let admitted = admitted(reading, d)?;
+    Ok(with_syntax!(admitted, y => counts(y, d, admitted.front)))
+}
+
+fn counts<M: Marks>(y: Syntax<M>, d: &[u8], front: usize) -> Survey {
+    let mut at = past_breaks(y.skips, d, front);
     let mut survey = Survey { messages: 0, accepted: 0, outside: 0 };
     let mut positions = Positions::default();
     while at < d.len() {
         if cut::tag_of(cut::head(d, at)) != cut::UNH {
             survey.outside += 1;
-            at = past_breaks(reading, d, segment_end(d, at));
+            at = past_breaks(y.skips, d, segment_end(y.marks, d, at));
             continue;
         }
-        let judged = judge(reading, d, at, &mut positions, &mut NoPrices);
+        let judged = judge(y, d, at, &mut positions, &mut NoPrices);
         survey.messages += 1;
         survey.accepted += is_accepted(&judged.verdict) as usize;
-        at = past_breaks(reading, d, judged.end);
+        at = past_breaks(y.skips, d, judged.end);
     }
-    Ok(survey)
+    survey
 }
 
 /// The next segment for a reader at a place: start, end and whether it is a piece. None on a delivery that is not admitted;
 /// a place in UNA or before it is before the first.
 pub fn segment_at(reading: Reading, d: &[u8], at: usize) -> Option<(usize, usize, bool)> {
-    let start = past_breaks(reading, d, at.max(segments::front(reading, d).ok()?));
+    let admitted = admitted(reading, d).ok()?;
+    let start = past_breaks(admitted.skips, d, at.max(admitted.front));
     if start >= d.len() {
         return None;
     }
-    let (end, is_piece) = segments::segment_at(d, start);
+    let (end, is_piece) = with_syntax!(admitted, y => segments::segment_at(y.marks, d, start));
     Some((start, end, is_piece))
 }
 
@@ -61,14 +69,18 @@ pub fn is_accepted(verdict: &Verdict) -> bool {
 
 /// The first message that begins at `from` or later: its start and end.
 pub fn next_message(reading: Reading, d: &[u8], from: usize) -> Option<(usize, usize)> {
-    let front = segments::front(reading, d).ok()?;
-    let mut at = segments::segment_from(reading, d, front, from)?;
+    let admitted = admitted(reading, d).ok()?;
+    with_syntax!(admitted, y => next_from(y, d, admitted.front, from))
+}
+
+fn next_from<M: Marks>(y: Syntax<M>, d: &[u8], front: usize, from: usize) -> Option<(usize, usize)> {
+    let mut at = segments::segment_from(y, d, front, from)?;
     while at < d.len() {
-        let end = segment_end(d, at);
+        let end = segment_end(y.marks, d, at);
         if cut::tag_of(cut::head(d, at)) == cut::UNH {
-            return Some((at, rest_of_message(reading, d, end)));
+            return Some((at, rest_of_message(y, d, end)));
         }
-        at = past_breaks(reading, d, end);
+        at = past_breaks(y.skips, d, end);
     }
     None
 }
@@ -83,11 +95,15 @@ pub fn judge_at(reading: Reading, d: &[u8], at: usize) -> Verdict {
 
 /// 1, 2 and 31, else the judged message.
 fn judge_with<P: Prices>(reading: Reading, d: &[u8], at: usize, prices: &mut P) -> Result<Judged, u32> {
-    let front = segments::front(reading, d)?;
-    if !segments::begins_message(reading, d, front, at) {
+    let admitted = admitted(reading, d)?;
+    with_syntax!(admitted, y => judge_in(y, d, admitted.front, at, prices))
+}
+
+fn judge_in<M: Marks, P: Prices>(y: Syntax<M>, d: &[u8], front: usize, at: usize, prices: &mut P) -> Result<Judged, u32> {
+    if !segments::begins_message(y, d, front, at) {
         return Err(31);
     }
-    Ok(judge(reading, d, at, &mut Positions::default(), prices))
+    Ok(judge(y, d, at, &mut Positions::default(), prices))
 }
 
 /// As `judge_with`, with 30 for a refused message.
@@ -178,4 +194,17 @@ impl Prices for One {
     }
 
     fn range(&mut self, _: usize) {}
+}
+
+/// The part of a delivery from `place` on, `count` bytes as far as they stand, without the release marks in it: into `out`, as many as fit.
+/// Gives how many bytes it has; 0 for a delivery that gets 1 or 2. A release that nothing follows in the part is a mark too.
+pub fn without_releases(reading: Reading, d: &[u8], place: usize, count: usize, out: &mut [u8]) -> usize {
+    let Ok(admitted) = admitted(reading, d) else { return 0 };
+    let rest = d.get(place..).unwrap_or(&[]);
+    let part = &rest[..count.min(rest.len())];
+    let release = with_syntax!(admitted, y => y.marks.release());
+    for (slot, byte) in out.iter_mut().zip(decoded(release, part)) {
+        *slot = byte;
+    }
+    decoded(release, part).count()
 }

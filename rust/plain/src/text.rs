@@ -18,13 +18,13 @@ pub const fn key(text: &[u8]) -> u64 {
 
 /// The key of a component, releases removed; 0, which no code has, for more than eight bytes.
 #[inline(always)]
-pub fn key_of(d: &[u8], part: &Part) -> u64 {
+pub fn key_of(release: u8, d: &[u8], part: &Part) -> u64 {
     let length = part.length();
     if length == 0 || length > 8 {
         return 0;
     }
     if part.releases != 0 {
-        return slow_key(d, part);
+        return slow_key(release, d, part);
     }
     match d.get(part.from..part.from + 8) {
         // The bytes behind the component are masked off.
@@ -34,19 +34,19 @@ pub fn key_of(d: &[u8], part: &Part) -> u64 {
 }
 
 #[cold]
-fn slow_key(d: &[u8], part: &Part) -> u64 {
+fn slow_key(release: u8, d: &[u8], part: &Part) -> u64 {
     let mut all = 0;
-    for (at, byte) in decoded(&d[part.from..part.to]).enumerate() {
+    for (at, byte) in decoded(release, &d[part.from..part.to]).enumerate() {
         all |= (byte as u64) << (8 * at);
     }
     all
 }
 
 /// The bytes of a text with its releases removed.
-pub fn decoded(text: &[u8]) -> impl Iterator<Item = u8> + '_ {
+pub fn decoded(release: u8, text: &[u8]) -> impl Iterator<Item = u8> + '_ {
     let mut rest = text.iter();
     std::iter::from_fn(move || match rest.next() {
-        Some(b'?') => rest.next().copied(),
+        Some(&byte) if byte == release => rest.next().copied(),
         other => other.copied(),
     })
 }
@@ -61,17 +61,17 @@ impl Room {
 
     /// The component with its releases removed; the delivery's own bytes if it has none.
     #[inline(always)]
-    pub fn decode<'a>(&'a mut self, d: &'a [u8], part: &Part) -> &'a [u8] {
+    pub fn decode<'a>(&'a mut self, release: u8, d: &'a [u8], part: &Part) -> &'a [u8] {
         if part.releases == 0 {
             return &d[part.from..part.to];
         }
-        self.copy(&d[part.from..part.to])
+        self.copy(release, &d[part.from..part.to])
     }
 
     #[cold]
-    fn copy(&mut self, text: &[u8]) -> &[u8] {
+    fn copy(&mut self, release: u8, text: &[u8]) -> &[u8] {
         let mut length = 0;
-        for (slot, byte) in self.0.iter_mut().zip(decoded(text)) {
+        for (slot, byte) in self.0.iter_mut().zip(decoded(release, text)) {
             *slot = byte;
             length += 1;
         }
@@ -89,9 +89,9 @@ pub struct Number {
     pub is_plain: bool,
 }
 
-/// An optional `-`, digits, optionally `.` with digits. The amount is meaningless beyond eighteen digits.
+/// An optional `-`, digits, optionally the decimal mark with digits. The amount is meaningless beyond eighteen digits.
 #[inline]
-pub fn number(text: &[u8]) -> Option<Number> {
+pub fn number(decimal: u8, text: &[u8]) -> Option<Number> {
     let (is_negative, rest) = match text {
         [b'-', rest @ ..] => (true, rest),
         _ => (false, text),
@@ -114,7 +114,7 @@ pub fn number(text: &[u8]) -> Option<Number> {
             let is_plain = !is_negative && rest[0] != b'0';
             Some(Number { digits: rest.len(), amount, decimals: 0, is_plain })
         }
-        1 if rest[mark] == b'.' && mark > 0 && mark + 1 < rest.len() => {
+        1 if rest[mark] == decimal && mark > 0 && mark + 1 < rest.len() => {
             Some(Number { digits: rest.len() - 1, amount, decimals: rest.len() - 1 - mark, is_plain: false })
         }
         _ => None,
@@ -122,7 +122,7 @@ pub fn number(text: &[u8]) -> Option<Number> {
 }
 
 /// Whether two components are equal, releases removed.
-pub fn same(d: &[u8], one: &Part, other: &Part) -> bool {
+pub fn same(release: u8, d: &[u8], one: &Part, other: &Part) -> bool {
     let (one, other) = (&d[one.from..one.to], &d[other.from..other.to]);
-    one == other || decoded(one).eq(decoded(other))
+    one == other || decoded(release, one).eq(decoded(release, other))
 }

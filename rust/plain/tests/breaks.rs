@@ -104,8 +104,8 @@ fn strict_is_to_the_byte() {
     assert_eq!(judge_at(STRICT, &d, 0), Verdict::Accepted { segments: 12, end });
     let d = laid_out("\r\n").into_bytes();
     assert_eq!(judge_at(STRICT, &d, 0), Verdict::Refused { number: 10, segment: 2, place: 27, node: 0 });
-    assert_eq!((survey(USUAL, b"\nUNA:+,? '"), survey(USUAL, b"\nUNA")), (Err(2), Err(2)));
-    assert_eq!(survey(STRICT, b"\nUNA:+,? '"), Ok(Survey { messages: 0, accepted: 0, outside: 1 }));
+    assert_eq!((survey(USUAL, b"\nUNA:+.?,'"), survey(USUAL, b"\nUNA")), (Err(2), Err(2)));
+    assert_eq!(survey(STRICT, b"\nUNA:+.?,'"), Ok(Survey { messages: 0, accepted: 0, outside: 1 }));
 }
 
 #[test]

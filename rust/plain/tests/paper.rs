@@ -45,5 +45,5 @@ fn the_limit() {
     assert_eq!(survey(USUAL, &d), Err(1));
     assert_eq!(survey(USUAL, &d[1..]), Ok(Survey { messages: 0, accepted: 0, outside: 1 }));
     assert_eq!(report(USUAL, &d), b"X 1\n");
-    assert_eq!(report(USUAL, b"UNA:+,? '"), b"X 2\n");
+    assert_eq!(report(USUAL, b"UNA:+.?,'"), b"X 2\n");
 }

@@ -6,10 +6,11 @@ pub struct Proved;
 
 /// The library's own value for a reading.
 fn own(reading: Reading) -> schaumtruhe::Reading {
-    match reading.skips {
+    let own = match reading.skips {
         true => schaumtruhe::Reading::usual(),
         false => schaumtruhe::Reading::strict(),
-    }
+    };
+    own.with_characters(reading.characters)
 }
 
 impl Library for Proved {
@@ -54,5 +55,9 @@ impl Library for Proved {
     fn segment_at(&self, reading: Reading, d: &[u8], at: usize) -> Option<(usize, usize, bool)> {
         let segment = schaumtruhe::segment_at(own(reading), d, at);
         (segment.found == 1).then_some((segment.start, segment.end, segment.piece == 1))
+    }
+
+    fn without_releases(&self, reading: Reading, d: &[u8], place: usize, count: usize, out: &mut [u8]) -> usize {
+        schaumtruhe::plain(own(reading), d, place, count, out)
     }
 }

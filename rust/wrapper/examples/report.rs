@@ -1,30 +1,22 @@
 //! Reads a file and prints what the checking program of document 01 prints, or with -s its segments, as `examples/example.c` does; --strict before
-//! that reads strictly.
+//! that reads strictly, --characters and five bytes hand these in.
 use std::env;
+use std::ffi::OsString;
 use std::fs;
 use std::io::{self, BufWriter, Write};
+use std::os::unix::ffi::OsStrExt;
 
 use schaumtruhe::{Reading, PRICE};
 
-/// An article without its release marks; `-` if it is absent.
-fn plain(article: &[u8]) -> Vec<u8> {
-    let mut out = Vec::new();
-    let mut rest = article.iter();
-    while let Some(&byte) = rest.next() {
-        out.push(if byte == b'?' { *rest.next().unwrap_or(&byte) } else { byte });
+/// The article of a price without its release marks; `-` if it is absent. The row has its place in the message and its length.
+fn article(reading: Reading, delivery: &[u8], message: usize, price: &[i64]) -> Vec<u8> {
+    if price[2] == 0 {
+        return b"-".to_vec();
     }
-    if out.is_empty() {
-        out.push(b'-');
-    }
+    let mut out = vec![0; price[2] as usize];
+    let length = schaumtruhe::plain(reading, delivery, message + price[1] as usize, price[2] as usize, &mut out);
+    out.truncate(length);
     out
-}
-
-/// The part of the delivery that is a price's article: the row has its place in the message and its length.
-fn article<'a>(delivery: &'a [u8], message: usize, price: &[i64]) -> &'a [u8] {
-    match price[1] {
-        -1 => b"",
-        place => &delivery[message + place as usize..][..price[2] as usize],
-    }
 }
 
 fn print_prices(out: &mut impl Write, reading: Reading, delivery: &[u8], at: usize) -> io::Result<()> {
@@ -33,7 +25,7 @@ fn print_prices(out: &mut impl Write, reading: Reading, delivery: &[u8], at: usi
     schaumtruhe::prices(reading, delivery, at, 0, &mut row);
     for price in row.chunks_exact(PRICE) {
         write!(out, "P {} ", price[0])?;
-        out.write_all(&plain(article(delivery, at, price)))?;
+        out.write_all(&article(reading, delivery, at, price))?;
         writeln!(out, " {} {}", price[3], price[4])?;
     }
     Ok(())
@@ -65,18 +57,25 @@ fn print_segments(out: &mut impl Write, reading: Reading, delivery: &[u8]) -> io
     Ok(())
 }
 
-fn main() -> io::Result<()> {
-    let words: Vec<String> = env::args().skip(1).collect();
-    let words: Vec<&str> = words.iter().map(String::as_str).collect();
-    let (reading, words) = match &words[..] {
-        ["--strict", rest @ ..] => (Reading::strict(), rest),
-        rest => (Reading::usual(), rest),
+/// The reading that the first words ask for, and the words behind them; none if there are not five characters.
+fn reading(words: &[OsString]) -> Option<(Reading, &[OsString])> {
+    let (reading, words) = match words {
+        [first, rest @ ..] if first == "--strict" => (Reading::strict(), rest),
+        _ => (Reading::usual(), words),
     };
-    let mut out = BufWriter::new(io::stdout().lock());
     match words {
-        ["-s", name] => print_segments(&mut out, reading, &fs::read(name)?)?,
-        [name] => print_report(&mut out, reading, &fs::read(name)?)?,
-        _ => return Err(io::Error::other("usage: report [--strict] [-s] FILE")),
+        [word, five, rest @ ..] if word == "--characters" => Some((reading.with_characters(five.as_bytes().try_into().ok()?), rest)),
+        _ => Some((reading, words)),
+    }
+}
+
+fn main() -> io::Result<()> {
+    let words: Vec<OsString> = env::args_os().skip(1).collect();
+    let mut out = BufWriter::new(io::stdout().lock());
+    match reading(&words) {
+        Some((reading, [word, name])) if word == "-s" => print_segments(&mut out, reading, &fs::read(name)?)?,
+        Some((reading, [name])) => print_report(&mut out, reading, &fs::read(name)?)?,
+        _ => return Err(io::Error::other("usage: report [--strict] [--characters FIVE] [-s] FILE")),
     }
     out.flush()
 }

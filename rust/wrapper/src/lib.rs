@@ -1,7 +1,7 @@
 //! Safe calls over the proved reader of PRICAT deliveries: a reading and slices in, structs out. Every call answers for every slice, place and
 //! number; `include/schaumtruhe.h` lists the refusal numbers. Places count every byte of the delivery, skipped line breaks too.
 
-/// The service characters, and whether line breaks are skipped; a part of a `Reading`, which makes it.
+/// The service characters of a delivery without UNA, and whether line breaks are skipped; a part of a `Reading`, which makes it.
 #[repr(C)]
 #[derive(Clone, Copy, Debug, PartialEq, Eq)]
 struct Syntax {
@@ -32,6 +32,15 @@ impl Reading {
     pub fn strict() -> Reading {
         // SAFETY: as in `usual`.
         unsafe { schaumtruhe_strict() }
+    }
+
+    /// The same with other service characters for a delivery without UNA: component separator, element separator, decimal mark, release and
+    /// terminator, which are `:+.?'` otherwise. A delivery that begins UNA has UNA's characters, and these are then not looked at. Those used have to
+    /// be distinct, allowed bytes (32 to 126, 160 to 255) and no ASCII letter, digit, blank or minus; else the delivery is refused with 2.
+    pub fn with_characters(mut self, characters: [u8; 5]) -> Reading {
+        let [component, element, decimal, release, terminator] = characters;
+        self.syntax = Syntax { component, element, decimal, release, terminator, ..self.syntax };
+        self
     }
 }
 
@@ -115,6 +124,15 @@ extern "C" {
         -> Prices;
     fn schaumtruhe_article(reading: Reading, delivery: *const u8, length: usize, at: usize, k: usize) -> Placed;
     fn schaumtruhe_segment_at(syntax: Syntax, delivery: *const u8, length: usize, at: usize) -> Segment;
+    fn schaumtruhe_plain(
+        syntax: Syntax,
+        delivery: *const u8,
+        length: usize,
+        place: usize,
+        count: usize,
+        out: *mut u8,
+        room: usize,
+    ) -> usize;
 }
 
 /// Messages found, accepted, and segments outside.
@@ -156,4 +174,12 @@ pub fn article(reading: Reading, delivery: &[u8], at: usize, k: usize) -> Articl
 pub fn segment_at(reading: Reading, delivery: &[u8], at: usize) -> Segment {
     // SAFETY: as in `survey`.
     unsafe { schaumtruhe_segment_at(reading.syntax, delivery.as_ptr(), delivery.len(), at) }
+}
+
+/// The part of the delivery from `place` on, `count` bytes as far as they lie within it, without its release marks: as many bytes as fit into `out`,
+/// the rest of which is unchanged. Gives how many bytes the part has without its marks, so that a call with an empty slice tells how many are needed; 0
+/// in a delivery that is refused with 1 or 2. The release is the delivery's own.
+pub fn plain(reading: Reading, delivery: &[u8], place: usize, count: usize, out: &mut [u8]) -> usize {
+    // SAFETY: as in `prices`, with bytes for numbers.
+    unsafe { schaumtruhe_plain(reading.syntax, delivery.as_ptr(), delivery.len(), place, count, out.as_mut_ptr(), out.len()) }
 }

@@ -127,7 +127,7 @@ fn deliveries_not_admitted() {
     long.resize(LIMIT, b' ');
     assert_eq!(survey(usual(), &long).number, 0);
     long.push(b' ');
-    for (number, delivery) in [(1, &long[..]), (2, &b"UNA:+.? ;UNH+1'"[..])] {
+    for (number, delivery) in [(1, &long[..]), (2, &b"UNA:+.?;'UNH+1'"[..])] {
         assert_eq!(survey(usual(), delivery), Totals { number, messages: 0, accepted: 0, outside: 0 });
         assert_eq!(next_message(usual(), delivery, 0), Next { found: 0, start: 0, end: 0 });
         assert_eq!(judge_at(usual(), delivery, FIRST), refused(number));
@@ -164,7 +164,7 @@ fn line_breaks_are_skipped() {
         assert_eq!(article(usual(), LINES, at, 0).number, 31);
     }
     assert_eq!(segment_at(usual(), LINES, 40), NO_SEGMENT);
-    assert_eq!(survey(usual(), b"\nUNA:+,? '").number, 2);
+    assert_eq!(survey(usual(), b"\nUNA:+.?,'").number, 2);
 }
 
 #[test]
@@ -188,9 +188,9 @@ fn strict_is_to_the_byte() {
     assert_eq!(segment_at(strict, LINES, 0), found(0, 10));
     assert_eq!(segment_at(strict, LINES, 40), Segment { found: 1, start: 40, end: 42, piece: 1 });
     assert_eq!(judge_at(strict, b"UNH+1'\r\nUNT'", 0), Judged { number: 17, segment: 1, place: 0, node: 1 });
-    assert_eq!(survey(strict, b"\nUNA:+,? '"), Totals { number: 0, messages: 0, accepted: 0, outside: 1 });
+    assert_eq!(survey(strict, b"\nUNA:+.?,'"), Totals { number: 0, messages: 0, accepted: 0, outside: 1 });
     for reading in [strict, usual()] {
         assert_eq!(survey(reading, DELIVERY), Totals { number: 0, messages: 3, accepted: 1, outside: 2 });
-        assert_eq!(survey(reading, b"UNA:+,? '").number, 2);
+        assert_eq!(survey(reading, b"UNA:+.?,'").number, 2);
     }
 }

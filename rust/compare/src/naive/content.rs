@@ -3,9 +3,9 @@
 use super::cut::Segment;
 use super::guide::{Element, Page};
 
-pub fn number(text: &[u8]) -> Option<(usize, i64, usize)> {
+pub fn number(mark: u8, text: &[u8]) -> Option<(usize, i64, usize)> {
     let (sign, rest) = if text.first() == Some(&b'-') { (-1, &text[1..]) } else { (1, text) };
-    let mut sides = rest.split(|&byte| byte == b'.');
+    let mut sides = rest.split(|&byte| byte == mark);
     let (whole, behind) = (sides.next()?, sides.next());
     if sides.next().is_some() || whole.is_empty() || behind.is_some_and(|digits| digits.is_empty()) {
         return None;
@@ -18,19 +18,19 @@ pub fn number(text: &[u8]) -> Option<(usize, i64, usize)> {
     Some((digits.len(), sign * amount, behind.map_or(0, <[u8]>::len)))
 }
 
-fn fits(format: &str, text: &[u8]) -> bool {
+fn fits(format: &str, mark: u8, text: &[u8]) -> bool {
     let (kind, most) = format.split_once("..").unwrap_or(format.split_at(1));
     let most: usize = most.parse().expect("a length");
     match (kind, format.contains("..")) {
         ("an", true) => text.len() <= most,
-        ("n", true) => number(text).is_some_and(|(digits, ..)| digits <= most),
-        ("n", false) => number(text).is_some_and(|(digits, ..)| digits == most),
+        ("n", true) => number(mark, text).is_some_and(|(digits, ..)| digits <= most),
+        ("n", false) => number(mark, text).is_some_and(|(digits, ..)| digits == most),
         _ => panic!("format {format}"),
     }
 }
 
 /// 18, 17, 19, 20 from left to right.
-pub fn components(page: &Page, segment: &Segment) -> Option<u32> {
+pub fn components(page: &Page, mark: u8, segment: &Segment) -> Option<u32> {
     for element in 1..segment.parts.len().max(page.elements.len() + 1) {
         let empty = Element::default();
         let rule = page.elements.get(element - 1).unwrap_or(&empty);
@@ -42,7 +42,7 @@ pub fn components(page: &Page, segment: &Segment) -> Option<u32> {
             match row {
                 None if !text.is_empty() => return Some(18),
                 Some(row) if text.is_empty() && row.must && (rule.must || is_any) => return Some(17),
-                Some(row) if !text.is_empty() && !fits(&row.format, text) => return Some(19),
+                Some(row) if !text.is_empty() && !fits(&row.format, mark, text) => return Some(19),
                 Some(row) if !text.is_empty() && !row.codes.is_empty() && !row.codes.iter().any(|code| code == text) => return Some(20),
                 _ => {}
             }

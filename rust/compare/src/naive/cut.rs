@@ -2,6 +2,8 @@
 
 use plain::Reading;
 
+use super::service::Service;
+
 /// Place, raw bytes and decoded bytes.
 pub type Part = (usize, Vec<u8>, Vec<u8>);
 
@@ -21,53 +23,65 @@ pub fn behind_breaks(reading: Reading, d: &[u8], at: usize) -> usize {
 }
 
 /// Where the segment ends that the bytes from `start` on begin with, and whether it is a piece.
-pub fn next_end(d: &[u8], start: usize) -> Option<(usize, bool)> {
+pub fn next_end(service: Service, d: &[u8], start: usize) -> Option<(usize, bool)> {
     let mut is_released = false;
     for at in start..d.len() {
         if is_released {
             is_released = false;
-        } else if d[at] == b'?' {
+        } else if d[at] == service.release {
             is_released = true;
-        } else if d[at] == b'\'' {
+        } else if d[at] == service.terminator {
             return Some((at + 1, false));
         }
     }
     (start < d.len()).then_some((d.len(), true))
 }
 
-fn cut(reading: Reading, d: &[u8], front: usize) -> Vec<Segment> {
+fn cut(reading: Reading, service: Service, d: &[u8], front: usize) -> Vec<Segment> {
     let mut all = Vec::new();
     let mut start = behind_breaks(reading, d, front);
-    while let Some((end, is_piece)) = next_end(d, start) {
-        all.push(segment(d, start, end, is_piece));
+    while let Some((end, is_piece)) = next_end(service, d, start) {
+        all.push(segment(service, d, start, end, is_piece));
         start = behind_breaks(reading, d, end);
     }
     all
 }
 
-fn segment(d: &[u8], start: usize, end: usize, is_piece: bool) -> Segment {
+fn segment(service: Service, d: &[u8], start: usize, end: usize, is_piece: bool) -> Segment {
     let mut parts = vec![vec![(start, Vec::new(), Vec::new())]];
     let last = if is_piece { end } else { end - 1 };
     let mut at = start;
     while at < last {
-        match d[at] {
-            b'+' => parts.push(vec![(at + 1, Vec::new(), Vec::new())]),
-            b':' => parts.last_mut().unwrap().push((at + 1, Vec::new(), Vec::new())),
-            byte => {
-                let part = parts.last_mut().unwrap().last_mut().unwrap();
-                part.1.push(byte);
-                if byte != b'?' {
-                    part.2.push(byte);
-                } else if at + 1 < last {
-                    at += 1;
-                    part.1.push(d[at]);
-                    part.2.push(d[at]);
-                }
-            }
+        if d[at] == service.element {
+            parts.push(vec![(at + 1, Vec::new(), Vec::new())]);
+        } else if d[at] == service.component {
+            parts.last_mut().unwrap().push((at + 1, Vec::new(), Vec::new()));
+        } else {
+            let length = if d[at] == service.release { 2.min(last - at) } else { 1 };
+            parts.last_mut().unwrap().last_mut().unwrap().1.extend(&d[at..at + length]);
+            at += length - 1;
         }
         at += 1;
     }
+    for part in parts.iter_mut().flatten() {
+        part.2 = decoded(service, &part.1);
+    }
     Segment { start, end, is_piece, parts }
+}
+
+/// A text with its release marks removed.
+pub fn decoded(service: Service, text: &[u8]) -> Vec<u8> {
+    let mut is_released = false;
+    let mut out = Vec::new();
+    for &byte in text {
+        if byte == service.release && !is_released {
+            is_released = true;
+        } else {
+            is_released = false;
+            out.push(byte);
+        }
+    }
+    out
 }
 
 impl Segment {
@@ -85,24 +99,12 @@ pub struct Message {
     pub has_unt: bool,
 }
 
-/// 1, 2, or where the first segment or the breaks before it begin.
-pub fn front(reading: Reading, d: &[u8]) -> Result<usize, u32> {
-    let begin = behind_breaks(reading, d, 0);
-    let rest = &d[begin..];
-    match (d.len() > 1_048_576, rest.starts_with(b"UNA"), rest.starts_with(b"UNA:+.? '")) {
-        (true, _, _) => Err(1),
-        (_, true, false) => Err(2),
-        (_, true, true) => Ok(begin + 9),
-        _ => Ok(0),
-    }
-}
-
 /// All messages and the count of segments outside.
-pub fn messages(reading: Reading, d: &[u8]) -> Result<(Vec<Message>, usize), u32> {
+pub fn messages(reading: Reading, service: Service, d: &[u8], front: usize) -> (Vec<Message>, usize) {
     let mut all: Vec<Message> = Vec::new();
     let mut outside = 0;
     let mut is_open = false;
-    for segment in cut(reading, d, front(reading, d)?) {
+    for segment in cut(reading, service, d, front) {
         let begins = |tag: &[u8]| d[segment.start..segment.end].starts_with(tag);
         if begins(b"UNH") {
             all.push(Message { start: segment.start, end: segment.end, segments: vec![segment], has_unt: false });
@@ -118,5 +120,5 @@ pub fn messages(reading: Reading, d: &[u8]) -> Result<(Vec<Message>, usize), u32
             message.segments.push(segment);
         }
     }
-    Ok((all, outside))
+    (all, outside)
 }

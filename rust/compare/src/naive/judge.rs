@@ -8,6 +8,7 @@ use super::content::{components, number};
 use super::cut::{Message, Segment};
 use super::guide::Guide;
 use super::place::Open;
+use super::service::{is_allowed, Service};
 
 pub struct Price {
     pub numbers: [i64; 8],
@@ -16,19 +17,20 @@ pub struct Price {
 }
 
 /// The verdict, with the prices of an accepted message.
-pub fn judge(d: &[u8], message: &Message, guide: &Guide) -> (Verdict, Vec<Price>) {
+pub fn judge(service: Service, d: &[u8], message: &Message, guide: &Guide) -> (Verdict, Vec<Price>) {
     let refuse = |number, segment, place, node| (Verdict::Refused { number, segment, place, node }, Vec::new());
     let mut open = Open::new(guide);
     let mut nodes = Vec::new();
     let mut lins = 0;
     for (at, segment) in message.segments.iter().enumerate() {
-        let fault = fault(&d[segment.start..segment.end], segment).map_or(Ok(()), |number| Err((number, 0)));
+        let fault = fault(service, &d[segment.start..segment.end], segment).map_or(Ok(()), |number| Err((number, 0)));
         match fault.and_then(|()| open.place(segment)) {
             Ok(node) => nodes.push(node),
             Err((number, node)) => return refuse(number, at + 1, segment.start, node),
         }
         lins += (segment.part(0, 1) == b"LIN") as usize;
-        if let Some(number) = components(&guide.node(nodes[at]).page, segment).or(miscounted(message, at, lins)) {
+        let page = &guide.node(nodes[at]).page;
+        if let Some(number) = components(page, service.mark, segment).or(miscounted(message, at, lins)) {
             return refuse(number, at + 1, segment.start, nodes[at]);
         }
     }
@@ -38,16 +40,19 @@ pub fn judge(d: &[u8], message: &Message, guide: &Guide) -> (Verdict, Vec<Price>
     if let Some(at) = agreeing(message) {
         return refuse(23, at + 1, message.segments[at].start, nodes[at]);
     }
-    (Verdict::Accepted { segments: message.segments.len(), end: message.end }, prices(message))
+    (Verdict::Accepted { segments: message.segments.len(), end: message.end }, prices(service, message))
 }
 
 /// 12, 10, 11: what a segment gets by itself.
-fn fault(bytes: &[u8], segment: &Segment) -> Option<u32> {
+fn fault(service: Service, bytes: &[u8], segment: &Segment) -> Option<u32> {
     if segment.is_piece {
         Some(12)
-    } else if bytes.iter().any(|byte| !matches!(byte, 32..=126 | 160..=255)) {
+    } else if !bytes.iter().copied().all(is_allowed) {
         Some(10)
-    } else if bytes.len() < 4 || !bytes[..3].iter().all(u8::is_ascii_uppercase) || !b"+'".contains(&bytes[3]) {
+    } else if bytes.len() < 4
+        || !bytes[..3].iter().all(u8::is_ascii_uppercase)
+        || ![service.element, service.terminator].contains(&bytes[3])
+    {
         Some(11)
     } else {
         None
@@ -94,7 +99,7 @@ fn agreeing(message: &Message) -> Option<usize> {
     })
 }
 
-fn prices(message: &Message) -> Vec<Price> {
+fn prices(service: Service, message: &Message) -> Vec<Price> {
     let mut all: Vec<Price> = Vec::new();
     let mut position = 0;
     let mut article = (0, 0);
@@ -107,7 +112,7 @@ fn prices(message: &Message) -> Vec<Price> {
                 article = (part.0, part.1.len());
             }
             b"PRI" => {
-                let (_, amount, decimals) = number(segment.part(1, 2)).unwrap();
+                let (_, amount, decimals) = number(service.mark, segment.part(1, 2)).unwrap();
                 let unit = (segment.part(1, 6) == b"ANN") as i64;
                 let from = (article.0 - message.start) as i64;
                 let numbers = [position, from, article.1 as i64, amount, decimals as i64, unit, place, -1];

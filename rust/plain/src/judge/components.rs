@@ -3,15 +3,16 @@
 use super::{Fault, Sheet};
 use crate::agree::with_component;
 use crate::answers::Prices;
-use crate::cut::{Class, Part, Scanner};
+use crate::cut::{Part, Scanner};
 use crate::edition::Edition;
+use crate::marks::{Class, Marks};
 use crate::pages::Rule;
 use crate::text::{self, key, Number};
 
-impl<P: Prices> Sheet<'_, P> {
+impl<M: Marks, P: Prices> Sheet<'_, M, P> {
     /// Judges the components from left to right and gives the place of the terminator.
     #[inline(always)]
-    pub(super) fn components(&mut self, scanner: &mut Scanner, node: usize, first: Part) -> Result<usize, Fault> {
+    pub(super) fn components(&mut self, scanner: &mut Scanner<M>, node: usize, first: Part) -> Result<usize, Fault> {
         let rows = self.edition.pages[node];
         let mut part = first;
         let mut at = 0;
@@ -31,11 +32,11 @@ impl<P: Prices> Sheet<'_, P> {
                 return Err(Fault { number, node, from: part.to });
             }
             let is_missing = match part.stop {
-                Class::Colon => {
+                Class::Component => {
                     at = row.next_component as usize;
                     false
                 }
-                Class::Plus => {
+                Class::Element => {
                     at = row.next_element as usize;
                     row.must_follow_in_element
                 }
@@ -92,7 +93,7 @@ impl<P: Prices> Sheet<'_, P> {
 
     #[inline(always)]
     fn document(&mut self, codes: &[u64], part: &Part) -> u32 {
-        self.compares = text::key_of(self.d, part) != key(b"Z04");
+        self.compares = self.key_of(part) != key(b"Z04");
         self.code(3, codes, part)
     }
 
@@ -141,7 +142,7 @@ impl<P: Prices> Sheet<'_, P> {
         if part.length() > 6 {
             return 19;
         }
-        match Edition::named(text::key_of(self.d, part)) {
+        match Edition::named(self.key_of(part)) {
             Some(edition) => {
                 self.edition = edition;
                 0
@@ -162,13 +163,14 @@ impl<P: Prices> Sheet<'_, P> {
         if part.length() > most {
             return 19;
         }
-        let key = text::key_of(self.d, part);
+        let key = self.key_of(part);
         20 * !codes.iter().any(|&code| code == key) as u32
     }
 
     #[inline(always)]
     fn number(&mut self, part: &Part, fits: impl FnOnce(usize) -> bool) -> (u32, Number) {
-        match text::number(self.room.decode(self.d, part)) {
+        let decoded = self.room.decode(self.y.marks.release(), self.d, part);
+        match text::number(self.y.marks.decimal(), decoded) {
             Some(number) if fits(number.digits) => (0, number),
             _ => (19, Number::default()),
         }
@@ -177,7 +179,8 @@ impl<P: Prices> Sheet<'_, P> {
     #[inline(always)]
     fn compare(&mut self, which: u8, part: &Part) {
         if self.compares {
-            self.hash = with_component(self.hash, which, self.room.decode(self.d, part));
+            let decoded = self.room.decode(self.y.marks.release(), self.d, part);
+            self.hash = with_component(self.hash, which, decoded);
         }
     }
 }
