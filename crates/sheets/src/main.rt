@@ -118,6 +118,142 @@ fn strict_sheets() {
     sheet(b"strict_48");
 }
 
+// Other service characters, in the usual reading.
+fn una_to_33() {
+    sheet(b"una_01");
+    sheet(b"una_02");
+    sheet(b"una_03");
+    sheet(b"una_04");
+    sheet(b"una_05");
+    sheet(b"una_06");
+    sheet(b"una_07");
+    sheet(b"una_08");
+    sheet(b"una_09");
+    sheet(b"una_10");
+    sheet(b"una_11");
+    sheet(b"una_12");
+    sheet(b"una_13");
+    sheet(b"una_14");
+    sheet(b"una_15");
+    sheet(b"una_16");
+    sheet(b"una_17");
+    sheet(b"una_18");
+    sheet(b"una_19");
+    sheet(b"una_20");
+    sheet(b"una_21");
+    sheet(b"una_22");
+    sheet(b"una_23");
+    sheet(b"una_24");
+    sheet(b"una_25");
+    sheet(b"una_26");
+    sheet(b"una_27");
+    sheet(b"una_28");
+    sheet(b"una_29");
+    sheet(b"una_30");
+    sheet(b"una_31");
+    sheet(b"una_32");
+    sheet(b"una_33");
+}
+
+// The next of these.
+fn una_to_66() {
+    sheet(b"una_34");
+    sheet(b"una_35");
+    sheet(b"una_36");
+    sheet(b"una_37");
+    sheet(b"una_38");
+    sheet(b"una_39");
+    sheet(b"una_40");
+    sheet(b"una_41");
+    sheet(b"una_42");
+    sheet(b"una_43");
+    sheet(b"una_44");
+    sheet(b"una_45");
+    sheet(b"una_46");
+    sheet(b"una_47");
+    sheet(b"una_48");
+    sheet(b"una_49");
+    sheet(b"una_50");
+    sheet(b"una_51");
+    sheet(b"una_52");
+    sheet(b"una_53");
+    sheet(b"una_54");
+    sheet(b"una_55");
+    sheet(b"una_56");
+    sheet(b"una_57");
+    sheet(b"una_58");
+    sheet(b"una_59");
+    sheet(b"una_60");
+    sheet(b"una_61");
+    sheet(b"una_62");
+    sheet(b"una_63");
+    sheet(b"una_64");
+    sheet(b"una_65");
+    sheet(b"una_66");
+}
+
+// The last of these.
+fn una_to_98() {
+    sheet(b"una_67");
+    sheet(b"una_68");
+    sheet(b"una_69");
+    sheet(b"una_70");
+    sheet(b"una_71");
+    sheet(b"una_72");
+    sheet(b"una_73");
+    sheet(b"una_74");
+    sheet(b"una_75");
+    sheet(b"una_76");
+    sheet(b"una_77");
+    sheet(b"una_78");
+    sheet(b"una_79");
+    sheet(b"una_80");
+    sheet(b"una_81");
+    sheet(b"una_82");
+    sheet(b"una_83");
+    sheet(b"una_84");
+    sheet(b"una_85");
+    sheet(b"una_86");
+    sheet(b"una_87");
+    sheet(b"una_88");
+    sheet(b"una_89");
+    sheet(b"una_90");
+    sheet(b"una_91");
+    sheet(b"una_92");
+    sheet(b"una_93");
+    sheet(b"una_94");
+    sheet(b"una_95");
+    sheet(b"una_96");
+    sheet(b"una_97");
+    sheet(b"una_98");
+}
+
+// Those of these deliveries that are also read strictly.
+fn strict_una() {
+    sheet(b"strict_una_01");
+    sheet(b"strict_una_02");
+    sheet(b"strict_una_04");
+    sheet(b"strict_una_43");
+    sheet(b"strict_una_76");
+    sheet(b"strict_una_78");
+    sheet(b"strict_una_79");
+    sheet(b"strict_una_84");
+    sheet(b"strict_una_85");
+    sheet(b"strict_una_86");
+    sheet(b"strict_una_87");
+    sheet(b"strict_una_88");
+    sheet(b"strict_una_89");
+    sheet(b"strict_una_90");
+    sheet(b"strict_una_91");
+    sheet(b"strict_una_92");
+    sheet(b"strict_una_93");
+    sheet(b"strict_una_94");
+    sheet(b"strict_una_95");
+    sheet(b"strict_una_96");
+    sheet(b"strict_una_97");
+    sheet(b"strict_una_98");
+}
+
 fn main() {
     first_sheets();
     sheet(b"pairs");
@@ -127,4 +263,8 @@ fn main() {
     strict_sheets();
     sheet(b"pairs_lines");
     sheet(b"lines");
+    una_to_33();
+    una_to_66();
+    una_to_98();
+    strict_una();
 }
