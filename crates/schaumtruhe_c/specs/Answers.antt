@@ -1,10 +1,13 @@
 -- Each answer as a struct of numbers: first 0 or document 01's refusal number, then what the call hands out, or 0.
-use Prim.Native.Nat.{ℕ, _-_}
+use Prim.Native.Nat.{ℕ, _+_, _-_}
 use mathlib.Core.Bool.{cond}
 use mathlib.Core.List.{List, [], _∷_}
+use lib.Dec.{eqb}
 use Rattle.cut.specs.declared.service.Syntax.{Syntax}
 use Rattle.cut.specs.declared.scan.Cut.{Cut}
 use Rattle.cut.specs.declared.scan.Cut.the-variants as cut
+use Rattle.cut.specs.Admission.{admissionOf}
+use Rattle.plain.specs.Plain.{decoded}
 use Rattle.messages.specs.declared.found.Found.{Found}
 use Rattle.messages.specs.declared.found.Found.the-variants as found
 use Rattle.element.specs.declared.components.Span.{Span}
@@ -53,6 +56,10 @@ articleAnswer y d at k = articleOf (articleRefusal y d at k) (articleAt y d at k
 unfoldable pub segmentOf : Cut → Segment
 segmentOf (cut.Segment s e p) = record { found = 1; start = s; end = e; piece = cond p 1 0 }
 segmentOf cut.Nothing = record { found = 0; start = 0; end = 0; piece = 0 }
+
+-- the part of the delivery of n bytes from the place a on, "releases removed"; it has no byte in a delivery that is not admitted
+unfoldable pub plainAt : Syntax → List ℕ → ℕ → ℕ → List ℕ
+plainAt z d a n = cond (eqb (admissionOf z d) 0) (decoded z a (a + n) d) []
 
 -- the numbers of an answer in the order of its fields
 unfoldable pub totalsNumbers : Totals → List ℕ

@@ -7,9 +7,11 @@ use crate::answers::Prices;
 use crate::answers::Segment;
 use crate::answers::Totals;
 use cut::Syntax;
+use cut::admission;
 use cut::characters;
 use held::step_from;
 use plain::copy_plain;
+use plain::plain_length;
 use schaumtruhe::Reading;
 use schaumtruhe::article_at;
 use schaumtruhe::article_refusal;
@@ -19,15 +21,17 @@ use schaumtruhe::prices;
 use schaumtruhe::strict;
 use schaumtruhe::survey;
 use schaumtruhe::usual;
+ghost use Prim.Native.Nat.{_+_, min};
 ghost use mathlib.Core.Path.{_≡_};
+ghost use lib.ListN.{length};
 ghost use Rattle.cut.specs.Used.{charactersOf};
-ghost use Rattle.plain.specs.Plain.{decoded, fitting, copied};
+ghost use Rattle.plain.specs.Plain.{copied};
 ghost use Rattle.messages.specs.Calls.{nextMessage};
 ghost use Rattle.held.specs.Reading.{nextFrom};
 ghost use Rattle.verdict.specs.Answers.{declared};
 ghost use Rattle.schaumtruhe.specs.Readings.{usualReading, strictReading, usedIn};
 ghost use Rattle.schaumtruhe.specs.Calls.{surveyOf, verdictAt, pricedAt, rowAt};
-ghost use Rattle.schaumtruhe_c.specs.Answers.{totalsOf, nextOf, judgedOf, pricesOf, articleAnswer, segmentOf};
+ghost use Rattle.schaumtruhe_c.specs.Answers.{totalsOf, nextOf, judgedOf, pricesOf, articleAnswer, segmentOf, plainAt};
 
 // Line breaks between segments are skipped.
 #[no_mangle]
@@ -107,17 +111,38 @@ pub extern "C" fn schaumtruhe_segment_at(y: Syntax, d: &[u8], at: usize) -> Segm
     answers::segment_of(step_from(y, d, at))
 }
 
-// The bytes of the delivery from a place up to another, releases removed, into the lent row, as many as fit; and how many these are.
+// The part of the delivery of `count` bytes from a place on, releases removed, into the lent row, as many bytes as fit; and how many it has. None
+// in a delivery that is not admitted.
 #[no_mangle]
 pub extern "C" fn schaumtruhe_plain(
     y: Syntax,
     d: &[u8],
-    start: usize,
-    end: usize,
+    place: usize,
+    count: usize,
     out: &mut [u8],
 ) -> usize
-    ensures { λ r. ⌜ r ≡ fitting (decoded (charactersOf y (now (d .entry))) start end (now (d .entry))) (now (out .entry)) ⌝ }
-    ensures { λ _. ⌜ now (out .exit) ≡ copied (decoded (charactersOf y (now (d .entry))) start end (now (d .entry))) (now (out .entry)) ⌝ }
+    ensures { λ r. ⌜ r ≡ length (plainAt (charactersOf y (now (d .entry))) (now (d .entry)) place count) ⌝ }
+    ensures { λ _. ⌜ now (out .exit) ≡ copied (plainAt (charactersOf y (now (d .entry))) (now (d .entry)) place count) (now (out .entry)) ⌝ }
 {
-    copy_plain(characters(y, d), d, start, end, out)
+    let z = characters(y, d);
+    if admission(z, d) != 0 {
+        return 0;
+    }
+    let end = behind(d, place, count);
+    let n = plain_length(z, d, place, end);
+    copy_plain(z, d, place, end, out);
+    n
+}
+
+// The place `count` bytes behind another, or the delivery's end if that comes first.
+fn behind(d: &[u8], place: usize, count: usize) -> usize
+    ensures { λ r. ⌜ r ≡ min (place + count) (length (now (d .entry))) ⌝ }
+{
+    if d.len() <= place {
+        return d.len();
+    }
+    if d.len() - place <= count {
+        return d.len();
+    }
+    place + count
 }
