@@ -4,8 +4,8 @@
  * number of threads may call at once.
  *
  * What a caller owes is what C asks of any pointer and length, and nothing more:
- *   - `delivery` points to `length` bytes that nobody writes to during the call; `row` points to `count` numbers, and `out` to `room` bytes,
- *     that nobody else reads or writes during the call, apart from the delivery and the row aligned for int64_t;
+ *   - `delivery` points to `length` bytes that nobody writes to during the call; `row` points to `count` numbers, aligned for int64_t, and `out`
+ *     to `room` bytes, which lie apart from the delivery and which nobody else reads or writes during the call;
  *   - no pointer is NULL, even where the length is 0;
  *   - how a delivery is read is a value that `schaumtruhe_usual` or `schaumtruhe_strict` made (see there), its service characters set or not.
  * Every content, every place and every number is answered. Places count bytes from 0 in the delivery, skipped line breaks too.
