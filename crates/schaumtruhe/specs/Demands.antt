@@ -21,7 +21,7 @@ abbrev pub TooLong : List ℕ → Type 0
 TooLong d = limit < length d
 
 module _ (y : Syntax) where
-  -- 2, "begins `UNA`, first nine bytes not those above"; item 4: "UNA is looked for after those at the start"
+  -- 2, "begins `UNA`, first nine bytes not those above", item 6: not those of these characters; item 4: "UNA is looked for after those at the start"
   pub record OtherUNA (d : List ℕ) : Type 0 where
     pub skipped : List ℕ
     pub rest : List ℕ
@@ -39,6 +39,7 @@ module _ (y : Syntax) where
   -- "1, 2 first, for the whole delivery, and then nothing else is read"
   pub data DeliveryRefused (d : List ℕ) : ℕ → Type 0 where
     too-long : TooLong d → DeliveryRefused d 1
+    -- item 6: "one of these conditions fails, for UNA or characters handed in"
     unusable : (TooLong d → ⊥) → valid y ≡ false → DeliveryRefused d 2
     other-UNA : (TooLong d → ⊥) → OtherUNA d → DeliveryRefused d 2
 
