@@ -13,6 +13,7 @@ pub mod Stepping
 pub mod Fronting
 pub mod Demand3
 pub mod Kept
+pub mod Lengths
 pub mod Empty
 pub mod Using
 pub mod Settings

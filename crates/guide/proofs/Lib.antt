@@ -9,6 +9,7 @@ pub mod Sheets
 pub mod IntervalSheets
 pub mod samples
 pub mod TwoEditions
+pub mod Unreached
 pub mod pages
 pub mod Contents
 pub mod PageHolds
