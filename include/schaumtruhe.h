@@ -14,7 +14,7 @@
  *    1 delivery longer than 1,048,576 bytes       2 the service characters cannot be used (see below)
  *   10 a byte not allowed                        11 no tag of three capital letters followed by the element separator or the terminator
  *   12 a piece without its terminator            13 no node with this tag and code can come here
- *   14 a required node is missing                15 the limit of a node is passed           16 the same, for LIN
+ *   14 a required node is missing                15 the limit of a node is passed
  *   17 component missing      18 component not used      19 wrong format      20 code not on its page
  *   21 UNT count or reference differs            22 LIN number is not the next
  *   23 position agrees with an earlier one       24 message ends without UNT

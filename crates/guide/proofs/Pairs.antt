@@ -23,8 +23,8 @@ module _ {A : Type 0} (g : Guide) (pairs : Pairing g) (p : ℕ) (f : Kids A) (li
   pub data Again (k : ℕ) : Type 0 where
     -- "25 at the second DTM of one code"
     second : k ≡ 25 → count f n ≡ 1 → count f partner ≡ 0 → Again k
-    -- "after 15 and 16": a third DTM gets the row's number
-    third : k ≡ node g n .refusal → count f n ≡ 1 → count f partner ≡ 1 → Again k
+    -- "after 15 and 16": a third DTM gets 15
+    third : k ≡ 15 → count f n ≡ 1 → count f partner ≡ 1 → Again k
 
   -- One code more than its limit is the second of it, or the third of both.
   pub again : (k : ℕ) → Full g k p f n → Again k

@@ -40,7 +40,6 @@ moved x =
       counter = x .counter;
       must = x .must;
       limit = x .limit;
-      refusal = x .refusal;
       partner = renumbered (x .partner);
     }
 

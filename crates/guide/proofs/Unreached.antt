@@ -1,11 +1,13 @@
--- Item 10: a node whose limit has the number 16 has a limit of 999,999, and where it is reached as many segments stand in front.
+-- Item 10: a LIN node has a limit of 999,999, and where it is reached as many segments stand in front, each of four bytes at least.
 use Prim.Native.Nat.{ℕ, zero, suc, _+_, _*_, _≤_, _<_}
 use mathlib.Core.Path.{_≡_, refl, sym, _∙_, ap, subst}
-use mathlib.Core.Bool.{Bool, true, false, cond, _&&_}
+use mathlib.Core.Bool.{Bool, true, false}
 use mathlib.Core.List.{List, [], _∷_, _++_, append-assoc}
 use native.Mathlib.Omega.{arith}
 use lib.ListN.{length, length-append}
 use lib.Dec.{T, eqb, leb, leb→le}
+use Rattle.bytewise.specs.Bytes.{bytesOf}
+use Rattle.plain.specs.Plain.{same}
 use Rattle.cut.specs.declared.service.Syntax.{Syntax}
 use Rattle.cut.specs.Segments.{Segment}
 use Rattle.cut.proofs.Lengths.{total, total-append}
@@ -13,11 +15,12 @@ use Rattle.clean.specs.Clean.{allowedBytes, capital, lettered, taggedBytes}
 use Rattle.messages.specs.Messages.{Message}
 use Rattle.guide.specs.declared.edition.Edition.{Edition}
 use Rattle.guide.specs.declared.edition.Edition.the-variants.{D, C}
-use Rattle.guide.specs.Nodes.{View, Guide, node, takes, paired, over}
+use Rattle.guide.specs.Nodes.{View, Guide, node, takes, paired, numberOf}
 use Rattle.guide.specs.Tree.{Kids, none, then, segs, count, one}
 use Rattle.guide.specs.Steps.{At, here, below, Full}
 use Rattle.guide.specs.Answers.{refused}
-use Rattle.guide.specs.Meaning.{Outcome, no-node, too-many, short}
+use Rattle.guide.specs.Meaning.{Outcome, too-many}
+use Rattle.guide.specs.Sheet.{isTag}
 use Rattle.guide.specs.Page.{Page}
 use Rattle.guide.specs.FirstFault.{First, Fault, not-used, missing, wrong-format, wrong-code}
 use Rattle.guide.specs.Accepted.{Clean, seen, segmentsOf}
@@ -48,35 +51,25 @@ module _ {A : Type 0} where
   full-within g j p f n (here h) = omega (arith, h .full, count-within f n)
   full-within g j p (then l x t k) n (below h) = omega (arith, full-within g j x k n h, length-append (segs l) (t ∷ segs k))
 
-  full-number : (g : Guide) (p : ℕ) (f : Kids A) (n : ℕ) → At (Full g 16) p f n → node g n .refusal ≡ 16
-  unfolding over
-  full-number g p f n (here h) = go (paired g n && eqb (count f (node g n .partner)) 0) (h .number)
-    where
-      go : (b : Bool) → 16 ≡ cond b 25 (node g n .refusal) → node g n .refusal ≡ 16
-      go true e = absurd (omega (arith, e))
-      go false e = sym e
-  full-number g p (then l x t k) n (below h) = full-number g x k n h
-
--- the rows that have the number 16
+-- the rows of LIN, and those that a LIN node stands for
 abbrev farOff : Guide → ℕ → Bool
-farOff g n = implies (eqb (node g n .refusal) 16) (leb 999999 (node g n .limit))
+farOff g n = implies (isTag g (bytesOf "LIN") (numberOf g n)) (leb 999999 (node g n .limit))
 
 -- in both editions, computed
 rows-far : (e : Edition) → T (every (farOff (guideOf e)) (length (guideOf e)))
-unfolding pricat20d pricat20c every
+unfolding pricat20d pricat20c every isTag same numberOf paired
 rows-far D = tt
 rows-far C = tt
 
--- where 16 is given, 999,999 segments stand in front
+-- where the limit of a LIN node is reached, 999,999 segments stand in front
 pub far-in
-    : {A : Type 0} (e : Edition) (view : A → View) (f : Kids A) (s : A) (m : ℕ) → Outcome (guideOf e) view f s (refused 16 m)
-    → 999999 ≤ length (segs f)
-far-in e view f s m (too-many t d) =
+    : {A : Type 0} (e : Edition) (f : Kids A) (v : View) (j n : ℕ) → T (takes (guideOf e) n v) → T (isTag (guideOf e) (bytesOf "LIN") (numberOf (guideOf e) n))
+    → At (Full (guideOf e) j) 0 f n → 999999 ≤ length (segs f)
+far-in e f v j n t lin d =
     let g = guideOf e in
-    let row = every-at (farOff g) (length g) m (rows-far e) (in-table g m (takes-limit g m (view s) t)) in
-    let l : 999999 ≤ node g m .limit = leb→le _ _
-    (implied (eqb (node g m .refusal) 16) (leb 999999 (node g m .limit)) row (eq-T _ _ (full-number g 0 f m d))) in
-    omega (arith, l, full-within g 16 0 f m d)
+    let row = every-at (farOff g) (length g) n (rows-far e) (in-table g n (takes-limit g n v t)) in
+    let l : 999999 ≤ node g n .limit = leb→le _ _ (implied (isTag g (bytesOf "LIN") (numberOf g n)) (leb 999999 (node g n .limit)) row lin) in
+    omega (arith, l, full-within g j 0 f n d)
 
 -- a tag and the byte behind it
 lettered-longer : (y : Syntax) (n : ℕ) (xs : List ℕ) → T (lettered y n xs) → n < length xs
@@ -116,26 +109,36 @@ module _ (y : Syntax) (g : Guide) (pages : ℕ → Page) where
       let more = free-long (before ++ (s ∷ [])) ss (subst (FaultFree y g pages) (sym q) free) in
       omega (arith, least-bytes y s (free-clean before s ss free), more)
 
-no-content : (y : Syntax) (page : Page) (s : List ℕ) → First y page s 16 → ⊥
+no-content : (y : Syntax) (page : Page) (s : List ℕ) → First y page s 15 → ⊥
 no-content y page s f = go (f .here)
   where
-    go : Fault y page s 16 (f .element) (f .component) → ⊥
+    go : Fault y page s 15 (f .element) (f .component) → ⊥
     go (not-used e h) = omega (arith, e)
     go (missing e h) = omega (arith, e)
     go (wrong-format e h) = omega (arith, e)
     go (wrong-code e h) = omega (arith, e)
 
--- a message that is refused with 16 has 999,999 segments of four bytes at least
+-- a message that is refused with 15 at a LIN node has 999,999 segments of four bytes at least
 module _ (y : Syntax) (e : Edition) (pages : ℕ → Page) where
-  fault-far : (before : List Segment) (s : Segment) (n : ℕ) → FaultAfter y (guideOf e) pages before s 16 n → 999999 ≤ length before
-  fault-far before s n (place c b o) =
-      let far = far-in e (seen y) (b .tree) s n o in
-      omega (arith, far, ap length (b .same))
-  fault-far before s n (content c b o f) = absurd (no-content y (pages n) (s .bytes) f)
+  -- the node that is named is one of LIN
+  abbrev Lin : ℕ → Type 0
+  Lin n = T (isTag (guideOf e) (bytesOf "LIN") n)
 
-  pub sixteen-long : (m : Message) (i a n : ℕ) → Refusal y (guideOf e) pages m 16 i a n → 999999 * least ≤ total (segmentsOf m)
-  sixteen-long m i a n (for-fault (at-segment before s after split free fault)) =
+  outcome-far
+      : (f : Kids Segment) (s : Segment) (n : ℕ) → Outcome (guideOf e) (seen y) f s (refused 15 n) → Lin (numberOf (guideOf e) n) → 999999 ≤ length (segs f)
+  outcome-far f s n (too-many t d) lin = far-in e f (seen y s) 15 n t lin d
+
+  fault-far
+      : (before : List Segment) (s : Segment) (n : ℕ) → FaultAfter y (guideOf e) pages before s 15 n → Lin (numberOf (guideOf e) n)
+      → 999999 ≤ length before
+  fault-far before s n (place c b o) lin =
+      let far = outcome-far (b .tree) s n o lin in
+      omega (arith, far, ap length (b .same))
+  fault-far before s n (content c b o f) lin = absurd (no-content y (pages n) (s .bytes) f)
+
+  pub lines-long : (m : Message) (i a n : ℕ) → Refusal y (guideOf e) pages m 15 i a n → Lin n → 999999 * least ≤ total (segmentsOf m)
+  lines-long m i a n (for-fault (at-segment {n = r} before s after split free fault)) lin =
       let long = free-long y (guideOf e) pages [] before free in
-      let far = fault-far before s _ fault in
+      let far = fault-far before s r fault lin in
       let sum : total (segmentsOf m) ≡ total before + total (s ∷ after) = ap total split ∙ total-append before (s ∷ after) in
       omega (arith, long, far, sum)

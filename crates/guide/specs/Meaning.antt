@@ -1,4 +1,4 @@
--- What an answer of placing means over the tree of the segments before. Document 01, 'Refusal numbers', 13 to 16, and request 2, 25.
+-- What an answer of placing means over the tree of the segments before. Document 01, 'Refusal numbers', 13 to 15, and request 2, 25.
 use Prim.Native.Nat.{ℕ, suc}
 use mathlib.Core.Path.{_≡_}
 use mathlib.Core.List.{List, _∷_, _++_}
@@ -15,7 +15,7 @@ module _ {A : Type 0} (g : Guide) (view : A → View) (f : Kids A) (s : A) where
     moved : {n : ℕ} → T (takes g n (view s)) → At (Fresh g) 0 f n → Outcome (placed n)
     -- "no node with this tag and code can come here, even with limits and missing nodes ignored"
     no-node : ((n : ℕ) → T (takes g n (view s)) → At (Might g) 0 f n → ⊥) → Outcome (refused 13 0)
-    -- "it can, but its limit is passed": 15 or 16; "the second DTM of one code": 25
+    -- "it can, but its limit is passed": 15; "the second DTM of one code": 25
     too-many : {n k : ℕ} → T (takes g n (view s)) → At (Full g k) 0 f n → Outcome (refused k n)
     -- "it can, but a required node is missing"
     short : {n m : ℕ} → T (takes g n (view s)) → At (Lacking g m) 0 f n → Outcome (refused 14 m)

@@ -20,8 +20,8 @@ pub record Selector : Type 0 where
   pub component : ℕ
   pub codes : List (List ℕ)
 
--- "Node, tag, required (!) or optional, limit in its parent", with the standard's counter and the number given when the limit is passed. A node whose two
--- codes come once each has a row for each of them, and each is the other's partner; 0: it has none
+-- "Node, tag, required (!) or optional, limit in its parent", with the standard's counter. A node whose two codes come once each has a row for each of
+-- them, and each is the other's partner; 0: it has none
 pub record Node : Type 0 where
   pub tag : List ℕ
   pub selector : Selector
@@ -29,7 +29,6 @@ pub record Node : Type 0 where
   pub counter : ℕ
   pub must : Bool
   pub limit : ℕ
-  pub refusal : ℕ
   pub partner : ℕ
 
 -- row n is node n, but for the second row of a pair, which stands behind all nodes; row 0 is the message itself
@@ -54,7 +53,6 @@ message =
       counter = 0;
       must = false;
       limit = 0;
-      refusal = 0;
       partner = 0;
     }
 
@@ -103,10 +101,10 @@ numberOf g n = cond (paired g n && ltb (node g n .partner) n) (node g n .partner
 unfoldable pub required : Guide → ℕ → (ℕ → ℕ) → Bool
 required g m seen = node g m .must || (paired g m && ltb 0 (seen (node g m .partner)))
 
--- the number given when node n comes once more than its limit; request 2: "25 at the second DTM of one code, after 15 and 16", so where the
--- other code stands too a third DTM gets 15
+-- the number given when node n comes once more than its limit: 15; request 2: "25 at the second DTM of one code, after 15 and 16", so where the
+-- other code stands too a third DTM gets 15. Item 10: "16 ends, its number unused"
 unfoldable pub over : Guide → ℕ → (ℕ → ℕ) → ℕ
-over g n seen = cond (paired g n && eqb (seen (node g n .partner)) 0) 25 (node g n .refusal)
+over g n seen = cond (paired g n && eqb (seen (node g n .partner)) 0) 25 15
 
 -- a table's rows as they are written
 abbrev pub tagAlone : Selector
@@ -115,9 +113,9 @@ tagAlone = record { element = 0; component = 0; codes = [] }
 abbrev pub select : ℕ → ℕ → List String → Selector
 select e c ts = record { element = e; component = c; codes = map bytesOf ts }
 
-abbrev pub row : String → Selector → ℕ → ℕ → Bool → ℕ → ℕ → Node
-row t s p c m l r = record { tag = bytesOf t; selector = s; parent = p; counter = c; must = m; limit = l; refusal = r; partner = 0 }
+abbrev pub row : String → Selector → ℕ → ℕ → Bool → ℕ → Node
+row t s p c m l = record { tag = bytesOf t; selector = s; parent = p; counter = c; must = m; limit = l; partner = 0 }
 
--- one of two rows that come in pairs: tag, codes, parent, counter, number of a third, the other row
-abbrev pub pairRow : String → Selector → ℕ → ℕ → ℕ → ℕ → Node
-pairRow t s p c r q = record { tag = bytesOf t; selector = s; parent = p; counter = c; must = false; limit = 1; refusal = r; partner = q }
+-- one of two rows that come in pairs: tag, codes, parent, counter, the other row
+abbrev pub pairRow : String → Selector → ℕ → ℕ → ℕ → Node
+pairRow t s p c q = record { tag = bytesOf t; selector = s; parent = p; counter = c; must = false; limit = 1; partner = q }

@@ -1,5 +1,5 @@
 -- What a refusal of a message says. Document 01, 'Refusal numbers': "In a message the first segment with a fault decides; within it 12, 10, 11,
--- 13, 15 or 16, 14, then components left to right (18, 17, 19, 20 at each), then 21 or 22", and request 2's 25 "after 15 and 16".
+-- 13, 15 or 16, 14, then components left to right (18, 17, 19, 20 at each), then 21 or 22", and request 2's 25 "after 15 and 16"; item 10: "16 ends".
 use Prim.Native.Nat.{ℕ, suc}
 use mathlib.Core.Path.{_≡_}
 use mathlib.Core.Bool.{true, false}
@@ -44,7 +44,7 @@ module _ (y : Syntax) (g : Guide) (pages : ℕ → Page) where
     byte : s .piece ≡ false → allowedBytes (s .bytes) ≡ false → FaultAfter before s 10 0
     -- 11, "not three capital letters followed by `+` or `'`"
     tag : s .piece ≡ false → allowedBytes (s .bytes) ≡ true → taggedBytes y (s .bytes) ≡ false → FaultAfter before s 11 0
-    -- 13; 15 or 16; 25, "at the second DTM of one code"; 14: over the tree of the segments before
+    -- 13; 15; 25, "at the second DTM of one code"; 14: over the tree of the segments before
     place :
         {k n : ℕ} → Clean y s → (b : Beginning g (seen y) before) → Outcome g (seen y) (b .tree) s (refused k n) → FaultAfter before s k n
     -- 18, 17, 19, 20: against the page of the node

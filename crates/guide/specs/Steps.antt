@@ -42,7 +42,7 @@ module _ {A : Type 0} (g : Guide) where
     pub due : Due g p (node g n .counter) f
     pub done : Done f
 
-  -- "it can, but its limit is passed": k is the number given, 15 or 16, or 25 at "the second DTM of one code" where the other code has not come
+  -- "it can, but its limit is passed": k is the number given, 15, or 25 at "the second DTM of one code" where the other code has not come
   pub record Full (k : ℕ) (p : ℕ) (f : Kids A) (n : ℕ) : Type 0 where
     pub might : Might p f n
     pub full : node g n .limit ≤ count f n

@@ -1,9 +1,6 @@
 // Rows that come in pairs: the two codes of a price's interval, of which each comes once, and neither without the other.
-use crate::rows::refusal_of;
 use guide::Edition;
-ghost use Prim.Native.Nat.{_<_};
 ghost use mathlib.Core.Path.{_≡_};
-ghost use lib.ListN.{length};
 ghost use Rattle.guide.specs.Nodes.{node, numberOf, over};
 ghost use Rattle.guide.specs.Pricat.{pricat20d, pricat20c};
 ghost use Rattle.guide.specs.workers.Placing.{tally};
@@ -53,18 +50,16 @@ pub(crate) fn is_wanted(edition: Edition, counts: &[u32; 96], m: usize) -> bool
 
 // The number given when node n comes once more than its limit.
 pub(crate) fn number_over(edition: Edition, counts: &[u32; 96], n: usize) -> u32
-    requires { ⌜ n < length (guideOf edition) ⌝ }
     ensures { λ r. ⌜ r ≡ over (guideOf edition) n (tally (now (counts .entry))) ⌝ }
 {
-    let number = refusal_of(edition, n);
     let other = partner_of(edition, n);
     if other == 0 {
-        return number;
+        return 15;
     }
     if counts[other] == 0 {
         return 25;
     }
-    number
+    15
 }
 
 // The number that a row has as a node of the guide: both rows of a pair have that of the lower.

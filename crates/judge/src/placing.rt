@@ -1,4 +1,4 @@
-// Places one segment after the other: its node, or the first fault in the order 13, 15 or 16 or 25, 14.
+// Places one segment after the other: its node, or the first fault in the order 13, 15 or 25, 14.
 use crate::counting::enter;
 use crate::lacking::missing_node;
 use crate::pairs::number_over;

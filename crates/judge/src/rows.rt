@@ -18,20 +18,12 @@ pub(crate) fn tag_of(edition: Edition, n: usize) -> u32
     (tag_word(edition, n) % 0x1000_0000) as u32
 }
 
-// The number of a passed limit.
-pub(crate) fn refusal_of(edition: Edition, n: usize) -> u32
-    requires { ⌜ n < length (guideOf edition) ⌝ }
-    ensures { λ r. ⌜ r ≡ node (guideOf edition) n .refusal ⌝ }
-{
-    (tag_word(edition, n) / 0x1000_0000 % 256) as u32
-}
-
 // The counter.
 pub(crate) fn counter_of(edition: Edition, n: usize) -> u32
     requires { ⌜ n < length (guideOf edition) ⌝ }
     ensures { λ r. ⌜ r ≡ node (guideOf edition) n .counter ⌝ }
 {
-    (tag_word(edition, n) / 0x10_0000_0000) as u32
+    (tag_word(edition, n) / 0x1000_0000 % 0x1000) as u32
 }
 
 // The first child that is required or one of a pair, or 0.

@@ -2,7 +2,7 @@ pub mod ArticlePlaces
 pub mod places
 pub mod Demand1
 pub mod Unique
-pub mod NeverSixteen
+pub mod Unreached
 pub mod Demand2
 pub mod Equal
 pub mod keeping

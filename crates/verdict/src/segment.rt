@@ -1,4 +1,4 @@
-// What comes of one segment: its node, or its first fault in the order 12, 10, 11, 13, 15 or 16 or 25, 14, components, 21 or 22.
+// What comes of one segment: its node, or its first fault in the order 12, 10, 11, 13, 15 or 25, 14, components, 21 or 22.
 use crate::faults::rule_fault;
 use crate::kept::Kept;
 use crate::roles::Role;

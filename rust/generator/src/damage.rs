@@ -7,7 +7,7 @@ use crate::intervals::wrong_interval;
 use crate::random::Random;
 use crate::sheet::{exact_text, Segment};
 
-/// The numbers a fault can be made for. 12 needs the end of the delivery and 16 cannot come.
+/// The numbers a fault can be made for. 12 needs the end of the delivery.
 pub const FAULTS: [u32; 14] = [10, 11, 13, 14, 15, 17, 18, 19, 20, 21, 22, 23, 24, 25];
 
 pub fn damage(random: &mut Random, all: &mut Vec<Segment>, number: u32) {

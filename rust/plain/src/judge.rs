@@ -160,14 +160,13 @@ impl<'a, M: Marks, P: Prices> Sheet<'a, M, P> {
         Ok(nodes.trailing_zeros() as usize)
     }
 
-    /// Puts the segment at its node: limits (15, 16), an interval's code once (25), then missing nodes (14).
+    /// Puts the segment at its node: limits (15), an interval's code once (25), then missing nodes (14).
     #[inline(always)]
     fn put(&mut self, node: usize, first: &Part) -> Result<(), Fault> {
         let from = first.to;
         let count = if self.seen & bit(node) != 0 { self.counts[node] + 1 } else { 1 };
         if count > self.edition.limit[node] {
-            let number = if node == 16 || node == 23 { 16 } else { 15 };
-            return Err(Fault { number, node, from });
+            return Err(Fault { number: 15, node, from });
         }
         if node == INTERVAL {
             self.interval(count, first)?;

@@ -46,8 +46,8 @@ module _ (g : Guide) (m : ℕ) where
     where
       go
           : (t : Bool) → (T t → a (node g m .partner) ≡ b (node g m .partner))
-          → pickℕ (t && eqb (a (node g m .partner)) 0) 25 (node g m .refusal)
-          ≡ pickℕ (t && eqb (b (node g m .partner)) 0) 25 (node g m .refusal)
+          → pickℕ (t && eqb (a (node g m .partner)) 0) 25 15
+          ≡ pickℕ (t && eqb (b (node g m .partner)) 0) 25 15
       go true e = rw (e tt)
       go false e = refl
 

@@ -1,6 +1,6 @@
 -- The verdict of a message, agreeing positions aside, by placing one segment after the other. Document 01, 'Refusal numbers': "In a message the first
 -- segment with a fault decides; within it 12, 10, 11, 13, 15 or 16, 14, then components left to right (18, 17, 19, 20 at each), then 21 or 22", and
--- request 2's 25 "after 15 and 16".
+-- request 2's 25 "after 15 and 16"; item 10: "16 ends".
 use Prim.Native.Nat.{ℕ, zero, suc, _+_}
 use mathlib.Core.Bool.{Bool, true, false, not, _&&_, cond}
 use mathlib.Core.List.{List, [], _∷_}

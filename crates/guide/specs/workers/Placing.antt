@@ -1,4 +1,4 @@
--- Placing one segment after another: the first fault in document 01's order 13, 15 or 16, 25 (request 2), 14. The state is the last node and how often each
+-- Placing one segment after another: the first fault in the order 13, 15, 25 (request 2), 14. The state is the last node and how often each
 -- node has come in the open instance of its parent; no tree is kept.
 use Prim.Native.Nat.{ℕ, zero, suc, _-_}
 use mathlib.Core.Bool.{Bool, true, false, not, _&&_, _||_, cond}

@@ -114,13 +114,13 @@ module _ (g : Guide) (n q : ℕ) (other : q ≡ node g n .partner) where
     unfolding over
     over-second h k = rw (pairs h, sym other, eq-eqb (tally cs q) 0 k)
 
-    pub over-alone : (r : ℕ) → q ≡ 0 → r ≡ node g n .refusal → r ≡ over g n (tally cs)
+    pub over-alone : q ≡ 0 → 15 ≡ over g n (tally cs)
     unfolding over
-    over-alone r h k = rw (unpaired h) k
+    over-alone h = rw (unpaired h)
 
-    pub over-third : (r : ℕ) → (q ≡ 0 → ⊥) → (tally cs q ≡ 0 → ⊥) → r ≡ node g n .refusal → r ≡ over g n (tally cs)
+    pub over-third : (q ≡ 0 → ⊥) → (tally cs q ≡ 0 → ⊥) → 15 ≡ over g n (tally cs)
     unfolding over
-    over-third r h k l = rw (pairs h, sym other, ne-eqb (tally cs q) 0 k) l
+    over-third h k = rw (pairs h, sym other, ne-eqb (tally cs q) 0 k)
 
   pub number-alone : q ≡ 0 → n ≡ numberOf g n
   unfolding numberOf

@@ -30,7 +30,7 @@ nextDue g n = lowest (dueOf g (node g n .parent)) (suc n) (length g - suc n)
 
 -- a row as two words of the code, field above field
 unfoldable pub tagWord : Guide → ℕ → ℕ
-tagWord g n = packed (node g n .tag) + 268435456 * (node g n .refusal + 256 * node g n .counter)
+tagWord g n = packed (node g n .tag) + 268435456 * node g n .counter
 
 unfoldable pub termWord : Guide → ℕ → ℕ
 termWord g n =

@@ -137,10 +137,6 @@ impl Guide {
             _ => &[],
         }
     }
-
-    pub fn tag(&self, node: usize) -> &str {
-        &self.node(node).page.tag
-    }
 }
 
 /// The tables of 2.0d: those under the headings `### node tag, name` of the section `## Tables of PRICAT 2.0d`.

@@ -56,7 +56,7 @@ impl<'a> Open<'a> {
         (1..=self.guide.nodes.len()).filter(is_one).collect()
     }
 
-    /// Puts a segment at its node: 13, 15 or 16, 25, 14.
+    /// Puts a segment at its node: 13, 15, 25, 14.
     pub fn place(&mut self, segment: &Segment) -> Result<usize, (u32, usize)> {
         let mut found = None;
         for node in self.candidates(segment) {
@@ -69,7 +69,7 @@ impl<'a> Open<'a> {
         }
         let (node, level, counter) = found.ok_or((13, 0))?;
         if self.instances[level].occurred.get(&node).copied().unwrap_or(0) >= self.guide.node(node).limit {
-            return Err((if self.guide.tag(node) == "LIN" { 16 } else { 15 }, node));
+            return Err((15, node));
         }
         let code = segment.part(1, 1).to_vec();
         if self.guide.together(node).contains(&code) && self.instances[level].codes.contains(&code) {

@@ -62,7 +62,7 @@ missing-node-requires c κs =
     ((inside some, before-inside some), follows some)
 
 number-over-requires : tie.Need-number-over-requires
-number-over-requires c κs = inside (c .before .before .before .before .before .before)
+number-over-requires c κs = search needs
 
 returns-2 : tie.Need-returns-2
 returns-2 c =

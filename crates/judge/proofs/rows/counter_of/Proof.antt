@@ -1,6 +1,6 @@
 -- `judge::rows::counter_of` meets its contract: its digit is, computed, the field in every row of both guides. Assumes nothing.
 use borrow.Author.Needs.{needs}
-use Prim.Native.Nat.{ℕ, _/_}
+use Prim.Native.Nat.{ℕ, _/_, _%_}
 use mathlib.Core.Path.{refl}
 use Rattle.guide.specs.Nodes.{Guide, node}
 use Rattle.guide.specs.Pricat.{pricat20d, pricat20c}
@@ -19,7 +19,7 @@ cast-result c = search needs
 returns : tie.Need-returns
 unfolding pricat20d pricat20c tagWord packed
 returns c =
-    digit-at tagWord (λ (g : Guide) (n : ℕ). node g n .counter) (λ (x : ℕ). x / 68719476736) refl refl (c .before .args .edition) (c .before .args .n)
+    digit-at tagWord (λ (g : Guide) (n : ℕ). node g n .counter) (λ (x : ℕ). x / 268435456 % 4096) refl refl (c .before .args .edition) (c .before .args .n)
     (c .before .pre) _ (c .tag-word .ensures)
 
 pub counter-of-spec : {M : Type 1} → statement M
