@@ -10,7 +10,7 @@ use crate::runs::fresh_run;
 use cut::{Cut, Syntax, segment_at};
 
 // The number of a LIN among the message's segments, from 1, and the place of its first byte; or that no position agrees with an earlier one.
-#[derive(Drop)]
+#[derive(Clone, Copy)]
 pub enum Agreeing {
     At { segment: usize, place: usize },
     Nothing,

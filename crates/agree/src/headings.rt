@@ -12,7 +12,7 @@ use cut::{Cut, Syntax, past_breaks, segment_at};
 use element::Span;
 
 // An empty part is a missing segment.
-#[derive(Drop)]
+#[derive(Clone, Copy)]
 pub struct Head {
     pub lin: Span,
     pub pia: Span,

@@ -1,4 +1,6 @@
 // Rule 23: which position of a message agrees with an earlier one.
+#![tactic(auto)]
+
 mod agreement;
 mod earlier;
 mod first;

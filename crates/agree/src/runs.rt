@@ -13,7 +13,7 @@ use sieve::{is_marked, mark, print_of};
 
 // How many segments it has, the place where they end, and whether a position stopped it that agrees with one of it. That decides only how the
 // search goes on, so nothing is promised of it.
-#[derive(Drop)]
+#[derive(Clone, Copy)]
 pub struct Run {
     pub count: usize,
     pub end: usize,
@@ -21,7 +21,7 @@ pub struct Run {
 }
 
 // Whether a segment stops a run, and for how many positions there is room behind it.
-#[derive(Drop)]
+#[derive(Clone, Copy)]
 pub struct Joined {
     pub stops: bool,
     pub room: usize,

@@ -1,4 +1,6 @@
 // Rows of bytes: their parts and beginnings, and eight of them at once in one number. Knows nothing of EDIFACT.
+#![tactic(auto)]
+
 mod beginning;
 mod eights;
 mod limit;

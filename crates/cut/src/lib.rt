@@ -1,5 +1,7 @@
 // Cuts a delivery of EDIFACT bytes into segments, for any service characters, with or without skipping the line breaks between them. No call
 // asks anything of its caller, and each says its whole answer by a definition of specs/.
+#![tactic(auto)]
+
 mod admit;
 mod begins;
 mod breaks;

@@ -9,7 +9,7 @@ use crate::service::Syntax;
 use bytewise::{alike, eight_at, first_of};
 
 // A segment's first byte, the byte after its last, and whether it is an unterminated piece; or nothing.
-#[derive(Drop)]
+#[derive(Clone, Copy)]
 pub enum Cut {
     Segment {
         start: usize,

@@ -5,7 +5,7 @@ ghost use Rattle.cut.specs.Base.{edifact, strictly};
 // The service characters in the order in which UNA gives them (ISO 9735; the reserved byte, a blank, stands before the last), and whether the
 // line breaks between segments are skipped.
 #[repr(C)]
-#[derive(Drop)]
+#[derive(Clone, Copy)]
 pub struct Syntax {
     pub component: u8,
     pub element: u8,

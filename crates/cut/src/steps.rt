@@ -8,14 +8,14 @@ use crate::service::Syntax;
 use crate::used::characters;
 
 // The service characters and the place that the next segment is looked for at.
-#[derive(Drop)]
+#[derive(Clone, Copy)]
 pub struct Cursor {
     pub syntax: Syntax,
     pub at: usize,
 }
 
 // The next segment and the cursor after it; or nothing.
-#[derive(Drop)]
+#[derive(Clone, Copy)]
 pub enum Step {
     Segment {
         start: usize,

@@ -8,7 +8,7 @@ use cut::Syntax;
 
 // The place of the component that comes next, the place behind the last word that was tested, and the flags of those of this word's service characters that
 // are not before the component.
-#[derive(Drop)]
+#[derive(Clone, Copy)]
 pub(crate) struct Scan {
     pub(crate) at: usize,
     pub(crate) next: usize,

@@ -8,14 +8,14 @@ use crate::usual::has_usual_services;
 use bytewise::limit_of;
 use cut::Syntax;
 
-#[derive(Drop)]
+#[derive(Clone, Copy)]
 pub struct Span {
     pub start: usize,
     pub end: usize,
 }
 
 // The answer of the quick search: where it is not told, the part says nothing.
-#[derive(Drop)]
+#[derive(Clone, Copy)]
 struct Quick {
     told: bool,
     span: Span,

@@ -7,7 +7,7 @@ use bytewise::limit_of;
 use cut::Syntax;
 
 // The numbers and the place of the component that comes next, and the place after the segment's last byte.
-#[derive(Drop)]
+#[derive(Clone, Copy)]
 pub struct Cursor {
     pub element: usize,
     pub component: usize,
@@ -16,7 +16,7 @@ pub struct Cursor {
 }
 
 // A component with its numbers, from its first byte to the place after its last, and the cursor after it; or that none is left.
-#[derive(Drop)]
+#[derive(Clone, Copy)]
 pub enum Visit {
     At {
         element: usize,

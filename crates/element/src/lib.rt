@@ -1,5 +1,7 @@
 // Reads what stands in one segment: its elements and components. Every call answers for any service characters and for any part of a delivery,
 // from one place up to another.
+#![tactic(auto)]
+
 mod ahead;
 mod components;
 mod cursor;

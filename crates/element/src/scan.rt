@@ -13,7 +13,7 @@ use cut::Syntax;
 use plain::plain_length;
 
 // The place after a component's last byte, and how many bytes it has with release marks removed.
-#[derive(Drop)]
+#[derive(Clone, Copy)]
 pub struct Extent {
     pub end: usize,
     pub length: usize,

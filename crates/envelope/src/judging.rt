@@ -9,7 +9,7 @@ use crate::walking::{Walk, begins_tag, walked};
 use cut::{Cut, Syntax, admission, opening, segment_at};
 
 // All is well; or the number and the place of the first refusal.
-#[derive(Drop)]
+#[derive(Clone, Copy)]
 pub enum Enveloped {
     Complete,
     Refused { number: u32, place: usize },

@@ -7,7 +7,7 @@ ghost use Rattle.envelope.specs.workers.Walk.{segment_in, role_of, one_more, str
 use cut::{Cut, Syntax, segment_at};
 
 // What a segment is: whether it begins a message, whether it is outside, and whether what follows is within a message.
-#[derive(Drop)]
+#[derive(Clone, Copy)]
 struct Role {
     begins: bool,
     outside: bool,
@@ -16,7 +16,7 @@ struct Role {
 
 // What is kept of the segments passed: the messages begun, whether one is open (`within`), the place of the first segment outside between the first and
 // the last passed, or the delivery's length, and the last passed with whether it is outside; the first does not count as outside.
-#[derive(Drop)]
+#[derive(Clone, Copy)]
 pub(crate) struct Walk {
     pub messages: usize,
     pub within: bool,

@@ -1,4 +1,6 @@
 // A reader that holds the delivery, how it is cut and its place, for callers who go through the segments once.
+#![tactic(auto)]
+
 mod next;
 mod reader;
 

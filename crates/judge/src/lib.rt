@@ -1,4 +1,6 @@
 // Judges one message by the guide of an edition: placing its segments.
+#![tactic(auto)]
+
 mod after_words;
 mod code_words;
 mod counting;

@@ -11,7 +11,7 @@ use cut::Syntax;
 use guide::Edition;
 
 // The row of the segment's node, or a refusal with its number and row.
-#[derive(Drop)]
+#[derive(Clone, Copy)]
 pub enum Placed {
     At(usize),
     Refused { number: u32, node: usize },

@@ -10,7 +10,7 @@ use crate::tags::{Spot, Tag, spot_at};
 use cut::{Syntax, admission, begins_segment, first_from, opening};
 
 // A message's first byte and the byte after its last; or nothing.
-#[derive(Drop)]
+#[derive(Clone, Copy)]
 pub enum Found {
     Message { start: usize, end: usize },
     Nothing,

@@ -7,7 +7,7 @@ use crate::tags::{Tag, tag_at};
 use cut::{Syntax, past_breaks};
 
 // A further segment of the message, by its first byte and whether it is the UNT; or nothing.
-#[derive(Drop)]
+#[derive(Clone, Copy)]
 pub enum Head {
     Inside { place: usize, last: bool },
     Nothing,

@@ -1,5 +1,7 @@
 // Finds the messages of a delivery and walks through one of them, however it is cut. No call asks anything of its caller, and each
 // says its whole answer by a definition of specs/.
+#![tactic(auto)]
+
 mod ahead;
 mod found;
 mod head;

@@ -9,7 +9,7 @@ use crate::tags::{Tag, tag_of};
 use cut::{Cut, Syntax, past_breaks, segment_at};
 
 // A message begins there; or a segment outside, which ends at `end`; or nothing.
-#[derive(Drop)]
+#[derive(Clone, Copy)]
 pub enum Outer {
     Message,
     Segment { end: usize },

@@ -7,7 +7,7 @@ ghost use Rattle.messages.specs.workers.Walks.{head_spot, tag_at};
 
 use cut::{Cut, Syntax, cut_at, segment_at};
 
-#[derive(Drop)]
+#[derive(Clone, Copy)]
 pub enum Tag {
     Unh,
     Unt,
@@ -16,7 +16,7 @@ pub enum Tag {
 }
 
 // A segment's first byte, its tag and the byte after its last; or nothing.
-#[derive(Drop)]
+#[derive(Clone, Copy)]
 pub enum Spot {
     At { start: usize, tag: Tag, end: usize },
     Nothing,

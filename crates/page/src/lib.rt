@@ -1,4 +1,6 @@
 // The page check: the first fault of a segment against the page of its node, and where the components stand that a message's rules ask for.
+#![tactic(auto)]
+
 mod cells;
 mod coded;
 mod examining;

@@ -6,7 +6,7 @@ ghost use Rattle.page.specs.workers.Places.{places_on};
 use element::Span;
 
 // The first component behind the tag, and the first of element 3.
-#[derive(Drop)]
+#[derive(Clone, Copy)]
 pub(crate) struct Places {
     pub(crate) first: Span,
     pub(crate) third: Span,
@@ -14,7 +14,7 @@ pub(crate) struct Places {
 
 // The fault, and where two components stand that the rules of a message ask for: the first behind the tag, and the first of element 3. Behind a fault both
 // are the empty part at the segment's start.
-#[derive(Drop)]
+#[derive(Clone, Copy)]
 pub(crate) struct Examined {
     pub(crate) fault: u32,
     pub(crate) first: Span,

@@ -12,7 +12,7 @@ use crate::scan::untested;
 use cut::Syntax;
 use element::Span;
 
-#[derive(Drop)]
+#[derive(Clone, Copy)]
 pub(crate) struct Faultless {
     pub(crate) end: usize,
     pub(crate) places: Places,

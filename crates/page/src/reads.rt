@@ -12,7 +12,7 @@ use element::Span;
 use guide::Edition;
 
 // The first fault or 0, where two components stand that the rules of a message ask for, as in `Examined`, and the byte after the segment.
-#[derive(Drop)]
+#[derive(Clone, Copy)]
 pub struct Reading {
     pub number: u32,
     pub first: Span,

@@ -7,7 +7,7 @@ use cut::Syntax;
 
 // The place of the component that comes next, the place behind the last word that was tested, and the flags of those of this word's marks that are not before
 // the component.
-#[derive(Drop)]
+#[derive(Clone, Copy)]
 pub(crate) struct Scan {
     pub(crate) at: usize,
     pub(crate) next: usize,
@@ -15,7 +15,7 @@ pub(crate) struct Scan {
 }
 
 // The place after a component's last byte, its length with release marks removed, and the scan behind the byte that ends it.
-#[derive(Drop)]
+#[derive(Clone, Copy)]
 pub(crate) struct Ahead {
     pub(crate) end: usize,
     pub(crate) length: usize,

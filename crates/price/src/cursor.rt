@@ -12,14 +12,14 @@ use element::component_at;
 use value::number_of;
 
 // Where the walk over a message's segments stands, and the position that it is in.
-#[derive(Drop)]
+#[derive(Clone, Copy)]
 pub struct Cursor {
     pub at: usize,
     pub held: Held,
 }
 
 // A price: its position, where its article stands, its amount and decimals, and the cursor behind it; or that there is none.
-#[derive(Drop)]
+#[derive(Clone, Copy)]
 pub enum Next {
     Price {
         position: usize,

@@ -13,7 +13,7 @@ use crate::spots::{Held, Spot, added, moved, spot_at};
 use cut::Syntax;
 
 // How many prices were written, and how many the message has.
-#[derive(Drop)]
+#[derive(Clone, Copy)]
 pub struct Filled {
     pub written: usize,
     pub total: usize,

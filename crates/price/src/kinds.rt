@@ -3,7 +3,7 @@ ghost use Rattle.std.specs.Prelude.{◌≤◌, true, ◌&&◌, [], ◌∷◌, �
 ghost use Rattle.bytewise.specs.Bytes.{part};
 ghost use Rattle.price.specs.Listing.{kind_of, is_pri};
 
-#[derive(Drop)]
+#[derive(Clone, Copy)]
 pub enum Kind {
     Lin,
     Pri,

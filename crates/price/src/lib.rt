@@ -1,4 +1,6 @@
 // The prices of one message: into a lent row, one after the other, and where the article of a price stands.
+#![tactic(auto)]
+
 mod articles;
 mod cursor;
 mod filling;

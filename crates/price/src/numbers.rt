@@ -13,7 +13,7 @@ use plain::is_code;
 use value::{Number, number_of};
 
 // In document 01's order.
-#[derive(Drop)]
+#[derive(Clone, Copy)]
 pub struct Numbers {
     pub position: i64,
     pub article: i64,

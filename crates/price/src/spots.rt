@@ -7,7 +7,7 @@ use crate::kinds::{Kind, kind_of};
 use cut::{Cut, Syntax, segment_at};
 
 // A segment's first byte, its kind and the byte after its last; or that there is none.
-#[derive(Drop)]
+#[derive(Clone, Copy)]
 pub enum Spot {
     At {
         start: usize,
@@ -18,7 +18,7 @@ pub enum Spot {
 }
 
 // A position's running number, and where its LIN stands; before the first LIN the number is 0 and the part is empty.
-#[derive(Drop)]
+#[derive(Clone, Copy)]
 pub struct Held {
     pub number: usize,
     pub start: usize,

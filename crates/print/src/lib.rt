@@ -1,4 +1,6 @@
 // The lines of the checking program, chunk after chunk into a lent buffer, by a printer that is a value.
+#![tactic(auto)]
+
 mod message_lines;
 mod price_lines;
 mod rows;

@@ -9,7 +9,7 @@ use plain::literal;
 use value::{count_text, decimal_text};
 
 // How far a part was copied, to how many bytes, and whether that is all of it.
-#[derive(Drop)]
+#[derive(Clone, Copy)]
 pub struct Copied {
     pub from: usize,
     pub length: usize,

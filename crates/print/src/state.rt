@@ -3,7 +3,7 @@ use cut::Syntax;
 use price::Cursor;
 
 // How far the walk over the delivery has come, and what it has counted.
-#[derive(Drop)]
+#[derive(Clone, Copy)]
 pub struct Counts {
     pub at: usize,
     pub messages: usize,
@@ -12,7 +12,7 @@ pub struct Counts {
 }
 
 // What is left of an article that is being printed, and the numbers behind it.
-#[derive(Drop)]
+#[derive(Clone, Copy)]
 pub struct Rest {
     pub from: usize,
     pub to: usize,
@@ -22,7 +22,7 @@ pub struct Rest {
 
 // What comes next: the line of a refused delivery; a message or the last line; a price of the message that ends where the counts stand; the rest
 // of an article; nothing.
-#[derive(Drop)]
+#[derive(Clone, Copy)]
 pub enum Stage {
     Refused { number: u32 },
     Between,
@@ -31,7 +31,7 @@ pub enum Stage {
     Ended,
 }
 
-#[derive(Drop)]
+#[derive(Clone, Copy)]
 pub struct Printer {
     pub syntax: Syntax,
     pub counts: Counts,
@@ -39,14 +39,14 @@ pub struct Printer {
 }
 
 // So many bytes were written, and the printer behind them.
-#[derive(Drop)]
+#[derive(Clone, Copy)]
 pub struct Chunk {
     pub length: usize,
     pub next: Printer,
 }
 
 // A chunk; all is printed; the buffer is too short; or the printer is none that was made here. Only a chunk writes.
-#[derive(Drop)]
+#[derive(Clone, Copy)]
 pub enum Printed {
     Written { chunk: Chunk },
     Ended,

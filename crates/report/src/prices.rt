@@ -8,7 +8,7 @@ use schaumtruhe::{Priced, Reading, prices};
 
 // What is to be done behind some lines: go on from a price; nothing more, since all lines stand; nothing, since a write failed; nothing, since
 // the library gave no prices though there are more.
-#[derive(Drop)]
+#[derive(Clone, Copy)]
 enum Left {
     From { price: usize },
     Nothing,

@@ -1,5 +1,7 @@
 // The calls over a delivery: survey, envelope, next message, verdict, prices and article. Each takes first how it reads, and answers for every reading,
 // slice, place and number.
+#![tactic(auto)]
+
 mod articles;
 mod calls;
 mod judging;

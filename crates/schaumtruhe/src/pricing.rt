@@ -7,7 +7,7 @@ use cut::Syntax;
 use price::fill;
 
 // How many prices were written and how many the message has; or 1, 2, 31 or 30.
-#[derive(Drop)]
+#[derive(Clone, Copy)]
 pub enum Priced {
     Written { written: usize, total: usize },
     Refused { number: u32 },

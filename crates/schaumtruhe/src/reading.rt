@@ -5,7 +5,7 @@ ghost use Rattle.schaumtruhe.specs.Readings.{usual_reading, strict_reading};
 use cut::Syntax;
 
 #[repr(C)]
-#[derive(Drop)]
+#[derive(Clone, Copy)]
 pub struct Reading {
     pub syntax: Syntax,
 }

@@ -7,7 +7,7 @@ use cut::Syntax;
 use verdict::{Verdict, judged};
 
 // The message's start and end; or 1, 2, 31 or 30.
-#[derive(Drop)]
+#[derive(Clone, Copy)]
 pub enum Standing {
     Accepted { start: usize, end: usize },
     Refused { number: u32 },

@@ -11,7 +11,7 @@ use messages::{Outer, outer_at};
 use verdict::{Verdict, judged};
 
 // The counts; or 1 or 2.
-#[derive(Drop)]
+#[derive(Clone, Copy)]
 pub enum Surveyed {
     Counted {
         messages: usize,
@@ -24,7 +24,7 @@ pub enum Surveyed {
 }
 
 // What one step from message to message adds to the counts, and where it ends.
-#[derive(Drop)]
+#[derive(Clone, Copy)]
 struct Counts {
     messages: usize,
     accepted: usize,

@@ -10,7 +10,7 @@ use verdict::Verdict;
 
 // The whole delivery: messages found, accepted, and segments outside.
 #[repr(C)]
-#[derive(Drop)]
+#[derive(Clone, Copy)]
 pub struct Totals {
     pub number: u32,
     pub messages: usize,
@@ -20,7 +20,7 @@ pub struct Totals {
 
 // 0 and 0 if the envelope is complete; or the refusal and its place.
 #[repr(C)]
-#[derive(Drop)]
+#[derive(Clone, Copy)]
 pub struct Envelope {
     pub number: u32,
     pub place: usize,
@@ -28,7 +28,7 @@ pub struct Envelope {
 
 // 1 and a message's first byte and the byte after its last; or 0.
 #[repr(C)]
-#[derive(Drop)]
+#[derive(Clone, Copy)]
 pub struct Next {
     pub found: u32,
     pub start: usize,
@@ -37,7 +37,7 @@ pub struct Next {
 
 // Refused: number, segment, place of its first byte, node. Accepted: 0, the count of segments, the byte after the message, 0.
 #[repr(C)]
-#[derive(Drop)]
+#[derive(Clone, Copy)]
 pub struct Judged {
     pub number: u32,
     pub segment: usize,
@@ -47,7 +47,7 @@ pub struct Judged {
 
 // How many prices were written, and how many the message has.
 #[repr(C)]
-#[derive(Drop)]
+#[derive(Clone, Copy)]
 pub struct Prices {
     pub number: u32,
     pub written: usize,
@@ -56,7 +56,7 @@ pub struct Prices {
 
 // Where an article stands in the delivery, and its length with releases.
 #[repr(C)]
-#[derive(Drop)]
+#[derive(Clone, Copy)]
 pub struct Article {
     pub number: u32,
     pub place: usize,
@@ -65,7 +65,7 @@ pub struct Article {
 
 // 1 and a segment's first byte, the byte after its last, and 1 if it is a piece, else 0; or 0.
 #[repr(C)]
-#[derive(Drop)]
+#[derive(Clone, Copy)]
 pub struct Segment {
     pub found: u32,
     pub start: usize,

@@ -1,5 +1,7 @@
 // The calls over a delivery for programs in C and Rust. The reading is a struct by value, a slice a pointer and a length; each answer is a
 // struct of numbers by value, and the only lent rows are those of `prices` and `plain`. Every call answers for every reading, slice, place and number.
+#![tactic(auto)]
+
 mod answers;
 mod calls;
 

@@ -1,7 +1,9 @@
 // Judges the delivery on standard input: in the usual reading, or strictly where the one argument is `--strict`.
+#![tactic(auto)]
+
 use libc::STDERR_FILENO;
 
-#[derive(Drop)]
+#[derive(Clone, Copy)]
 enum Asked {
     Usual,
     Strict,

@@ -1,5 +1,7 @@
 // Prints for each file of data/ its name and the lines that the checking program prints for it (docs/VECTORS.md). A new sheet is a file there
 // and a line here; one whose name begins `strict_` is read strictly.
+#![tactic(auto)]
+
 use libc::STDOUT_FILENO;
 use schaumtruhe::Reading;
 

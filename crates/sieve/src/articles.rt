@@ -11,7 +11,7 @@ use bytewise::{alike, eight_at, limit_of};
 use cut::Syntax;
 
 // A print, and behind it fewer than eight bytes that are not in it yet: the number they make, and how much the next one counts.
-#[derive(Drop)]
+#[derive(Clone, Copy)]
 pub struct Gathered {
     pub print: u32,
     pub number: u64,

@@ -10,7 +10,7 @@ use cut::{Syntax, releases};
 use element::Span;
 
 // What stops a component, if anything does.
-#[derive(Drop)]
+#[derive(Clone, Copy)]
 pub enum Stop {
     Segment,
     Element,
@@ -19,7 +19,7 @@ pub enum Stop {
 }
 
 // What stopped a component, the place after that, and the print up to there. The end of the bytes stops the segment.
-#[derive(Drop)]
+#[derive(Clone, Copy)]
 pub struct Printed {
     pub stop: Stop,
     pub place: usize,

@@ -9,7 +9,7 @@ use cut::Syntax;
 use plain::literal;
 
 // A count, or nothing where the bytes are none, or have more than fifteen digits.
-#[derive(Drop)]
+#[derive(Clone, Copy)]
 pub enum Count {
     Is(u64),
     Nothing,

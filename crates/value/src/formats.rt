@@ -9,7 +9,7 @@ use cut::Syntax;
 use plain::plain_length;
 
 // an..k, ank, n..k and nk.
-#[derive(Drop)]
+#[derive(Clone, Copy)]
 pub enum Format {
     AnUpTo(usize),
     An(usize),

@@ -1,5 +1,7 @@
 // Reads what a component is worth: formats, numbers, counts; and writes a number as text. Every call that reads answers for any service
 // characters and for any part of a delivery, from one place up to another.
+#![tactic(auto)]
+
 mod counts;
 mod digit_runs;
 mod formats;

@@ -9,7 +9,7 @@ use cut::Syntax;
 use plain::literal;
 
 // Digits from a place on: how many, their value, and the place of the first byte that is none.
-#[derive(Drop)]
+#[derive(Clone, Copy)]
 pub(crate) struct Run {
     pub count: usize,
     pub value: u64,
@@ -17,7 +17,7 @@ pub(crate) struct Run {
 }
 
 // A number of at most fifteen digits with its value, one of more digits, or something else.
-#[derive(Drop)]
+#[derive(Clone, Copy)]
 pub(crate) enum Numeral {
     Short {
         minus: bool,

@@ -7,7 +7,7 @@ use crate::numeral::{Numeral, numeral_of};
 use cut::Syntax;
 
 // 168.06 is 16806 and 2; what is no number, or has more than fifteen digits, has no value here.
-#[derive(Drop)]
+#[derive(Clone, Copy)]
 pub enum Number {
     Amount { amount: i64, decimals: u8 },
     Nothing,

@@ -2,7 +2,7 @@
 
 // Accepted, with the count of its segments and the byte after it; or refused, with number, segment, the place of the segment's first byte
 // and node.
-#[derive(Drop)]
+#[derive(Clone, Copy)]
 pub enum Verdict {
     Accepted {
         segments: usize,
@@ -17,7 +17,7 @@ pub enum Verdict {
 }
 
 // A message's verdict, and the byte after the message.
-#[derive(Drop)]
+#[derive(Clone, Copy)]
 pub struct Judged {
     pub verdict: Verdict,
     pub end: usize,

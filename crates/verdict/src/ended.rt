@@ -13,7 +13,7 @@ use judge::has_tag;
 
 // The verdict of a message whose segments have no fault; or 23, of which a second walk names segment and node: the place of the first position that agrees
 // with an earlier one.
-#[derive(Drop)]
+#[derive(Clone, Copy)]
 pub enum Conclusion {
     Told(Verdict),
     Agrees { place: usize },

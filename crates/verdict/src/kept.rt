@@ -14,7 +14,7 @@ use sieve::note_article;
 
 // The last node, how many positions there were, where the reference in UNH stands, whether BGM has the code Z04, and whether there is a doubt that no
 // two positions agree: an article may have come twice.
-#[derive(Drop)]
+#[derive(Clone, Copy)]
 pub struct Kept {
     pub last: usize,
     pub positions: usize,

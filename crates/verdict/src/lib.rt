@@ -1,4 +1,6 @@
 // The verdict of one message: its segments one after the other, then its end, then agreeing positions.
+#![tactic(auto)]
+
 mod answers;
 mod edition;
 mod ended;

@@ -25,7 +25,7 @@ use messages::{Head, head_at, message_end};
 
 // What comes of a message's segments: if one is refused, the answer for the message; or else what is kept of them, how many there are, and where they
 // end.
-#[derive(Drop)]
+#[derive(Clone, Copy)]
 pub enum Walked {
     Refused(Judged),
     Fits(Kept, usize, usize),

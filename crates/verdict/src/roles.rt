@@ -6,7 +6,7 @@ ghost use Rattle.verdict.specs.workers.Segments.{role_of};
 use guide::Edition;
 
 // By the tag of its node: LIN is numbered, UNT has the count and the reference of UNH, and BGM says whether positions are compared.
-#[derive(Drop)]
+#[derive(Clone, Copy)]
 pub enum Role {
     Lin,
     Unt,

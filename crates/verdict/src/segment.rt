@@ -16,7 +16,7 @@ use page::{bytes_fault, read};
 
 // A segment that is placed: its node, what that is to the rules of a message, and where the first component behind the tag stands and the first of
 // element 3.
-#[derive(Drop)]
+#[derive(Clone, Copy)]
 pub struct Found {
     pub node: usize,
     pub role: Role,
@@ -25,7 +25,7 @@ pub struct Found {
 }
 
 // What comes of a segment, and the byte after it.
-#[derive(Drop)]
+#[derive(Clone, Copy)]
 pub enum Answered {
     Fits(Found, usize),
     Refused {

@@ -1,0 +1,40 @@
+-- `agree::earlier::agrees_earlier` meets its contract. The loop's invariant: the segments that are left give the answer.
+use mathlib.Core.Path.{refl, sym, ◌∙◌}
+use mathlib.Core.Bool.{false}
+use Rattle.cut.proofs.Ahead.{CutAhead, cut_ahead, none_ahead}
+use Rattle.agree.proofs.earlier.Search.{seeks_agree, any_none, any_found, any_on, any_out}
+use borrow.Author.Rules.{rules}
+use Rattle.agree.proofs.earlier.agrees_earlier.Goals as goal
+
+took
+    : (c : goal.In-Segment)
+    → CutAhead c.args.y
+    c.args.d.now c.loop-left.at
+    c.in-Segment.place c.in-Segment.end c.in-Segment.piece
+took c = cut_ahead _ _ _ _ _ _ (sym c.segment_at-s.ensures ∙ c.in-Segment.is)
+
+pub loop-left-init : goal.loop-left-init
+loop-left-init c = refl
+
+pub returns-in_default : goal.returns-in_default
+returns-in_default c =
+    sym (any_none (seeks_agree _ _) _ _ (none_ahead _ _ _ (sym c.segment_at-s.ensures ∙ c.in_default.is)))
+    ∙ c.loop-left.invariant
+
+pub agrees_at-requires : goal.agrees_at-requires
+agrees_at-requires c =
+    let q = took c in
+    search rules
+
+pub returns-then-agrees_at : goal.returns-then-agrees_at
+returns-then-agrees_at c =
+    sym (any_found (seeks_agree _ _) _ _ _ _ _ _ _ (took (goal.at.returns-then-agrees_at c).In-Segment) c.loop-left-test.true _
+    c.agrees_at.ensures c.if-agrees_at.true) ∙ c.loop-left.invariant
+
+pub loop-left-preserved : goal.loop-left-preserved
+loop-left-preserved c =
+    sym (any_on (seeks_agree _ _) _ _ _ _ _ _ _ (took (goal.at.loop-left-preserved c).In-Segment) c.loop-left-test.true _
+    c.agrees_at.ensures c.if-agrees_at.false) ∙ c.loop-left.invariant
+
+pub returns : goal.returns
+returns c = sym (any_out (seeks_agree _ _) _ _ c.loop-left-test.false) ∙ c.loop-left.invariant

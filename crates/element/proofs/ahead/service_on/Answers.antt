@@ -1,0 +1,55 @@
+-- `element::ahead::service_on` meets its contract. The loop's invariant: from where the bytes were tested up to the first
+-- word, they are tested up to the word that comes next.
+use Prim.Native.Nat.{◌-◌}
+use native.Mathlib.Omega.{arith}
+use mathlib.Core.Path.{refl}
+use Rattle.bytewise.proofs.Bytewise.{FirstOf, flagged_there, first_of}
+use Rattle.element.specs.workers.Scans.{waiting, Scanned}
+use Rattle.element.specs.Services.{is_service}
+use Rattle.element.proofs.ahead.Flags.{scan_word, scan_flag}
+use Rattle.element.proofs.ahead.Behind.{sought_flag, sought_none}
+use Rattle.element.proofs.ahead.service_on.Goals as goal
+
+pub overflow_sub-last : goal.overflow_sub-last
+overflow_sub-last c = omega (arith, c.requires.0)
+
+pub loop-m-init : goal.loop-m-init
+loop-m-init c = λ a s. s
+
+pub returns-then-last-n : goal.returns-then-last-n
+returns-then-last-n c =
+    let p = c.requires in
+    sought_none _ _ _ _ p.2 p.1 _ c.untested.ensures
+
+pub loop-m-preserved : goal.loop-m-preserved
+loop-m-preserved c = λ a s.
+    let f = flagged_there c.args.d.now c.loop-m.n _ (is_service c.args.y) _ (omega arith)
+    (λ k. omega (arith, c.shared_slice_known-1.given k)) c.eight_at.ensures c.services_in-m.ensures in
+    scan_word _ _ _ _ _ _ (c.loop-m.invariant a s) c.loop-m-test.true (omega arith) _ f
+
+-- what is tested
+tested
+    : (c : goal.After-first_of)
+    → let a = c.args in
+    Scanned a.y a.d.now a.scan.at c.loop-m.n c.loop-m.m
+tested c =
+    c.loop-m.invariant _ c.requires.3
+
+-- the first flag
+first
+    : (c : goal.After-first_of)
+    → let a = c.args in
+    FirstOf 8 (waiting (is_service a.y) a.d.now a.scan.at c.loop-m.n) c.first_of.result
+first c = first_of _ _ _ (tested c).flagged c.loop-m-test.false c.first_of.ensures
+
+pub overflow_add-result : goal.overflow_add-result
+overflow_add-result c = omega (arith, (first c).within, (tested c).within)
+
+pub overflow_sub-result : goal.overflow_sub-result
+overflow_sub-result c = omega (arith, scan_flag _ _ _ _ _ _ (tested c) _ (first c))
+
+pub overflow_sub-result-2 : goal.overflow_sub-result-2
+overflow_sub-result-2 c = omega (arith, c.loop-m-test.false)
+
+pub returns : goal.returns
+returns c = sought_flag _ _ _ _ _ (tested c) _ (first c) c.loop-m-test.false _ _ refl

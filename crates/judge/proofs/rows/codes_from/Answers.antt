@@ -1,0 +1,16 @@
+-- `judge::rows::codes_from` meets its contract: its digit is, computed, the field in every row of both guides. Assumes nothing.
+use Prim.Native.Nat.{ℕ, ◌/◌, ◌%◌}
+use mathlib.Core.Path.{refl}
+use lib.ListN.{length, take}
+use Rattle.guide.specs.Nodes.{Guide, paired}
+use Rattle.guide.specs.workers.Placing.{lowest}
+use Rattle.guide.specs.Pricat.{pricat20d, pricat20c}
+use Rattle.judge.specs.workers.Rows.{term_word, codes_of, first_due, next_due}
+use Rattle.judge.proofs.rows.Tables.{digit_at}
+use Rattle.judge.proofs.rows.codes_from.Goals as goal
+
+pub returns : goal.returns
+unfolding pricat20d pricat20c term_word codes_of first_due next_due paired lowest
+returns c =
+    digit_at term_word (λ (g : Guide) (n : ℕ). length (codes_of (take n g))) (λ (x : ℕ). x / 4294967296 % 256) refl refl c.args.edition
+    c.args.n c.requires _ c.terms.ensures

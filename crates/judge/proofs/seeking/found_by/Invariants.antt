@@ -1,0 +1,12 @@
+-- `judge::seeking::found_by` meets its contract. The loop's invariant is `Sought`: the answer is found among the nodes that are left. Assumes nothing.
+use Rattle.guide.specs.workers.Placing.{first_node}
+use Rattle.guide.specs.Editions.{guide_of}
+use Rattle.judge.proofs.sets.Sought.{Sought, within}
+use Rattle.judge.proofs.seeking.found_by.Given as goal
+
+abbrev pub invariant-loop-likely : goal.invariant-loop-likely
+invariant-loop-likely l =
+    Sought (guide_of l.edition) (keyed l.edition l.key) (first_node (guide_of l.edition) (within l.nodes (keyed l.edition l.key))) l.likely
+
+abbrev pub decreases-loop-likely : goal.decreases-loop-likely
+decreases-loop-likely l = l.likely

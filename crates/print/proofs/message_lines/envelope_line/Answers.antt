@@ -1,0 +1,9 @@
+-- `print::message_lines::envelope_line` meets its contract.
+use Rattle.print.proofs.Walking.{complete-line, broken-line}
+use Rattle.print.proofs.message_lines.envelope_line.Goals as goal
+
+pub returns-in-Complete : goal.returns-in-Complete
+returns-in-Complete c = complete-line _ _ _ _ c.in-Complete.is c.put_line.ensures
+
+pub returns-in-Refused : goal.returns-in-Refused
+returns-in-Refused c = broken-line _ _ _ _ _ _ c.in-Refused.is c.put_line-in-Refused.ensures

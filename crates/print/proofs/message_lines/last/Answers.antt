@@ -1,0 +1,8 @@
+-- `print::message_lines::last` meets its contract.
+use Rattle.print.proofs.Walking.{last_wrote}
+use Rattle.print.proofs.message_lines.last.Goals as goal
+
+pub returns : goal.returns
+returns c =
+    last_wrote _ _ _ _ _ _ _ _ _ c.requires.1 c.judged.ensures c.envelope_line-v.ensures
+    c.put_line_at-n.ensures c.requires.0

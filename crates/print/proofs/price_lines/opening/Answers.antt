@@ -1,0 +1,9 @@
+-- `print::price_lines::opening` meets its contract.
+use Rattle.print.proofs.Putting.{opened-present, opened_absent}
+use Rattle.print.proofs.price_lines.opening.Goals as goal
+
+pub returns-then-from-to : goal.returns-then-from-to
+returns-then-from-to c = opened-present _ _ _ _ _ _ c.put_line-n.ensures.value c.put_line-n.ensures.out_after c.if-from-to.true
+
+pub returns : goal.returns
+returns c = opened_absent _ _ _ _ _ _ c.put_line-n.ensures.value c.put_line-n.ensures.out_after c.if-from-to.false

@@ -1,0 +1,35 @@
+-- `value::text::put_text` meets its contract: the sign goes into the place before the digits.
+use Rattle.value.proofs.Texts.{room-left, minus-put, plain-put}
+use Rattle.value.proofs.text.put_text.Goals as goal
+
+pub overflow_sub-out : goal.overflow_sub-out
+overflow_sub-out c =
+    room-left _ c.ranges.n _ _ c.magnitude.ensures c.put_digits-at.ensures.m_value
+
+pub returns-then-n-lt0 : goal.returns-then-n-lt0
+returns-then-n-lt0 c =
+    minus-put _
+    c.ranges.n
+    _
+    _
+    c.magnitude.ensures
+    c.put_digits-at.ensures.m_value
+    _
+    _
+    c.requires
+    c.put_digits-at.ensures.out_after
+    c.if-n-lt0.true
+
+pub returns : goal.returns
+returns c =
+    plain-put _
+    c.ranges.n
+    _
+    _
+    c.magnitude.ensures
+    c.put_digits-at.ensures.m_value
+    _
+    _
+    c.requires
+    c.put_digits-at.ensures.out_after
+    c.if-n-lt0.false

@@ -1,0 +1,7 @@
+-- `verdict::kept::intervals_after` meets its contract.
+use Rattle.verdict.specs.workers.Segments.{spanned}
+use Rattle.verdict.proofs.kept.intervals_after.Goals as goal
+
+pub returns : goal.returns
+unfolding spanned
+returns c = rw c.if-intervals.false c.is_code.ensures
