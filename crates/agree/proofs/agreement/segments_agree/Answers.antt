@@ -18,7 +18,7 @@ pub returns-then-not-same_plain : goal.returns-then-not-same_plain
 returns-then-not-same_plain c =
     sym
     (walk-differs _ _ _ _ _ (sym c.both_ended.ensures ∙ c.if-both_ended.false) _ _ _
-    c.shown-s.ensures c.shown-t.ensures c.same_plain.ensures (not-true _ c.if-not-same_plain.true))
+    c.shown-s.ensures c.shown-t.ensures c.same_plain.ensures c.if-not-same_plain.true)
     ∙ c.loop-y.invariant
 
 pub loop-y-smaller : goal.loop-y-smaller
@@ -32,6 +32,6 @@ loop-y-preserved c =
     (walk_on _ _ _ _ _ (sym c.both_ended.ensures
     ∙ c.if-both_ended.false) _ _ _ _ _
     c.shown-s.ensures c.shown-t.ensures
-    c.same_plain.ensures (not-false _ c.if-not-same_plain.false)
+    c.same_plain.ensures c.if-not-same_plain.false
     c.onward-next.ensures c.onward-v.ensures)
     ∙ c.loop-y.invariant

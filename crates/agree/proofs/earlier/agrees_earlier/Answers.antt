@@ -6,13 +6,6 @@ use Rattle.agree.proofs.earlier.Search.{seeks_agree, any_none, any_found, any_on
 use borrow.Author.Rules.{rules}
 use Rattle.agree.proofs.earlier.agrees_earlier.Goals as goal
 
-took
-    : (c : goal.In-Segment)
-    → CutAhead c.args.y
-    c.args.d.now c.loop-left.at
-    c.in-Segment.place c.in-Segment.end c.in-Segment.piece
-took c = cut_ahead _ _ _ _ _ _ (sym c.segment_at-s.ensures ∙ c.in-Segment.is)
-
 pub loop-left-init : goal.loop-left-init
 loop-left-init c = refl
 
@@ -23,17 +16,23 @@ returns-in_default c =
 
 pub agrees_at-requires : goal.agrees_at-requires
 agrees_at-requires c =
-    let q = took c in
+    let took : CutAhead c.args.y c.args.d.now c.loop-left.at c.in-Segment.place c.in-Segment.end c.in-Segment.piece =
+        cut_ahead _ _ _ _ _ _ (sym c.segment_at-s.ensures ∙ c.in-Segment.is) in
+    let q = took in
     search rules
 
 pub returns-then-agrees_at : goal.returns-then-agrees_at
 returns-then-agrees_at c =
-    sym (any_found (seeks_agree _ _) _ _ _ _ _ _ _ (took (goal.at.returns-then-agrees_at c).In-Segment) c.loop-left-test.true _
+    let took : CutAhead c.args.y c.args.d.now c.loop-left.at c.in-Segment.place c.in-Segment.end c.in-Segment.piece =
+        cut_ahead _ _ _ _ _ _ (sym c.segment_at-s.ensures ∙ c.in-Segment.is) in
+    sym (any_found (seeks_agree _ _) _ _ _ _ _ _ _ (took) c.loop-left-test.true _
     c.agrees_at.ensures c.if-agrees_at.true) ∙ c.loop-left.invariant
 
 pub loop-left-preserved : goal.loop-left-preserved
 loop-left-preserved c =
-    sym (any_on (seeks_agree _ _) _ _ _ _ _ _ _ (took (goal.at.loop-left-preserved c).In-Segment) c.loop-left-test.true _
+    let took : CutAhead c.args.y c.args.d.now c.loop-left.at c.in-Segment.place c.in-Segment.end c.in-Segment.piece =
+        cut_ahead _ _ _ _ _ _ (sym c.segment_at-s.ensures ∙ c.in-Segment.is) in
+    sym (any_on (seeks_agree _ _) _ _ _ _ _ _ _ (took) c.loop-left-test.true _
     c.agrees_at.ensures c.if-agrees_at.false) ∙ c.loop-left.invariant
 
 pub returns : goal.returns

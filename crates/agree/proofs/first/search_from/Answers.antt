@@ -8,13 +8,6 @@ use Rattle.agree.proofs.earlier.Search.{search_none, search_found, search_on}
 use borrow.Author.Rules.{rules}
 use Rattle.agree.proofs.first.search_from.Goals as goal
 
-took
-    : (c : goal.In-Segment)
-    → CutAhead c.args.y c.args.d.now
-    c.loop-place.at
-    c.in-Segment.place c.in-Segment.end c.in-Segment.piece
-took c = cut_ahead _ _ _ _ _ _ (sym c.segment_at-s.ensures ∙ c.in-Segment.is)
-
 pub loop-place-init : goal.loop-place-init
 loop-place-init c = c.requires
 
@@ -24,30 +17,42 @@ returns-in_default c =
 
 pub repeats-requires : goal.repeats-requires
 repeats-requires c =
-    let q = took c in
+    let took : CutAhead c.args.y c.args.d.now c.loop-place.at c.in-Segment.place c.in-Segment.end c.in-Segment.piece =
+        cut_ahead _ _ _ _ _ _ (sym c.segment_at-s.ensures ∙ c.in-Segment.is) in
+    let q = took in
     search rules
 
 pub overflow_add-result : goal.overflow_add-result
 overflow_add-result c =
-    let q = took (goal.at.overflow_add-result c).In-Segment in
+    let took : CutAhead c.args.y c.args.d.now c.loop-place.at c.in-Segment.place c.in-Segment.end c.in-Segment.piece =
+        cut_ahead _ _ _ _ _ _ (sym c.segment_at-s.ensures ∙ c.in-Segment.is) in
+    let q = took in
     omega (arith, c.loop-place.invariant.few)
 
 pub returns-then-repeats : goal.returns-then-repeats
 returns-then-repeats c =
-    search_found _ _ _ _ _ c.loop-place.invariant _ _ _ (took (goal.at.returns-then-repeats c).In-Segment) _
+    let took : CutAhead c.args.y c.args.d.now c.loop-place.at c.in-Segment.place c.in-Segment.end c.in-Segment.piece =
+        cut_ahead _ _ _ _ _ _ (sym c.segment_at-s.ensures ∙ c.in-Segment.is) in
+    search_found _ _ _ _ _ c.loop-place.invariant _ _ _ (took) _
     c.repeats.ensures c.if-repeats.true
 
 pub overflow_add-n : goal.overflow_add-n
 overflow_add-n c =
-    let q = took (goal.at.overflow_add-n c).In-Segment in
+    let took : CutAhead c.args.y c.args.d.now c.loop-place.at c.in-Segment.place c.in-Segment.end c.in-Segment.piece =
+        cut_ahead _ _ _ _ _ _ (sym c.segment_at-s.ensures ∙ c.in-Segment.is) in
+    let q = took in
     omega (arith, c.loop-place.invariant.few)
 
 pub loop-place-smaller : goal.loop-place-smaller
 loop-place-smaller c =
-    let q = took (goal.at.loop-place-smaller c).In-Segment in
+    let took : CutAhead c.args.y c.args.d.now c.loop-place.at c.in-Segment.place c.in-Segment.end c.in-Segment.piece =
+        cut_ahead _ _ _ _ _ _ (sym c.segment_at-s.ensures ∙ c.in-Segment.is) in
+    let q = took in
     omega arith
 
 pub loop-place-preserved : goal.loop-place-preserved
 loop-place-preserved c =
-    search_on _ _ _ _ _ c.loop-place.invariant _ _ _ (took (goal.at.loop-place-preserved c).In-Segment) _
+    let took : CutAhead c.args.y c.args.d.now c.loop-place.at c.in-Segment.place c.in-Segment.end c.in-Segment.piece =
+        cut_ahead _ _ _ _ _ _ (sym c.segment_at-s.ensures ∙ c.in-Segment.is) in
+    search_on _ _ _ _ _ c.loop-place.invariant _ _ _ (took) _
     c.repeats.ensures c.if-repeats.false

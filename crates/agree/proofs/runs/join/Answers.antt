@@ -7,20 +7,20 @@ use Rattle.agree.proofs.runs.join.Goals as goal
 
 pub returns-then-not-has_tag : goal.returns-then-not-has_tag
 returns-then-not-has_tag c =
-    let n = not-true _ c.if-not-has_tag.true in
+    let n = c.if-not-has_tag.true in
     (no-lin _ _ c.has_tag.ensures _ n, noted_other _ _ _ _ _ _ c.has_tag.ensures n)
 
 pub returns-then-agrees_marked : goal.returns-then-agrees_marked
 returns-then-agrees_marked c = (
   sym c.if-agrees_marked.true ∙ lin-agrees-any _ _ c.has_tag.ensures _ _ _ _ _
-      (not-false _ c.if-not-has_tag.false) c.head_at-h.ensures
+      c.if-not-has_tag.false c.head_at-h.ensures
       c.agrees_marked.ensures,
   refl,
 )
 
 pub returns : goal.returns
 returns c =
-    let u = not-false _ c.if-not-has_tag.false in (
+    let u = c.if-not-has_tag.false in (
       sym c.if-agrees_marked.false ∙ lin-agrees-any _ _ c.has_tag.ensures _ _ _ _ _ u c.head_at-h.ensures
           c.agrees_marked.ensures,
       noted-lin _ _ _ _ _ _ c.has_tag.ensures _ _ _ u

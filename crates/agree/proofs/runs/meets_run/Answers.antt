@@ -6,13 +6,6 @@ use Rattle.cut.proofs.Ahead.{CutAhead, cut_ahead, none_ahead}
 use Rattle.agree.proofs.earlier.Search.{seeks_meet, any_none, any_found, any_on, any_out}
 use Rattle.agree.proofs.runs.meets_run.Goals as goal
 
-took
-    : (c : goal.In-Segment)
-    → CutAhead c.args.y
-    c.args.d.now c.loop-left.here
-    c.in-Segment.place c.in-Segment.end c.in-Segment.piece
-took c = cut_ahead _ _ _ _ _ _ (sym c.segment_at-s.ensures ∙ c.in-Segment.is)
-
 pub loop-left-init : goal.loop-left-init
 loop-left-init c = refl
 
@@ -23,17 +16,23 @@ returns-in_default c =
 
 pub agrees_in-requires : goal.agrees_in-requires
 agrees_in-requires c =
-    let q = took c in
+    let took : CutAhead c.args.y c.args.d.now c.loop-left.here c.in-Segment.place c.in-Segment.end c.in-Segment.piece =
+        cut_ahead _ _ _ _ _ _ (sym c.segment_at-s.ensures ∙ c.in-Segment.is) in
+    let q = took in
     ((omega (arith, q.some), q.fits), c.requires)
 
 pub returns-then-agrees_in : goal.returns-then-agrees_in
 returns-then-agrees_in c =
-    sym (any_found (seeks_meet _ _) _ _ _ _ _ _ _ (took (goal.at.returns-then-agrees_in c).In-Segment) c.loop-left-test.true _
+    let took : CutAhead c.args.y c.args.d.now c.loop-left.here c.in-Segment.place c.in-Segment.end c.in-Segment.piece =
+        cut_ahead _ _ _ _ _ _ (sym c.segment_at-s.ensures ∙ c.in-Segment.is) in
+    sym (any_found (seeks_meet _ _) _ _ _ _ _ _ _ (took) c.loop-left-test.true _
     c.agrees_in.ensures c.if-agrees_in.true) ∙ c.loop-left.invariant
 
 pub loop-left-preserved : goal.loop-left-preserved
 loop-left-preserved c =
-    sym (any_on (seeks_meet _ _) _ _ _ _ _ _ _ (took (goal.at.loop-left-preserved c).In-Segment) c.loop-left-test.true _
+    let took : CutAhead c.args.y c.args.d.now c.loop-left.here c.in-Segment.place c.in-Segment.end c.in-Segment.piece =
+        cut_ahead _ _ _ _ _ _ (sym c.segment_at-s.ensures ∙ c.in-Segment.is) in
+    sym (any_on (seeks_meet _ _) _ _ _ _ _ _ _ (took) c.loop-left-test.true _
     c.agrees_in.ensures c.if-agrees_in.false) ∙ c.loop-left.invariant
 
 pub returns : goal.returns

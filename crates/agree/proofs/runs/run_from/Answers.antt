@@ -7,13 +7,6 @@ use Rattle.cut.proofs.Ahead.{CutAhead, cut_ahead}
 use Rattle.agree.proofs.runs.Running.{run-begins, run-stops, run_on}
 use Rattle.agree.proofs.runs.run_from.Goals as goal
 
-took
-    : (c : goal.In-Segment)
-    → CutAhead c.args.y
-    c.args.d.now c.loop-room.here
-    c.in-Segment.place c.in-Segment.end c.in-Segment.piece
-took c = cut_ahead _ _ _ _ _ _ (sym c.segment_at-s.ensures ∙ c.in-Segment.is)
-
 pub loop-room-init : goal.loop-room-init
 loop-room-init c = run-begins _ _ _ _ c.requires
 
@@ -22,7 +15,9 @@ returns-in_default c = c.loop-room.invariant.is
 
 pub join-joined-requires : goal.join-joined-requires
 join-joined-requires c =
-    let q = took (goal.at.join-joined-requires c).In-Segment in
+    let took : CutAhead c.args.y c.args.d.now c.loop-room.here c.in-Segment.place c.in-Segment.end c.in-Segment.piece =
+        cut_ahead _ _ _ _ _ _ (sym c.segment_at-s.ensures ∙ c.in-Segment.is) in
+    let q = took in
     ((omega (arith, q.some), q.fits), c.loop-room.invariant.is.marked)
 
 pub returns-then-joined : goal.returns-then-joined
@@ -31,17 +26,23 @@ returns-then-joined c =
 
 pub overflow_add-n : goal.overflow_add-n
 overflow_add-n c =
-    let q = took (goal.at.overflow_add-n c).In-Segment in
+    let took : CutAhead c.args.y c.args.d.now c.loop-room.here c.in-Segment.place c.in-Segment.end c.in-Segment.piece =
+        cut_ahead _ _ _ _ _ _ (sym c.segment_at-s.ensures ∙ c.in-Segment.is) in
+    let q = took in
     omega (arith, q.later, q.some, c.loop-room.invariant.is.few)
 
 pub loop-room-smaller : goal.loop-room-smaller
 loop-room-smaller c =
-    let q = took (goal.at.loop-room-smaller c).In-Segment in
+    let took : CutAhead c.args.y c.args.d.now c.loop-room.here c.in-Segment.place c.in-Segment.end c.in-Segment.piece =
+        cut_ahead _ _ _ _ _ _ (sym c.segment_at-s.ensures ∙ c.in-Segment.is) in
+    let q = took in
     omega (arith, q.later, q.some, q.fits)
 
 pub loop-room-preserved : goal.loop-room-preserved
 loop-room-preserved c =
-    run_on _ _ _ _ _ _ c.loop-room.invariant _ _ _ (took (goal.at.loop-room-preserved c).In-Segment) _
+    let took : CutAhead c.args.y c.args.d.now c.loop-room.here c.in-Segment.place c.in-Segment.end c.in-Segment.piece =
+        cut_ahead _ _ _ _ _ _ (sym c.segment_at-s.ensures ∙ c.in-Segment.is) in
+    run_on _ _ _ _ _ _ c.loop-room.invariant _ _ _ (took) _
     c.join-joined.ensures.stops_value c.if-joined.false _ c.join-joined.ensures.t_after
 
 pub returns : goal.returns

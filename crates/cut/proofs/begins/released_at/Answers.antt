@@ -13,13 +13,13 @@ loop-i-init c = (search rules, refl)
 pub returns-then-not-releases : goal.returns-then-not-releases
 returns-then-not-releases c =
     let l = c.loop-i in
-    let f = sym c.releases.ensures ∙ not-true _ c.if-not-releases.true in
+    let f = sym c.releases.ensures ∙ c.if-not-releases.true in
     sym (l.invariant.1 ∙ run-over _ _ _ _ _ c.loop-i-test.true l.invariant.0 f)
 
 pub loop-i-preserved : goal.loop-i-preserved
 loop-i-preserved c =
     let l = c.loop-i in
-    let f = sym c.releases.ensures ∙ not-false _ c.if-not-releases.false in
+    let f = sym c.releases.ensures ∙ c.if-not-releases.false in
     (search rules, l.invariant.1 ∙ run_on _ _ _ _ _ c.loop-i-test.true l.invariant.0 f)
 
 pub returns : goal.returns

@@ -10,11 +10,11 @@ loop-i-init c = refl
 
 pub returns-then-not-is_break : goal.returns-then-not-is_break
 returns-then-not-is_break c =
-    sym (c.loop-i.invariant ∙ past-here _ _ _ c.loop-i-test.true (sym c.is_break.ensures ∙ not-true _ c.if-not-is_break.true))
+    sym (c.loop-i.invariant ∙ past-here _ _ _ c.loop-i-test.true (sym c.is_break.ensures ∙ c.if-not-is_break.true))
 
 pub loop-i-preserved : goal.loop-i-preserved
 loop-i-preserved c =
-    c.loop-i.invariant ∙ past_on _ _ _ c.loop-i-test.true (sym c.is_break.ensures ∙ not-false _ c.if-not-is_break.false)
+    c.loop-i.invariant ∙ past_on _ _ _ c.loop-i-test.true (sym c.is_break.ensures ∙ c.if-not-is_break.false)
 
 pub returns : goal.returns
 returns c = sym (c.loop-i.invariant ∙ past_end _ _ _ c.loop-i-test.false)

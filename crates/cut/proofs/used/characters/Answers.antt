@@ -9,6 +9,11 @@ slice_bounds-una-count c =
     let f = start_fits _ _ _ c.past_breaks-k.ensures in
     search rules
 
+pub slice_bounds-una-start : goal.slice_bounds-una-start
+slice_bounds-una-start c =
+    let f = start_fits _ _ _ c.past_breaks-k.ensures in
+    search rules
+
 pub returns-then-begins_with : goal.returns-then-begins_with
 returns-then-begins_with c =
     c.named_by.ensures

@@ -8,17 +8,6 @@ use Rattle.element.proofs.components.Walking.{walk_start, walk-found, walk_out, 
 use Rattle.element.proofs.scan.Extents.{extent_end}
 use Rattle.element.proofs.components.each_at.Goals as goal
 
--- where another component follows, its separator stands in the segment
-inside
-    : (c : goal.Else-not-goes_on)
-    → (c.loop-y.i ≤ c.component_from-stop.result.end) × (c.component_from-stop.result.end < c.args.limit)
-inside c =
-    let k =
-    walk_inside _ _ _ _ _ _ _ _ _ c.loop-y.invariant _ (extent_end _ _ _ _ _ c.component_from-stop.ensures)
-    (sym c.numbered.ensures ∙ c.if-numbered.false)
-    (sym c.goes_on.ensures ∙ not-false _ c.if-not-goes_on.false) in
-    (k.0, k.1)
-
 pub loop-y-init : goal.loop-y-init
 loop-y-init c = walk_start _ _ _ _ _ _ c.requires.0 c.requires.1 _ refl
 
@@ -33,33 +22,66 @@ goes_on-requires c = c.loop-y.invariant.within
 pub returns-then-not-goes_on : goal.returns-then-not-goes_on
 returns-then-not-goes_on c =
     walk_out _ _ _ _ _ _ _ _ _ c.loop-y.invariant _ (extent_end _ _ _ _ _ c.component_from-stop.ensures) (sym c.numbered.ensures ∙ c.if-numbered.false)
-    (sym c.goes_on.ensures ∙ not-true _ c.if-not-goes_on.true)
+    (sym c.goes_on.ensures ∙ c.if-not-goes_on.true)
 
 pub bounds-d-stop : goal.bounds-d-stop
-bounds-d-stop c = omega (arith, inside (goal.at.bounds-d-stop c).Else-not-goes_on, c.loop-y.invariant.within)
+bounds-d-stop c =
+    let inside : (c.loop-y.i ≤ c.component_from-stop.result.end) × (c.component_from-stop.result.end < c.args.limit) =
+        let k =
+        walk_inside _ _ _ _ _ _ _ _ _ c.loop-y.invariant _ (extent_end _ _ _ _ _ c.component_from-stop.ensures)
+        (sym c.numbered.ensures ∙ c.if-numbered.false)
+        (sym c.goes_on.ensures ∙ c.if-not-goes_on.false) in
+        (k.0, k.1) in
+    omega (arith, inside, c.loop-y.invariant.within)
 
 pub overflow_add-e : goal.overflow_add-e
 overflow_add-e c =
+    let inside : (c.loop-y.i ≤ c.component_from-stop.result.end) × (c.component_from-stop.result.end < c.args.limit) =
+        let k =
+        walk_inside _ _ _ _ _ _ _ _ _ c.loop-y.invariant _ (extent_end _ _ _ _ _ c.component_from-stop.ensures)
+        (sym c.numbered.ensures ∙ c.if-numbered.false)
+        (sym c.goes_on.ensures ∙ c.if-not-goes_on.false) in
+        (k.0, k.1) in
     let w = c.loop-y.invariant in
-    omega (arith, inside (goal.at.overflow_add-e c).Else-not-goes_on, w.stands, w.within)
+    omega (arith, inside, w.stands, w.within)
 
 pub overflow_add-c : goal.overflow_add-c
 overflow_add-c c =
+    let inside : (c.loop-y.i ≤ c.component_from-stop.result.end) × (c.component_from-stop.result.end < c.args.limit) =
+        let k =
+        walk_inside _ _ _ _ _ _ _ _ _ c.loop-y.invariant _ (extent_end _ _ _ _ _ c.component_from-stop.ensures)
+        (sym c.numbered.ensures ∙ c.if-numbered.false)
+        (sym c.goes_on.ensures ∙ c.if-not-goes_on.false) in
+        (k.0, k.1) in
     let w = c.loop-y.invariant in
-    omega (arith, inside (goal.at.overflow_add-c c).Else-not-goes_on, w.stands, w.within)
+    omega (arith, inside, w.stands, w.within)
 
 pub overflow_add-i : goal.overflow_add-i
-overflow_add-i c = omega (arith, inside (goal.at.overflow_add-i c).Else-not-goes_on, c.loop-y.invariant.within)
+overflow_add-i c =
+    let inside : (c.loop-y.i ≤ c.component_from-stop.result.end) × (c.component_from-stop.result.end < c.args.limit) =
+        let k =
+        walk_inside _ _ _ _ _ _ _ _ _ c.loop-y.invariant _ (extent_end _ _ _ _ _ c.component_from-stop.ensures)
+        (sym c.numbered.ensures ∙ c.if-numbered.false)
+        (sym c.goes_on.ensures ∙ c.if-not-goes_on.false) in
+        (k.0, k.1) in
+    omega (arith, inside, c.loop-y.invariant.within)
 
 pub loop-y-smaller : goal.loop-y-smaller
-loop-y-smaller c = omega (arith, inside (goal.at.loop-y-smaller c).Else-not-goes_on)
+loop-y-smaller c =
+    let inside : (c.loop-y.i ≤ c.component_from-stop.result.end) × (c.component_from-stop.result.end < c.args.limit) =
+        let k =
+        walk_inside _ _ _ _ _ _ _ _ _ c.loop-y.invariant _ (extent_end _ _ _ _ _ c.component_from-stop.ensures)
+        (sym c.numbered.ensures ∙ c.if-numbered.false)
+        (sym c.goes_on.ensures ∙ c.if-not-goes_on.false) in
+        (k.0, k.1) in
+    omega (arith, inside)
 
 pub loop-y-preserved : goal.loop-y-preserved
 loop-y-preserved c =
     let w = c.loop-y.invariant in
     let s = extent_end _ _ _ _ _ c.component_from-stop.ensures in
     let n = sym c.numbered.ensures ∙ c.if-numbered.false in
-    let g = sym c.goes_on.ensures ∙ not-false _ c.if-not-goes_on.false in
+    let g = sym c.goes_on.ensures ∙ c.if-not-goes_on.false in
     ⊎_elim
     (λ a. walk-element _ _ _ _ _ _ _ _ _ w _ s n g _ _ _ a.0.taken a.1 a.2 refl)
     (λ a. walk-component _ _ _ _ _ _ _ _ _ w _ s n g _ _ _ a.0.left a.1 a.2 refl)

@@ -13,20 +13,6 @@ use Rattle.element.proofs.ahead.Behind.{scan_begins, sought_stop, sought_ends}
 use Rattle.element.proofs.components.Counting.{count-start, count-found, count-last, count-component, count_out, count-element, count_on}
 use Rattle.element.proofs.components.quick_at.Goals as goal
 
--- a service character that is no release mark ends the component
-stops
-    : (c : goal.Else-x-y)
-    → let a = c.args in
-    c.service_on-behind.result.at - 1 ≡ c.loop-y.scan.at + length (component a.y (part c.loop-y.scan.at a.limit a.d.now) 0 0)
-stops c =
-    sought_stop _ _ _ _ c.requires.1 _ c.service_on-behind.ensures _ refl c.if-limit-stop.false c.if-x-y.false
-
--- the place behind it
-behind
-    : (c : goal.Else-x-y)
-    → c.service_on-behind.result.at ≡ c.service_on-behind.result.at - 1 + 1
-behind c = omega (arith, c.service_on-behind.ensures.onward)
-
 pub returns-then-not-has_usual_services : goal.returns-then-not-has_usual_services
 returns-then-not-has_usual_services c = λ h. absurd (false≢true (sym c.untold.ensures ∙ h))
 
@@ -57,13 +43,19 @@ pub returns-then-x-y : goal.returns-then-x-y
 returns-then-x-y c = λ h. absurd (false≢true (sym c.untold-then-x-y.ensures ∙ h))
 
 pub returns-then-c-eq0 : goal.returns-then-c-eq0
-returns-then-c-eq0 c = λ h.
-    ap (λ (q : Quick). q.span) c.told.ensures ∙ count-found _ _ _ _ _ _ _ _ _ c.loop-y.invariant.0 _ (stops (goal.at.returns-then-c-eq0 c).Else-x-y) c.if-e-eq0.true c.if-c-eq0.true
+returns-then-c-eq0 c =
+    let stops : let a = c.args in c.service_on-behind.result.at - 1 ≡ c.loop-y.scan.at + length (component a.y (part c.loop-y.scan.at a.limit a.d.now) 0 0) =
+        sought_stop _ _ _ _ c.requires.1 _ c.service_on-behind.ensures _ refl c.if-limit-stop.false c.if-x-y.false in
+    λ h.
+    ap (λ (q : Quick). q.span) c.told.ensures ∙ count-found _ _ _ _ _ _ _ _ _ c.loop-y.invariant.0 _ (stops) c.if-e-eq0.true c.if-c-eq0.true
 
 pub returns-then-x-y-2 : goal.returns-then-x-y-2
-returns-then-x-y-2 c = λ h.
+returns-then-x-y-2 c =
+    let stops : let a = c.args in c.service_on-behind.result.at - 1 ≡ c.loop-y.scan.at + length (component a.y (part c.loop-y.scan.at a.limit a.d.now) 0 0) =
+        sought_stop _ _ _ _ c.requires.1 _ c.service_on-behind.ensures _ refl c.if-limit-stop.false c.if-x-y.false in
+    λ h.
     ap (λ (q : Quick). q.span) c.told-then-x-y-2.ensures
-    ∙ count-last _ _ _ _ _ _ _ _ _ c.loop-y.invariant.0 _ (stops (goal.at.returns-then-x-y-2 c).Else-x-y) c.if-limit-stop.false c.if-e-eq0.true c.if-c-eq0.false
+    ∙ count-last _ _ _ _ _ _ _ _ _ c.loop-y.invariant.0 _ (stops) c.if-limit-stop.false c.if-e-eq0.true c.if-c-eq0.false
     (sought_ends _ _ _ _ c.requires.1 _ c.service_on-behind.ensures _ refl c.if-limit-stop.false c.if-x-y.false)
     c.if-x-y-2.true
 
@@ -71,8 +63,11 @@ pub overflow_sub-c : goal.overflow_sub-c
 overflow_sub-c c = omega (arith, c.if-c-eq0.false)
 
 pub returns-then-x-y-3 : goal.returns-then-x-y-3
-returns-then-x-y-3 c = λ h.
-    ap (λ (q : Quick). q.span) c.told-then-x-y-3.ensures ∙ count_out _ _ _ _ _ _ _ _ _ c.loop-y.invariant.0 _ (stops (goal.at.returns-then-x-y-3 c).Else-x-y) c.if-limit-stop.false c.if-e-eq0.false c.if-x-y-3.true
+returns-then-x-y-3 c =
+    let stops : let a = c.args in c.service_on-behind.result.at - 1 ≡ c.loop-y.scan.at + length (component a.y (part c.loop-y.scan.at a.limit a.d.now) 0 0) =
+        sought_stop _ _ _ _ c.requires.1 _ c.service_on-behind.ensures _ refl c.if-limit-stop.false c.if-x-y.false in
+    λ h.
+    ap (λ (q : Quick). q.span) c.told-then-x-y-3.ensures ∙ count_out _ _ _ _ _ _ _ _ _ c.loop-y.invariant.0 _ (stops) c.if-limit-stop.false c.if-e-eq0.false c.if-x-y-3.true
 
 pub overflow_sub-e : goal.overflow_sub-e
 overflow_sub-e c = omega (arith, c.if-e-eq0.false)
@@ -82,9 +77,14 @@ loop-y-smaller-else-x-y-2 c =
     omega (arith, c.if-limit-stop.false, c.service_on-behind.ensures.onward)
 
 pub loop-y-preserved-else-x-y-2 : goal.loop-y-preserved-else-x-y-2
-loop-y-preserved-else-x-y-2 c = (
-  count-component _ _ _ _ _ _ _ _ _ c.loop-y.invariant.0 _ (stops (goal.at.loop-y-preserved-else-x-y-2 c).Else-x-y) c.if-limit-stop.false c.if-e-eq0.true c.if-c-eq0.false
-      (sym c.has_usual_services.ensures ∙ not-false _ c.if-not-has_usual_services.false) c.if-x-y-2.false _ _ refl (behind (goal.at.loop-y-preserved-else-x-y-2 c).Else-x-y),
+loop-y-preserved-else-x-y-2 c =
+    let stops : let a = c.args in c.service_on-behind.result.at - 1 ≡ c.loop-y.scan.at + length (component a.y (part c.loop-y.scan.at a.limit a.d.now) 0 0) =
+        sought_stop _ _ _ _ c.requires.1 _ c.service_on-behind.ensures _ refl c.if-limit-stop.false c.if-x-y.false in
+    let behind : c.service_on-behind.result.at ≡ c.service_on-behind.result.at - 1 + 1 =
+        omega (arith, c.service_on-behind.ensures.onward) in
+    (
+  count-component _ _ _ _ _ _ _ _ _ c.loop-y.invariant.0 _ (stops) c.if-limit-stop.false c.if-e-eq0.true c.if-c-eq0.false
+      (sym c.has_usual_services.ensures ∙ c.if-not-has_usual_services.false) c.if-x-y-2.false _ _ refl (behind),
   c.service_on-behind.ensures.scanned,
 )
 
@@ -93,8 +93,13 @@ loop-y-smaller-then-x-y-4 c =
     omega (arith, c.if-limit-stop.false, c.service_on-behind.ensures.onward)
 
 pub loop-y-preserved-then-x-y-4 : goal.loop-y-preserved-then-x-y-4
-loop-y-preserved-then-x-y-4 c = (
-  count-element _ _ _ _ _ _ _ _ _ c.loop-y.invariant.0 _ (stops (goal.at.loop-y-preserved-then-x-y-4 c).Else-x-y) c.if-limit-stop.false c.if-e-eq0.false c.if-x-y-3.false c.if-x-y-4.true _ _ refl (behind (goal.at.loop-y-preserved-then-x-y-4 c).Else-x-y),
+loop-y-preserved-then-x-y-4 c =
+    let stops : let a = c.args in c.service_on-behind.result.at - 1 ≡ c.loop-y.scan.at + length (component a.y (part c.loop-y.scan.at a.limit a.d.now) 0 0) =
+        sought_stop _ _ _ _ c.requires.1 _ c.service_on-behind.ensures _ refl c.if-limit-stop.false c.if-x-y.false in
+    let behind : c.service_on-behind.result.at ≡ c.service_on-behind.result.at - 1 + 1 =
+        omega (arith, c.service_on-behind.ensures.onward) in
+    (
+  count-element _ _ _ _ _ _ _ _ _ c.loop-y.invariant.0 _ (stops) c.if-limit-stop.false c.if-e-eq0.false c.if-x-y-3.false c.if-x-y-4.true _ _ refl (behind),
   c.service_on-behind.ensures.scanned,
 )
 
@@ -103,7 +108,12 @@ loop-y-smaller c =
     omega (arith, c.if-limit-stop.false, c.service_on-behind.ensures.onward)
 
 pub loop-y-preserved : goal.loop-y-preserved
-loop-y-preserved c = (
-  count_on _ _ _ _ _ _ _ _ _ c.loop-y.invariant.0 _ (stops (goal.at.loop-y-preserved c).Else-x-y) c.if-limit-stop.false c.if-e-eq0.false c.if-x-y-3.false c.if-x-y-4.false _ (behind (goal.at.loop-y-preserved c).Else-x-y),
+loop-y-preserved c =
+    let stops : let a = c.args in c.service_on-behind.result.at - 1 ≡ c.loop-y.scan.at + length (component a.y (part c.loop-y.scan.at a.limit a.d.now) 0 0) =
+        sought_stop _ _ _ _ c.requires.1 _ c.service_on-behind.ensures _ refl c.if-limit-stop.false c.if-x-y.false in
+    let behind : c.service_on-behind.result.at ≡ c.service_on-behind.result.at - 1 + 1 =
+        omega (arith, c.service_on-behind.ensures.onward) in
+    (
+  count_on _ _ _ _ _ _ _ _ _ c.loop-y.invariant.0 _ (stops) c.if-limit-stop.false c.if-e-eq0.false c.if-x-y-3.false c.if-x-y-4.false _ (behind),
   c.service_on-behind.ensures.scanned,
 )

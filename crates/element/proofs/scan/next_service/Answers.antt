@@ -17,26 +17,28 @@ loop-i-init c = passed_none _ _ _
 pub returns-then-last-i : goal.returns-then-last-i
 returns-then-last-i c = service-on _ _ _ _ c.loop-i.invariant _ _ c.rest_service-then-last-i.ensures
 
--- those of the eight bytes from here on that are flagged
-flagged
-    : (c : goal.After-services_in-m)
-    → c.services_in-m.result ≡ flags (λ k. is_service c.args.y (on_from c.args.d.now c.loop-i.i k))
-flagged c =
-    flagged_there c.args.d.now c.loop-i.i _ (is_service c.args.y) _ (omega arith)
-    (λ k. omega (arith, c.shared_slice_known-1.given k)) c.eight_at.ensures c.services_in-m.ensures
-
 pub overflow_add-result : goal.overflow_add-result
 overflow_add-result c =
-    let f = first_of _ _ _ (flagged (goal.at.overflow_add-result c).After-services_in-m) c.if-m-ne0.true c.first_of.ensures in
+    let flagged : c.services_in-m.result ≡ flags (λ k. is_service c.args.y (on_from c.args.d.now c.loop-i.i k)) =
+        flagged_there c.args.d.now c.loop-i.i _ (is_service c.args.y) _ (omega arith)
+        (λ k. omega (arith, c.shared_slice_known-1.given k)) c.eight_at.ensures c.services_in-m.ensures in
+    let f = first_of _ _ _ (flagged) c.if-m-ne0.true c.first_of.ensures in
     omega (arith, f.within)
 
 pub returns-then-m-ne0 : goal.returns-then-m-ne0
 returns-then-m-ne0 c =
-    service-eight _ _ _ _ c.loop-i.invariant _ (flagged (goal.at.returns-then-m-ne0 c).After-services_in-m) _ _
-    (first_of _ _ _ (flagged (goal.at.returns-then-m-ne0 c).After-services_in-m) c.if-m-ne0.true c.first_of.ensures)
+    let flagged : c.services_in-m.result ≡ flags (λ k. is_service c.args.y (on_from c.args.d.now c.loop-i.i k)) =
+        flagged_there c.args.d.now c.loop-i.i _ (is_service c.args.y) _ (omega arith)
+        (λ k. omega (arith, c.shared_slice_known-1.given k)) c.eight_at.ensures c.services_in-m.ensures in
+    service-eight _ _ _ _ c.loop-i.invariant _ (flagged) _ _
+    (first_of _ _ _ (flagged) c.if-m-ne0.true c.first_of.ensures)
 
 pub loop-i-preserved : goal.loop-i-preserved
-loop-i-preserved c = passed-eight _ _ _ _ c.loop-i.invariant _ (flagged (goal.at.loop-i-preserved c).After-services_in-m) c.if-m-ne0.false
+loop-i-preserved c =
+    let flagged : c.services_in-m.result ≡ flags (λ k. is_service c.args.y (on_from c.args.d.now c.loop-i.i k)) =
+        flagged_there c.args.d.now c.loop-i.i _ (is_service c.args.y) _ (omega arith)
+        (λ k. omega (arith, c.shared_slice_known-1.given k)) c.eight_at.ensures c.services_in-m.ensures in
+    passed-eight _ _ _ _ c.loop-i.invariant _ (flagged) c.if-m-ne0.false
 
 pub returns : goal.returns
 returns c = service-past _ _ _ _ c.loop-i.invariant _ c.loop-i-test.false

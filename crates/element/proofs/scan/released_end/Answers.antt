@@ -11,14 +11,14 @@ loop-i-init c = end_whole _ _ _ _
 pub returns-then-not-stays_in : goal.returns-then-not-stays_in
 returns-then-not-stays_in c =
     let h = c.loop-i-test.true in
-    sym (end_here _ _ _ _ _ h c.requires (sym c.stays_in.ensures ∙ not-true _ c.if-not-stays_in.true))
+    sym (end_here _ _ _ _ _ h c.requires (sym c.stays_in.ensures ∙ c.if-not-stays_in.true))
     ∙ c.loop-i.invariant
 
 pub loop-i-preserved : goal.loop-i-preserved
 loop-i-preserved c =
     let h = c.loop-i-test.true in
     let k = c.requires in
-    sym (end_next _ _ _ _ _ _ h k (sym c.stays_in.ensures ∙ not-false _ c.if-not-stays_in.false) c.frees_next-released.ensures)
+    sym (end_next _ _ _ _ _ _ h k (sym c.stays_in.ensures ∙ c.if-not-stays_in.false) c.frees_next-released.ensures)
     ∙ c.loop-i.invariant
 
 pub returns : goal.returns

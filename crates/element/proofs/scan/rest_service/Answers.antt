@@ -10,17 +10,17 @@ loop-i-init c = passed_none _ _ _
 
 pub returns-then-not-stays_in : goal.returns-then-not-stays_in
 returns-then-not-stays_in c =
-    service-here _ _ _ _ c.loop-i.invariant _ (service_end _ _ (sym c.stays_in.ensures ∙ not-true _ c.if-not-stays_in.true))
+    service-here _ _ _ _ c.loop-i.invariant _ (service_end _ _ (sym c.stays_in.ensures ∙ c.if-not-stays_in.true))
 
 pub returns-then-x-y : goal.returns-then-x-y
 returns-then-x-y c =
     service-here _ _ _ _ c.loop-i.invariant _
-    (service-mark _ _ (sym c.stays_in.ensures ∙ not-false _ c.if-not-stays_in.false) c.if-x-y.true)
+    (service-mark _ _ (sym c.stays_in.ensures ∙ c.if-not-stays_in.false) c.if-x-y.true)
 
 pub loop-i-preserved : goal.loop-i-preserved
 loop-i-preserved c =
     passed-next _ _ _ _ c.loop-i.invariant
-    (service-none _ _ (sym c.stays_in.ensures ∙ not-false _ c.if-not-stays_in.false) c.if-x-y.false)
+    (service-none _ _ (sym c.stays_in.ensures ∙ c.if-not-stays_in.false) c.if-x-y.false)
 
 pub returns : goal.returns
 returns c = service-past _ _ _ _ c.loop-i.invariant _ c.loop-i-test.false

@@ -20,9 +20,9 @@ is_whole-requires c =
 pub returns-then-not-is_whole : goal.returns-then-not-is_whole
 returns-then-not-is_whole c =
     is-not-UNB _ _ _ c.admission-refusal.ensures c.if-refusal-ne0.false _ c.opening.ensures _ _ _
-    (sym c.segment_at-c.ensures ∙ c.in-Segment.is) (sym c.is_whole.ensures ∙ not-true _ c.if-not-is_whole.true)
+    (sym c.segment_at-c.ensures ∙ c.in-Segment.is) (sym c.is_whole.ensures ∙ c.if-not-is_whole.true)
 
 pub closed-requires : goal.closed-requires
 closed-requires c =
     is-UNB _ _ _ c.admission-refusal.ensures c.if-refusal-ne0.false _ c.opening.ensures _ _ _
-    (sym c.segment_at-c.ensures ∙ c.in-Segment.is) (sym c.is_whole.ensures ∙ not-false _ c.if-not-is_whole.false)
+    (sym c.segment_at-c.ensures ∙ c.in-Segment.is) (sym c.is_whole.ensures ∙ c.if-not-is_whole.false)

@@ -6,14 +6,14 @@ use Rattle.envelope.proofs.walking.stray_after.Goals as goal
 pub returns-then-not-outside : goal.returns-then-not-outside
 returns-then-not-outside c =
     let a = c.args in
-    stray-inside a.none a.start a.stray a.outside (not-true _ c.if-not-outside.true)
+    stray-inside a.none a.start a.stray a.outside c.if-not-outside.true
 
 pub returns-then-stray-none : goal.returns-then-stray-none
 returns-then-stray-none c =
     let a = c.args in
-    stray-kept a.none a.start a.stray a.outside (not-false _ c.if-not-outside.false) c.if-stray-none.true
+    stray-kept a.none a.start a.stray a.outside c.if-not-outside.false c.if-stray-none.true
 
 pub returns : goal.returns
 returns c =
     let a = c.args in
-    stray_new a.none a.start a.stray a.outside (not-false _ c.if-not-outside.false) c.if-stray-none.false
+    stray_new a.none a.start a.stray a.outside c.if-not-outside.false c.if-stray-none.false

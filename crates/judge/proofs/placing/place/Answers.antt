@@ -14,26 +14,6 @@ use Rattle.judge.proofs.rows.Tables.{table_fits}
 use Rattle.judge.proofs.placing.Outcomes.{found_inside, found-follows, last-inside, place-nowhere, place-over, place-lacking, place_found}
 use Rattle.judge.proofs.placing.place.Goals as goal
 
--- where a node was found, the table has it, and the one before, which it can follow
-inside : (c : goal.Else-n-eq0) → c.node_for-n.result < length (guide_of c.args.edition)
-inside c =
-    let a = c.args in
-    found_inside a.edition (view_of a.y (part a.start a.end a.d.now)) a.last _ c.node_for-n.ensures c.if-n-eq0.false
-
-before-inside : (c : goal.Else-n-eq0) → c.args.last < length (guide_of c.args.edition)
-before-inside c =
-    let a = c.args in
-    last-inside a.edition (view_of a.y (part a.start a.end a.d.now)) a.last _ c.node_for-n.ensures c.if-n-eq0.false
-
-follows
-    : (c : goal.Else-n-eq0)
-    → some_level (follows_in (guide_of c.args.edition) c.node_for-n.result)
-    (levels (guide_of c.args.edition) (suc c.args.last) c.args.last 0)
-    ≡ true
-follows c =
-    let a = c.args in
-    found-follows a.edition (view_of a.y (part a.start a.end a.d.now)) a.last _ c.node_for-n.ensures c.if-n-eq0.false
-
 pub returns-then-n-eq0 : goal.returns-then-n-eq0
 returns-then-n-eq0 c =
     let a = c.args in
@@ -43,17 +23,38 @@ returns-then-n-eq0 c =
     (o.answer, o.counts)
 
 pub limit_of-requires : goal.limit_of-requires
-limit_of-requires c = inside c
+limit_of-requires c =
+    let inside : c.node_for-n.result < length (guide_of c.args.edition) =
+        let a = c.args in
+        found_inside a.edition (view_of a.y (part a.start a.end a.d.now)) a.last _ c.node_for-n.ensures c.if-n-eq0.false in
+    inside
 
 pub offset_bounds-counts-n : goal.offset_bounds-counts-n
-offset_bounds-counts-n c = omega (arith, inside (goal.at.offset_bounds-counts-n c).Else-n-eq0, table_fits c.args.edition)
+offset_bounds-counts-n c =
+    let inside : c.node_for-n.result < length (guide_of c.args.edition) =
+        let a = c.args in
+        found_inside a.edition (view_of a.y (part a.start a.end a.d.now)) a.last _ c.node_for-n.ensures c.if-n-eq0.false in
+    omega (arith, inside, table_fits c.args.edition)
 
 pub bounds-counts-n : goal.bounds-counts-n
-bounds-counts-n c = omega (arith, inside (goal.at.bounds-counts-n c).After-limit_of, table_fits c.args.edition)
+bounds-counts-n c =
+    let inside : c.node_for-n.result < length (guide_of c.args.edition) =
+        let a = c.args in
+        found_inside a.edition (view_of a.y (part a.start a.end a.d.now)) a.last _ c.node_for-n.ensures c.if-n-eq0.false in
+    omega (arith, inside, table_fits c.args.edition)
 
 pub missing_node-m-requires : goal.missing_node-m-requires
 missing_node-m-requires c =
-    ((inside (goal.at.missing_node-m-requires c).Else-n-eq0, before-inside (goal.at.missing_node-m-requires c).Else-n-eq0), follows (goal.at.missing_node-m-requires c).Else-n-eq0)
+    let inside : c.node_for-n.result < length (guide_of c.args.edition) =
+        let a = c.args in
+        found_inside a.edition (view_of a.y (part a.start a.end a.d.now)) a.last _ c.node_for-n.ensures c.if-n-eq0.false in
+    let before-inside : c.args.last < length (guide_of c.args.edition) =
+        let a = c.args in
+        last-inside a.edition (view_of a.y (part a.start a.end a.d.now)) a.last _ c.node_for-n.ensures c.if-n-eq0.false in
+    let follows : some_level (follows_in (guide_of c.args.edition) c.node_for-n.result) (levels (guide_of c.args.edition) (suc c.args.last) c.args.last 0) ≡ true =
+        let a = c.args in
+        found-follows a.edition (view_of a.y (part a.start a.end a.d.now)) a.last _ c.node_for-n.ensures c.if-n-eq0.false in
+    ((inside, before-inside), follows)
 
 pub returns-then-full : goal.returns-then-full
 returns-then-full c =
@@ -75,8 +76,11 @@ returns-then-m-ne0 c =
 
 pub enter-requires : goal.enter-requires
 enter-requires c =
+    let inside : c.node_for-n.result < length (guide_of c.args.edition) =
+        let a = c.args in
+        found_inside a.edition (view_of a.y (part a.start a.end a.d.now)) a.last _ c.node_for-n.ensures c.if-n-eq0.false in
     let count = get_or c.args.counts.now c.node_for-n.result 0 in
-    ((omega (arith, c.if-n-eq0.false), inside (goal.at.enter-requires c).Else-n-eq0), omega (arith, leb-false c.limit_of.result count c.if-full.false, c.limit_of.type-inv))
+    ((omega (arith, c.if-n-eq0.false), inside), omega (arith, leb-false c.limit_of.result count c.if-full.false, c.limit_of.type-inv))
 
 pub returns : goal.returns
 returns c =

@@ -19,32 +19,26 @@ use Rattle.judge.proofs.tags.Tagged.{tag-letters}
 use Rattle.judge.proofs.seeking.Following.{has_code, seek-begins, seek_keyed}
 use Rattle.judge.proofs.seeking.node_for.Goals as goal
 
--- the set through which is sought
-both
-    : (c : goal.After-tagged)
-    → let a = c.args in
-    bit_and c.followers.result c.tagged.result
-    ≡ bit_and (followers_of (guide_of a.edition) a.last) (tagged_of (guide_of a.edition) c.tag_number-tag.result)
-both c = ap₂ bit_and c.followers.ensures c.tagged.ensures
-
-begun
-    : (c : goal.After-tagged)
-    → let a = c.args in
-    let v = view_of a.y (part a.start a.end a.d.now) in
-    Sought (guide_of a.edition) (has_code a.edition v) (seek (guide_of a.edition) v (levels (guide_of a.edition) (suc a.last) a.last 0))
-    (bit_and c.followers.result c.tagged.result)
-begun c =
-    let a = c.args in
-    seek-begins a.edition a.y a.d.now a.start a.end (λ i. omega (arith, c.shared_slice_known-1.given i)) _
-    c.tag_number-tag.ensures a.last _ (both c)
-
 pub returns-then-likely-eq0 : goal.returns-then-likely-eq0
-returns-then-likely-eq0 c = sought_out (begun (goal.at.returns-then-likely-eq0 c).After-tagged) c.if-likely-eq0.true
+returns-then-likely-eq0 c =
+    let both : let a = c.args in bit_and c.followers.result c.tagged.result ≡ bit_and (followers_of (guide_of a.edition) a.last) (tagged_of (guide_of a.edition) c.tag_number-tag.result) =
+        ap₂ bit_and c.followers.ensures c.tagged.ensures in
+    let begun : let a = c.args in let v = view_of a.y (part a.start a.end a.d.now) in Sought (guide_of a.edition) (has_code a.edition v) (seek (guide_of a.edition) v (levels (guide_of a.edition) (suc a.last) a.last 0)) (bit_and c.followers.result c.tagged.result) =
+        let a = c.args in
+        seek-begins a.edition a.y a.d.now a.start a.end (λ i. omega (arith, c.shared_slice_known-1.given i)) _
+        c.tag_number-tag.ensures a.last _ (both) in
+    sought_out (begun) c.if-likely-eq0.true
 
 pub returns-then-keyed-eq0 : goal.returns-then-keyed-eq0
 unfolding coded_of
 returns-then-keyed-eq0 c =
-    let begins = begun (goal.at.returns-then-keyed-eq0 c).After-tagged in
+    let both : let a = c.args in bit_and c.followers.result c.tagged.result ≡ bit_and (followers_of (guide_of a.edition) a.last) (tagged_of (guide_of a.edition) c.tag_number-tag.result) =
+        ap₂ bit_and c.followers.ensures c.tagged.ensures in
+    let begun : let a = c.args in let v = view_of a.y (part a.start a.end a.d.now) in Sought (guide_of a.edition) (has_code a.edition v) (seek (guide_of a.edition) v (levels (guide_of a.edition) (suc a.last) a.last 0)) (bit_and c.followers.result c.tagged.result) =
+        let a = c.args in
+        seek-begins a.edition a.y a.d.now a.start a.end (λ i. omega (arith, c.shared_slice_known-1.given i)) _
+        c.tag_number-tag.ensures a.last _ (both) in
+    let begins = begun in
     let a = c.args in
     let codes = (node (guide_of a.edition) c.first_in.result).selector.codes in
     let out = sought_fails begins c.if-likely-eq0.false _ c.first_in.ensures (λ n. ltb 0 (length (node (guide_of a.edition) n).selector.codes)) _
@@ -58,11 +52,20 @@ key_number-key-requires c =
 
 pub found_by-requires : goal.found_by-requires
 unfolding Nodes
-found_by-requires c = (begun (goal.at.found_by-requires c).After-tagged).inside
+found_by-requires c =
+    let both : let a = c.args in bit_and c.followers.result c.tagged.result ≡ bit_and (followers_of (guide_of a.edition) a.last) (tagged_of (guide_of a.edition) c.tag_number-tag.result) =
+        ap₂ bit_and c.followers.ensures c.tagged.ensures in
+    let begun : let a = c.args in let v = view_of a.y (part a.start a.end a.d.now) in Sought (guide_of a.edition) (has_code a.edition v) (seek (guide_of a.edition) v (levels (guide_of a.edition) (suc a.last) a.last 0)) (bit_and c.followers.result c.tagged.result) =
+        let a = c.args in
+        seek-begins a.edition a.y a.d.now a.start a.end (λ i. omega (arith, c.shared_slice_known-1.given i)) _
+        c.tag_number-tag.ensures a.last _ (both) in
+    (begun).inside
 
 pub returns : goal.returns
 returns c =
+    let both : let a = c.args in bit_and c.followers.result c.tagged.result ≡ bit_and (followers_of (guide_of a.edition) a.last) (tagged_of (guide_of a.edition) c.tag_number-tag.result) =
+        ap₂ bit_and c.followers.ensures c.tagged.ensures in
     let a = c.args in
     seek_keyed a.edition a.y a.d.now a.start a.end (λ i. omega (arith, c.shared_slice_known-1.given i)) _
-    c.tag_number-tag.ensures a.last _ (both (goal.at.returns c).After-tagged)
+    c.tag_number-tag.ensures a.last _ (both)
     _ _ c.key_number-key.ensures c.found_by.ensures

@@ -24,7 +24,7 @@ returns c _ =
     let a = c.args in
     let room : a.start + 12 ≤ c.limit_of-limit.result = omega (arith, c.if-limit-lt12.false, c.if-limit-start.false) in
     let bytes : Bytes a.d.now = λ k. omega (arith, c.shared_slice_known-1.given k) in
-    let u = usual_are a.y (sym c.has_usual_services.ensures ∙ not-false _ c.if-not-has_usual_services.false) in
+    let u = usual_are a.y (sym c.has_usual_services.ensures ∙ c.if-not-has_usual_services.false) in
     front-key a.y a.d.now a.start a.end c.limit_of-limit.result c.limit_of-limit.ensures room bytes
     (letters-passed a.d.now a.start a.end _ c.limit_of-limit.ensures (omega (arith, room)) bytes c.requires a.y u.0 u.1
     u.2 u.3)

@@ -6,13 +6,13 @@ use Rattle.messages.proofs.Finding.{at-nowhere, at_none, at_here, at_other}
 use Rattle.messages.proofs.found.message_at.Goals as goal
 
 pub returns-then-not-begins_segment : goal.returns-then-not-begins_segment
-returns-then-not-begins_segment c = sym (at-nowhere _ _ _ (sym c.begins_segment.ensures ∙ not-true _ c.if-not-begins_segment.true))
+returns-then-not-begins_segment c = sym (at-nowhere _ _ _ (sym c.begins_segment.ensures ∙ c.if-not-begins_segment.true))
 
 pub returns-in_default : goal.returns-in_default
 returns-in_default c =
     sym
     (at_none _ _ _
-    (sym c.begins_segment.ensures ∙ not-false _ c.if-not-begins_segment.false)
+    (sym c.begins_segment.ensures ∙ c.if-not-begins_segment.false)
     (sym c.spot_at-s.ensures ∙ c.in_default.is))
 
 pub returns-then-not-begins_message : goal.returns-then-not-begins_message
@@ -21,8 +21,8 @@ returns-then-not-begins_message c =
     sym
     (at_other _ _ _ _ _ _
     (sym c.begins_segment.ensures
-    ∙ not-false _ c.if-not-begins_segment.false)
-    q (sym c.begins_message.ensures ∙ not-true _ c.if-not-begins_message.true))
+    ∙ c.if-not-begins_segment.false)
+    q (sym c.begins_message.ensures ∙ c.if-not-begins_message.true))
 
 pub returns : goal.returns
 returns c =
@@ -30,5 +30,5 @@ returns c =
     sym
     (at_here _ _ _ _ _ _
     (sym c.begins_segment.ensures
-    ∙ not-false _ c.if-not-begins_segment.false)
-    q _ (sym c.begins_message.ensures ∙ not-false _ c.if-not-begins_message.false) c.message_end.ensures)
+    ∙ c.if-not-begins_segment.false)
+    q _ (sym c.begins_message.ensures ∙ c.if-not-begins_message.false) c.message_end.ensures)

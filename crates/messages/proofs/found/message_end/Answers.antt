@@ -12,23 +12,20 @@ use Rattle.messages.proofs.found.message_end.Goals as goal
 pub loop-tag-init : goal.loop-tag-init
 loop-tag-init c = refl
 
--- the end seen from the next segment that begins with U
-ahead
-    : (c : goal.After-next_u-at)
-    → let a = c.args in
-    last_end a.from (body (segments_at a.y a.d.now a.from))
-    ≡ last_end c.next_u-at.result (body (segments_at a.y a.d.now c.next_u-at.result))
-ahead c = c.loop-tag.invariant ∙ c.next_u-at.ensures.same
-
 pub returns-in_default : goal.returns-in_default
-returns-in_default c = sym (ahead (goal.at.returns-in_default c).After-next_u-at ∙ end_none _ _ _ (sym c.spot_at-s.ensures ∙ c.in_default.is))
+returns-in_default c =
+    let ahead : let a = c.args in last_end a.from (body (segments_at a.y a.d.now a.from)) ≡ last_end c.next_u-at.result (body (segments_at a.y a.d.now c.next_u-at.result)) =
+        c.loop-tag.invariant ∙ c.next_u-at.ensures.same in
+    sym (ahead ∙ end_none _ _ _ (sym c.spot_at-s.ensures ∙ c.in_default.is))
 
 pub returns-then-not-goes_on : goal.returns-then-not-goes_on
 returns-then-not-goes_on c =
+    let ahead : let a = c.args in last_end a.from (body (segments_at a.y a.d.now a.from)) ≡ last_end c.next_u-at.result (body (segments_at a.y a.d.now c.next_u-at.result)) =
+        c.loop-tag.invariant ∙ c.next_u-at.ensures.same in
     let q = spotted _ _ _ _ _ _ (sym c.spot_at-s.ensures ∙ c.in-At.is) in
     c.closed_at.ensures
-    ∙ sym (ahead (goal.at.returns-then-not-goes_on c).After-next_u-at
-    ∙ end_stop _ _ _ _ _ _ q (sym c.goes_on.ensures ∙ not-true _ c.if-not-goes_on.true))
+    ∙ sym (ahead
+    ∙ end_stop _ _ _ _ _ _ q (sym c.goes_on.ensures ∙ c.if-not-goes_on.true))
 
 pub loop-tag-smaller : goal.loop-tag-smaller
 loop-tag-smaller c =
@@ -38,5 +35,7 @@ loop-tag-smaller c =
 
 pub loop-tag-preserved : goal.loop-tag-preserved
 loop-tag-preserved c =
+    let ahead : let a = c.args in last_end a.from (body (segments_at a.y a.d.now a.from)) ≡ last_end c.next_u-at.result (body (segments_at a.y a.d.now c.next_u-at.result)) =
+        c.loop-tag.invariant ∙ c.next_u-at.ensures.same in
     let q = spotted _ _ _ _ _ _ (sym c.spot_at-s.ensures ∙ c.in-At.is) in
-    ahead (goal.at.loop-tag-preserved c).After-next_u-at ∙ end_on _ _ _ _ _ _ q (sym c.goes_on.ensures ∙ not-false _ c.if-not-goes_on.false)
+    ahead ∙ end_on _ _ _ _ _ _ q (sym c.goes_on.ensures ∙ c.if-not-goes_on.false)

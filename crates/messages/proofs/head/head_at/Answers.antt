@@ -10,9 +10,9 @@ returns-then-d-place c = head-past _ _ _ _ _ c.past_breaks-place.ensures c.if-d-
 pub returns-then-not-is_inside : goal.returns-then-not-is_inside
 returns-then-not-is_inside c =
     head-not _ _ _ _ _ c.past_breaks-place.ensures _ c.tag_at-tag.ensures
-    (sym c.is_inside.ensures ∙ not-true _ c.if-not-is_inside.true)
+    (sym c.is_inside.ensures ∙ c.if-not-is_inside.true)
 
 pub returns : goal.returns
 returns c =
     head-here _ _ _ _ _ c.past_breaks-place.ensures c.if-d-place.false _ c.tag_at-tag.ensures
-    (sym c.is_inside.ensures ∙ not-false _ c.if-not-is_inside.false) _ c.ends_message-last.ensures
+    (sym c.is_inside.ensures ∙ c.if-not-is_inside.false) _ c.ends_message-last.ensures

@@ -11,17 +11,17 @@ is_formed-requires c = c.requires
 
 pub returns-then-not-is_formed : goal.returns-then-not-is_formed
 returns-then-not-is_formed c =
-    filled-format _ _ _ _ c.requires c.if-row-eq0.false _ c.is_formed.ensures (not-true _ c.if-not-is_formed.true)
+    filled-format _ _ _ _ c.requires c.if-row-eq0.false _ c.is_formed.ensures c.if-not-is_formed.true
 
 pub listed-requires : goal.listed-requires
 listed-requires c = c.requires.0
 
 pub returns-then-not-listed : goal.returns-then-not-listed
 returns-then-not-listed c =
-    filled-code _ _ _ _ c.requires c.if-row-eq0.false _ c.is_formed.ensures (not-false _ c.if-not-is_formed.false) _
-    c.listed.ensures (not-true _ c.if-not-listed.true)
+    filled-code _ _ _ _ c.requires c.if-row-eq0.false _ c.is_formed.ensures c.if-not-is_formed.false _
+    c.listed.ensures c.if-not-listed.true
 
 pub returns : goal.returns
 returns c =
-    filled-right _ _ _ _ c.requires c.if-row-eq0.false _ c.is_formed.ensures (not-false _ c.if-not-is_formed.false) _
-    c.listed.ensures (not-false _ c.if-not-listed.false)
+    filled-right _ _ _ _ c.requires c.if-row-eq0.false _ c.is_formed.ensures c.if-not-is_formed.false _
+    c.listed.ensures c.if-not-listed.false

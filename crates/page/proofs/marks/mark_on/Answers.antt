@@ -27,29 +27,29 @@ loop-m-preserved c = λ a s.
     (λ k. omega (arith, c.shared_slice_known-1.given k)) c.eight_at.ensures c.marks_in-m.ensures in
     scan_word _ _ _ _ _ _ (c.loop-m.invariant a s) c.loop-m-test.true (omega arith) _ f
 
--- what is tested
-tested
-    : (c : goal.After-first_of)
-    → let a = c.args in
-    MarkScanned a.d.now a.scan.at c.loop-m.n c.loop-m.m
-tested c =
-    c.loop-m.invariant _ c.requires
-
--- the first flag
-first
-    : (c : goal.After-first_of)
-    → let a = c.args in
-    FirstOf 8 (waiting is_mark a.d.now a.scan.at c.loop-m.n) c.first_of.result
-first c = first_of _ _ _ (tested c).flagged c.loop-m-test.false c.first_of.ensures
-
 pub overflow_add-result : goal.overflow_add-result
-overflow_add-result c = omega (arith, (first c).within, (tested c).within)
+overflow_add-result c =
+    let tested : let a = c.args in MarkScanned a.d.now a.scan.at c.loop-m.n c.loop-m.m =
+        c.loop-m.invariant _ c.requires in
+    let first : let a = c.args in FirstOf 8 (waiting is_mark a.d.now a.scan.at c.loop-m.n) c.first_of.result =
+        first_of _ _ _ (tested).flagged c.loop-m-test.false c.first_of.ensures in
+    omega (arith, (first).within, (tested).within)
 
 pub overflow_sub-result : goal.overflow_sub-result
-overflow_sub-result c = omega (arith, scan_flag _ _ _ _ _ _ (tested c) _ (first c))
+overflow_sub-result c =
+    let tested : let a = c.args in MarkScanned a.d.now a.scan.at c.loop-m.n c.loop-m.m =
+        c.loop-m.invariant _ c.requires in
+    let first : let a = c.args in FirstOf 8 (waiting is_mark a.d.now a.scan.at c.loop-m.n) c.first_of.result =
+        first_of _ _ _ (tested).flagged c.loop-m-test.false c.first_of.ensures in
+    omega (arith, scan_flag _ _ _ _ _ _ (tested) _ (first))
 
 pub overflow_sub-result-2 : goal.overflow_sub-result-2
 overflow_sub-result-2 c = omega (arith, c.loop-m-test.false)
 
 pub returns : goal.returns
-returns c = λ n. mark-flag _ _ _ _ (tested c) _ (first c) c.loop-m-test.false _ refl
+returns c =
+    let tested : let a = c.args in MarkScanned a.d.now a.scan.at c.loop-m.n c.loop-m.m =
+        c.loop-m.invariant _ c.requires in
+    let first : let a = c.args in FirstOf 8 (waiting is_mark a.d.now a.scan.at c.loop-m.n) c.first_of.result =
+        first_of _ _ _ (tested).flagged c.loop-m-test.false c.first_of.ensures in
+    λ n. mark-flag _ _ _ _ (tested) _ (first) c.loop-m-test.false _ refl

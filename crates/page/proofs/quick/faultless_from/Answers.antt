@@ -25,34 +25,29 @@ is_begun-requires c = c.requires
 pub returns-then-not-is_begun : goal.returns-then-not-is_begun
 returns-then-not-is_begun c = λ page f h. absurd (h c.untold.ensures)
 
--- the segment begins with a tag
-begun : (c : goal.Else-not-is_begun) → let a = c.args in Begun a.y a.d.now a.start
-begun c = c.is_begun.ensures (not-false _ c.if-not-is_begun.false)
-
 pub overflow_add-start : goal.overflow_add-start
 overflow_add-start c =
-    let b : c.args.start + 3 < length c.args.d.now = begun-room c.args.y c.args.d.now c.args.start (begun c) in
+    let begun : let a = c.args in Begun a.y a.d.now a.start =
+        c.is_begun.ensures c.if-not-is_begun.false in
+    let b : c.args.start + 3 < length c.args.d.now = begun-room c.args.y c.args.d.now c.args.start (begun) in
     let good = c.well_formed in
     omega arith
 
 pub loop-y-init : goal.loop-y-init
 loop-y-init c =
-    let b = begun (goal.at.loop-y-init c).Else-not-is_begun in
+    let begun : let a = c.args in Begun a.y a.d.now a.start =
+        c.is_begun.ensures c.if-not-is_begun.false in
+    let b = begun in
     (b, walk_begins _ _ _ b _ c.untested-scan.ensures, pages_begin _ _ _ b _ _ c.nowhere-places.ensures _ (ap (λ (k : Scan). k.at) c.untested-scan.ensures))
 
 pub returns-then-end-eq0 : goal.returns-then-end-eq0
 returns-then-end-eq0 c = λ page f h. absurd (h c.untold-then-end-eq0.ensures)
 
--- what is told of the component
-told
-    : (k : goal.After-keep-places)
-    → let a = k.args in
-    CleanAhead a.y a.d.now k.loop-y.scan.at k.clean_on-p.result
-told k = k.clean_on-p.ensures k.if-end-eq0.false
-
 pub is_right-requires : goal.is_right-requires
 is_right-requires c =
-    let k = told (goal.at.is_right-requires c).After-keep-places in
+    let told : let a = c.args in CleanAhead a.y a.d.now c.loop-y.scan.at c.clean_on-p.result =
+        c.clean_on-p.ensures c.if-end-eq0.false in
+    let k = told in
     let n = k.inside in
     (k.ahead, omega (arith, n), c.if-p-gt0.true)
 
@@ -70,20 +65,28 @@ checked
 checked j n h = ⊎_elim (λ w. w.1.ensures (not-false _ w.2.left) n) (λ w. absurd (let z = w.left in omega (arith, z, h))) j.if-p-gt0.branch
 
 pub bounds-d-end : goal.bounds-d-end
-bounds-d-end c = (told (goal.at.bounds-d-end c).After-keep-places).inside
+bounds-d-end c =
+    let told : let a = c.args in CleanAhead a.y a.d.now c.loop-y.scan.at c.clean_on-p.result =
+        c.clean_on-p.ensures c.if-end-eq0.false in
+    (told).inside
 
 pub overflow_add-result : goal.overflow_add-result
 overflow_add-result c =
-    let k = (told (goal.at.overflow_add-result c).After-keep-places).inside in
+    let told : let a = c.args in CleanAhead a.y a.d.now c.loop-y.scan.at c.clean_on-p.result =
+        c.clean_on-p.ensures c.if-end-eq0.false in
+    let k = (told).inside in
     let good = c.well_formed in
     omega arith
 
 pub returns-then-may_end : goal.returns-then-may_end
-returns-then-may_end c = λ page f h.
+returns-then-may_end c =
+    let told : let a = c.args in CleanAhead a.y a.d.now c.loop-y.scan.at c.clean_on-p.result =
+        c.clean_on-p.ensures c.if-end-eq0.false in
+    λ page f h.
     let l = c.loop-y in
     let e = service-last _ _ c.if-x-y.true in
-    faultless_here _ _ _ l.invariant.0 _ _ _ l.invariant.1 _ (told (goal.at.returns-then-may_end c).After-keep-places) e _ refl _ _ _ l.invariant.2 _ (ap (λ (i : ℕ). i / 0x4_0000_0000) c.cell-w.ensures)
-    (checked (goal.at.returns-then-may_end c).Joined-p-gt0 (here-counted _ _ _ l.invariant.0 _ _ _ l.invariant.1 _ (told (goal.at.returns-then-may_end c).After-keep-places) e)) _ c.keep-places.ensures c.if-x-y.true
+    faultless_here _ _ _ l.invariant.0 _ _ _ l.invariant.1 _ (told) e _ refl _ _ _ l.invariant.2 _ (ap (λ (i : ℕ). i / 0x4_0000_0000) c.cell-w.ensures)
+    (checked (goal.at.returns-then-may_end c).Joined-p-gt0 (here-counted _ _ _ l.invariant.0 _ _ _ l.invariant.1 _ (told) e)) _ c.keep-places.ensures c.if-x-y.true
     (subst (λ (i : ℕ). may_end i c.clean_on-p.result.length ≡ true) c.cell-w.ensures (sym c.may_end.ensures ∙ c.if-may_end.true)) _ refl page f
 
 pub returns-then-x-y : goal.returns-then-x-y
@@ -94,11 +97,15 @@ returns-then-s-eq0 c = λ page f h. absurd (h c.untold-then-s-eq0.ensures)
 
 pub loop-y-smaller : goal.loop-y-smaller
 loop-y-smaller c =
-    let k = told (goal.at.loop-y-smaller c).After-keep-places in
+    let told : let a = c.args in CleanAhead a.y a.d.now c.loop-y.scan.at c.clean_on-p.result =
+        c.clean_on-p.ensures c.if-end-eq0.false in
+    let k = told in
     omega (arith, k.ahead, k.inside, k.onward)
 
 pub loop-y-preserved : goal.loop-y-preserved
 loop-y-preserved c =
+    let told : let a = c.args in CleanAhead a.y a.d.now c.loop-y.scan.at c.clean_on-p.result =
+        c.clean_on-p.ensures c.if-end-eq0.false in
     let l = c.loop-y in
     let a = c.args in
     let x = get_or a.d.now c.clean_on-p.result.end 0 in
@@ -107,8 +114,8 @@ loop-y-preserved c =
     let b = c.next_state-s.ensures ∙ ap (next_of a.y x) c.steps.ensures in
     let e = service-next _ _ n _ _ b z in (
       l.invariant.0,
-      walk_on _ _ _ l.invariant.0 _ _ _ l.invariant.1 _ (told (goal.at.loop-y-preserved c).After-keep-places) e _ refl n _ _ b z,
-      pages_on _ _ _ l.invariant.0 _ _ _ l.invariant.1 _ (told (goal.at.loop-y-preserved c).After-keep-places) e _ refl _ _ _ l.invariant.2 _ (ap (λ ((goal.at.loop-y-preserved c).Else-s-eq0 : ℕ). (goal.at.loop-y-preserved c).Else-s-eq0 / 0x4_0000_0000) c.cell-w.ensures)
-          (checked (goal.at.loop-y-preserved c).Joined-p-gt0 (here-counted _ _ _ l.invariant.0 _ _ _ l.invariant.1 _ (told (goal.at.loop-y-preserved c).After-keep-places) e)) _ c.keep-places.ensures n _
+      walk_on _ _ _ l.invariant.0 _ _ _ l.invariant.1 _ (told) e _ refl n _ _ b z,
+      pages_on _ _ _ l.invariant.0 _ _ _ l.invariant.1 _ (told) e _ refl _ _ _ l.invariant.2 _ (ap (λ ((goal.at.loop-y-preserved c).Else-s-eq0 : ℕ). (goal.at.loop-y-preserved c).Else-s-eq0 / 0x4_0000_0000) c.cell-w.ensures)
+          (checked (goal.at.loop-y-preserved c).Joined-p-gt0 (here-counted _ _ _ l.invariant.0 _ _ _ l.invariant.1 _ (told) e)) _ c.keep-places.ensures n _
           (b ∙ ap (λ ((goal.at.loop-y-preserved c).Else-s-eq0 : ℕ). next_of a.y x (steps_of (goal.at.loop-y-preserved c).Else-s-eq0 c.clean_on-p.result.length)) c.cell-w.ensures) z,
     )

@@ -18,4 +18,4 @@ returns-then-d-start c = λ h. absurd (false≢true h)
 pub returns : goal.returns
 returns c = λ h.
     begun-word _ _ _ (omega arith) (λ k. omega (arith, c.shared_slice_known-1.given k)) _ c.eight_at.ensures (eqb-true _ _ h) _
-    (sym c.has_usual_services.ensures ∙ not-false _ c.if-not-has_usual_services.false) c.requires
+    (sym c.has_usual_services.ensures ∙ c.if-not-has_usual_services.false) c.requires

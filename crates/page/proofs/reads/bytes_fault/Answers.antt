@@ -7,14 +7,14 @@ pub returns-then-piece : goal.returns-then-piece
 returns-then-piece c = piece-fault _ _ c.if-piece.true
 
 pub returns-then-not-allowed : goal.returns-then-not-allowed
-returns-then-not-allowed c = byte-fault _ _ c.if-piece.false _ c.allowed.ensures (not-true _ c.if-not-allowed.true)
+returns-then-not-allowed c = byte-fault _ _ c.if-piece.false _ c.allowed.ensures c.if-not-allowed.true
 
 pub returns-then-not-tagged : goal.returns-then-not-tagged
 returns-then-not-tagged c =
-    tag-fault _ _ c.if-piece.false _ c.allowed.ensures (not-false _ c.if-not-allowed.false) _
-    c.tagged.ensures (not-true _ c.if-not-tagged.true)
+    tag-fault _ _ c.if-piece.false _ c.allowed.ensures c.if-not-allowed.false _
+    c.tagged.ensures c.if-not-tagged.true
 
 pub returns : goal.returns
 returns c =
-    no_bytes-fault _ _ c.if-piece.false _ c.allowed.ensures (not-false _ c.if-not-allowed.false) _
-    c.tagged.ensures (not-false _ c.if-not-tagged.false)
+    no_bytes-fault _ _ c.if-piece.false _ c.allowed.ensures c.if-not-allowed.false _
+    c.tagged.ensures c.if-not-tagged.false

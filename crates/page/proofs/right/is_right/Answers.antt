@@ -22,5 +22,5 @@ returns-then-not-is_sized c h count = absurd (false≢true h)
 
 pub returns : goal.returns
 returns c h count =
-    right_there _ _ _ _ _ c.requires c.if-b-a.false count _ (sym c.is_sized.ensures ∙ not-false _ c.if-not-is_sized.false)
+    right_there _ _ _ _ _ c.requires c.if-b-a.false count _ (sym c.is_sized.ensures ∙ c.if-not-is_sized.false)
     (c.is_listed.ensures h)

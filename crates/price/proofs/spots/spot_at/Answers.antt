@@ -5,20 +5,18 @@ use Rattle.price.proofs.spots.Heads.{spot-none, spot-here}
 use borrow.Author.Rules.{rules}
 use Rattle.price.proofs.spots.spot_at.Goals as goal
 
-took
-    : (c : goal.In-Segment)
-    → CutAhead c.args.y c.args.d.now
-    c.args.at
-    c.in-Segment.start c.in-Segment.end c.in-Segment.piece
-took c = cut_ahead _ _ _ _ _ _ (sym c.segment_at-c.ensures ∙ c.in-Segment.is)
-
 pub returns-in_default : goal.returns-in_default
 returns-in_default c = spot-none _ _ _ (sym c.segment_at-c.ensures ∙ c.in_default.is)
 
 pub kind_of-requires : goal.kind_of-requires
 kind_of-requires c =
-    let q = took c in
+    let took : CutAhead c.args.y c.args.d.now c.args.at c.in-Segment.start c.in-Segment.end c.in-Segment.piece =
+        cut_ahead _ _ _ _ _ _ (sym c.segment_at-c.ensures ∙ c.in-Segment.is) in
+    let q = took in
     search rules
 
 pub returns : goal.returns
-returns c = spot-here _ _ _ _ _ _ _ (took (goal.at.returns c).In-Segment) c.kind_of.ensures
+returns c =
+    let took : CutAhead c.args.y c.args.d.now c.args.at c.in-Segment.start c.in-Segment.end c.in-Segment.piece =
+        cut_ahead _ _ _ _ _ _ (sym c.segment_at-c.ensures ∙ c.in-Segment.is) in
+    spot-here _ _ _ _ _ _ _ (took) c.kind_of.ensures

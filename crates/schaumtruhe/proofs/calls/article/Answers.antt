@@ -8,15 +8,25 @@ use Rattle.schaumtruhe.proofs.ArticlePlaces.{article-within}
 use borrow.Author.Rules.{rules}
 use Rattle.schaumtruhe.proofs.calls.article.Goals as goal
 
-found
-    : (c : goal.After-article_at-s)
-    → (c.article_at-s.result.start ≤ c.article_at-s.result.end) × (c.article_at-s.result.end ≤ length c.args.d.now)
-found c = rw c.article_at-s.ensures (article-within _ _ _ _)
-
 pub slice_bounds-result-count : goal.slice_bounds-result-count
 slice_bounds-result-count c =
-    let f = found c in
+    let found : (c.article_at-s.result.start ≤ c.article_at-s.result.end) × (c.article_at-s.result.end ≤ length c.args.d.now) =
+        rw c.article_at-s.ensures (article-within _ _ _ _) in
+    let f = found in
     omega arith
+
+pub slice_bounds-result-start : goal.slice_bounds-result-start
+slice_bounds-result-start c =
+    let found : (c.article_at-s.result.start ≤ c.article_at-s.result.end) × (c.article_at-s.result.end ≤ length c.args.d.now) =
+        rw c.article_at-s.ensures (article-within _ _ _ _) in
+    let f = found in
+    omega arith
+
+pub slice_bounds-result-end : goal.slice_bounds-result-end
+slice_bounds-result-end c =
+    let found : (c.article_at-s.result.start ≤ c.article_at-s.result.end) × (c.article_at-s.result.end ≤ length c.args.d.now) =
+        rw c.article_at-s.ensures (article-within _ _ _ _) in
+    (found).1
 
 pub returns : goal.returns
 unfolding part

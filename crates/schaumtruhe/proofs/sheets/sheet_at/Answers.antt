@@ -8,9 +8,9 @@ returns-then-refusal-ne0 c = delivery_missing _ _ _ _ c.admission-refusal.ensure
 
 pub returns-then-not-message_begins : goal.returns-then-not-message_begins
 returns-then-not-message_begins c =
-    place-missing _ _ _ _ c.admission-refusal.ensures c.if-refusal-ne0.false _ c.message_begins.ensures (not-true _ c.if-not-message_begins.true)
+    place-missing _ _ _ _ c.admission-refusal.ensures c.if-refusal-ne0.false _ c.message_begins.ensures c.if-not-message_begins.true
 
 pub returns : goal.returns
 returns c =
     message-stands _ _ _ _ c.admission-refusal.ensures c.if-refusal-ne0.false _ c.message_begins.ensures
-    (not-false _ c.if-not-message_begins.false) _ c.judged-j.ensures _ c.by_verdict.ensures
+    c.if-not-message_begins.false _ c.judged-j.ensures _ c.by_verdict.ensures

@@ -36,11 +36,11 @@ returns-then-not-is_digit c =
     c.loop-i.invariant
     (literal-byte _ _ _ _ h c.requires.0 (unmarked _ _ c.if-x-y.false))
     h
-    (sym c.is_digit.ensures ∙ not-true _ c.if-not-is_digit.true)
+    (sym c.is_digit.ensures ∙ c.if-not-is_digit.true)
 
 pub pushed-sum-requires : goal.pushed-sum-requires
 pushed-sum-requires c =
-    (c.loop-i.invariant.bounded, sym c.is_digit.ensures ∙ not-false _ c.if-not-is_digit.false)
+    (c.loop-i.invariant.bounded, sym c.is_digit.ensures ∙ c.if-not-is_digit.false)
 
 pub overflow_add-count : goal.overflow_add-count
 overflow_add-count c = omega arith
@@ -58,7 +58,7 @@ loop-i-preserved c =
     c.loop-i.invariant
     (literal-byte _ _ _ _ h c.requires.0 (unmarked _ _ c.if-x-y.false))
     h
-    (sym c.is_digit.ensures ∙ not-false _ c.if-not-is_digit.false)
+    (sym c.is_digit.ensures ∙ c.if-not-is_digit.false)
     _
     c.pushed-sum.ensures
 

@@ -28,11 +28,11 @@ returns-then-not-is_digit c =
     c.loop-y.invariant
     (literal-is c.literal-at.ensures (omega arith))
     c.if-e-at.false
-    (sym c.is_digit.ensures ∙ not-true _ c.if-not-is_digit.true)
+    (sym c.is_digit.ensures ∙ c.if-not-is_digit.true)
 
 pub pushed-sum-requires : goal.pushed-sum-requires
 pushed-sum-requires c =
-    (c.loop-y.invariant.bounded, sym c.is_digit.ensures ∙ not-false _ c.if-not-is_digit.false)
+    (c.loop-y.invariant.bounded, sym c.is_digit.ensures ∙ c.if-not-is_digit.false)
 
 pub overflow_add-count : goal.overflow_add-count
 overflow_add-count c =
@@ -53,6 +53,6 @@ loop-y-preserved c =
     c.loop-y.invariant
     (literal-is c.literal-at.ensures (omega arith))
     c.if-e-at.false
-    (sym c.is_digit.ensures ∙ not-false _ c.if-not-is_digit.false)
+    (sym c.is_digit.ensures ∙ c.if-not-is_digit.false)
     _
     c.pushed-sum.ensures

@@ -7,31 +7,31 @@ use Rattle.verdict.proofs.ended.ended.Goals as goal
 pub returns-then-not-has_tag : goal.returns-then-not-has_tag
 returns-then-not-has_tag c =
     let a = c.args in
-    no_end a.edition a.y a.d.now a.start _ _ a.kept _ c.has_tag.ensures (not-true _ c.if-not-has_tag.true)
+    no_end a.edition a.y a.d.now a.start _ _ a.kept _ c.has_tag.ensures c.if-not-has_tag.true
 
 pub returns-then-kept : goal.returns-then-kept
 returns-then-kept c =
     let a = c.args in
     told_as a.edition a.y a.d.now a.start _ _ a.kept _ c.has_tag.ensures _ _ c.accepted.ensures
     (not-compared a.edition a.y a.d.now a.start _ _ a.kept _ c.has_tag.ensures
-    (not-false _ c.if-not-has_tag.false) c.if-kept.true)
+    c.if-not-has_tag.false c.if-kept.true)
 
 pub returns-then-not-kept : goal.returns-then-not-kept
 returns-then-not-kept c =
     let a = c.args in
     told_as a.edition a.y a.d.now a.start _ _ a.kept _ c.has_tag.ensures _ _ c.accepted-then-not-kept.ensures
     (undoubted a.edition a.y a.d.now a.start _ _ a.kept _ c.has_tag.ensures
-    (not-false _ c.if-not-has_tag.false) c.if-kept.false _ refl (c.requires.1 (not-true _ c.if-not-kept.true)))
+    c.if-not-has_tag.false c.if-kept.false _ refl (c.requires.1 c.if-not-kept.true))
 
 pub returns-in-At : goal.returns-in-At
 returns-in-At c =
     let a = c.args in
     agreeing a.edition a.y a.d.now a.start a.n a.at a.kept _ c.has_tag.ensures
-    (not-false _ c.if-not-has_tag.false) c.if-kept.false _ c.first_agreeing.ensures _ _ c.in-At.is
+    c.if-not-has_tag.false c.if-kept.false _ c.first_agreeing.ensures _ _ c.in-At.is
 
 pub returns-in-Nothing : goal.returns-in-Nothing
 returns-in-Nothing c =
     let a = c.args in
     told_as a.edition a.y a.d.now a.start _ _ a.kept _ c.has_tag.ensures _ _ c.accepted-in-Nothing.ensures
     (undoubted a.edition a.y a.d.now a.start _ _ a.kept _ c.has_tag.ensures
-    (not-false _ c.if-not-has_tag.false) c.if-kept.false _ c.first_agreeing.ensures c.in-Nothing.is)
+    c.if-not-has_tag.false c.if-kept.false _ c.first_agreeing.ensures c.in-Nothing.is)

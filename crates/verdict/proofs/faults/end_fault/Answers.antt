@@ -7,17 +7,17 @@ use Rattle.verdict.proofs.faults.end_fault.Goals as goal
 
 pub returns-then-not-is_numbered : goal.returns-then-not-is_numbered
 returns-then-not-is_numbered c =
-    count-fault c.args.edition _ _ _ _ _ (numbered _ _ _ _ c.is_numbered.ensures c.requires) (not-true _ c.if-not-is_numbered.true)
+    count-fault c.args.edition _ _ _ _ _ (numbered _ _ _ _ c.is_numbered.ensures c.requires) c.if-not-is_numbered.true
 
 pub returns-then-not-same_plain : goal.returns-then-not-same_plain
 unfolding spanned
 returns-then-not-same_plain c =
     reference-fault c.args.edition _ _ _ _ _ (numbered _ _ _ _ c.is_numbered.ensures c.requires)
-    (not-false _ c.if-not-is_numbered.false) _
-    (decoded-text _ _ _ _ _ _ _ c.component_at-span.ensures) _ c.same_plain.ensures (not-true _ c.if-not-same_plain.true)
+    c.if-not-is_numbered.false _
+    (decoded-text _ _ _ _ _ _ _ c.component_at-span.ensures) _ c.same_plain.ensures c.if-not-same_plain.true
 
 pub returns : goal.returns
 unfolding spanned
 returns c =
-    no_end_fault c.args.edition _ _ _ _ _ (numbered _ _ _ _ c.is_numbered.ensures c.requires) (not-false _ c.if-not-is_numbered.false) _
-    (decoded-text _ _ _ _ _ _ _ c.component_at-span.ensures) _ c.same_plain.ensures (not-false _ c.if-not-same_plain.false)
+    no_end_fault c.args.edition _ _ _ _ _ (numbered _ _ _ _ c.is_numbered.ensures c.requires) c.if-not-is_numbered.false _
+    (decoded-text _ _ _ _ _ _ _ c.component_at-span.ensures) _ c.same_plain.ensures c.if-not-same_plain.false

@@ -12,42 +12,12 @@ use Rattle.messages.proofs.Upcoming.{Upcoming, upcoming, no_upcoming}
 use borrow.Author.Rules.{rules}
 use Rattle.verdict.proofs.message.walk.Goals as goal
 
-took
-    : (c : goal.In-Inside)
-    → Upcoming c.args.y
-    c.args.d.now c.loop-place.at
-    c.loop-place.first c.in-Inside.place c.in-Inside.last
-took c = upcoming _ _ _ _ _ _ (sym c.head_at-s.ensures ∙ c.in-Inside.is)
-
 -- what of the message follows a segment that ends at a place
 abbrev rest : goal.In-Inside → ℕ → List Segment
 rest c e =
     unless c.in-Inside.last (body
     (segments_at c.args.y
     c.args.d.now e))
-
--- what has been passed once the segment is kept, and that it is further on
-on
-    : (c : goal.After-keep-kept)
-    → Passed
-    c.args.edition
-    c.args.y
-    c.args.d.now
-    c.args.start
-    c.args.stop
-    (rest c.before'In-Inside c.in-Fits.end)
-    c.segment_answer-answer.new.counts c.keep-kept.new.came c.keep-kept.result
-    c.in-Fits.end
-    (c.loop-place.n + 1)
-    × (c.loop-place.at
-    < c.in-Fits.end)
-    × (c.in-Fits.end
-    ≤ length c.args.d.now)
-on c =
-    let q = took c.before'In-Inside in
-    passed_on _ _ _ _ _ _ _ _ _ _ _ c.loop-place.invariant _ _ _ q.cuts q.later (rest c.before'In-Inside) q.list _
-    c.segment_answer-answer.ensures.value _ _ c.in-Fits.is _ _ _
-    c.keep-kept.ensures.value c.keep-kept.ensures.undoubted_by c.segment_answer-answer.ensures.counted_on c.if-place-stop.false
 
 pub loop-place-init : goal.loop-place-init
 loop-place-init c = passed_first _ _ _ _ _ _ c.begun-kept.ensures
@@ -81,7 +51,9 @@ overflow_add-n-then-place-stop c =
 
 pub returns-then-place-stop : goal.returns-then-place-stop
 returns-then-place-stop c =
-    let q = took (goal.at.returns-then-place-stop c).In-Inside in
+    let took : Upcoming c.args.y c.args.d.now c.loop-place.at c.loop-place.first c.in-Inside.place c.in-Inside.last =
+        upcoming _ _ _ _ _ _ (sym c.head_at-s.ensures ∙ c.in-Inside.is) in
+    let q = took in
     passed_stopped _ _ _ _ _ _ _ _ _ _ _ c.loop-place.invariant _ _ _ q.cuts q.later (rest (goal.at.returns-then-place-stop c).In-Inside) q.list _
     c.segment_answer-answer.ensures.value _ _ c.in-Fits.is c.if-place-stop.true _
     c.stopped.ensures
@@ -102,7 +74,9 @@ overflow_add-n-in-Refused c =
 
 pub returns-in-Refused : goal.returns-in-Refused
 returns-in-Refused c =
-    let q = took (goal.at.returns-in-Refused c).In-Inside in
+    let took : Upcoming c.args.y c.args.d.now c.loop-place.at c.loop-place.first c.in-Inside.place c.in-Inside.last =
+        upcoming _ _ _ _ _ _ (sym c.head_at-s.ensures ∙ c.in-Inside.is) in
+    let q = took in
     passed_refused _ _ _ _ _ _ _ _ _ _ _ c.loop-place.invariant _ _ _ q.cuts q.later (rest (goal.at.returns-in-Refused c).In-Inside) q.list _
     c.segment_answer-answer.ensures.value _ _ _ c.in-Refused.is _
     c.refused-verdict.ensures _ c.close_of.ensures _ c.with_end.ensures
@@ -116,17 +90,39 @@ overflow_add-n-in-loop-place c =
 
 pub returns-then-last : goal.returns-then-last
 returns-then-last c =
+    let took : Upcoming c.args.y c.args.d.now c.loop-place.at c.loop-place.first c.in-Inside.place c.in-Inside.last =
+        upcoming _ _ _ _ _ _ (sym c.head_at-s.ensures ∙ c.in-Inside.is) in
+    let on : Passed c.args.edition c.args.y c.args.d.now c.args.start c.args.stop (rest c.before'In-Inside c.in-Fits.end) c.segment_answer-answer.new.counts c.keep-kept.new.came c.keep-kept.result c.in-Fits.end (c.loop-place.n + 1) × (c.loop-place.at < c.in-Fits.end) × (c.in-Fits.end ≤ length c.args.d.now) =
+        let q = took c.before'In-Inside in
+        passed_on _ _ _ _ _ _ _ _ _ _ _ c.loop-place.invariant _ _ _ q.cuts q.later (rest c.before'In-Inside) q.list _
+        c.segment_answer-answer.ensures.value _ _ c.in-Fits.is _ _ _
+        c.keep-kept.ensures.value c.keep-kept.ensures.undoubted_by c.segment_answer-answer.ensures.counted_on c.if-place-stop.false in
     let good = c.well_formed in
-    let p = (on (goal.at.returns-then-last c).After-keep-kept).0 in
+    let p = (on).0 in
     let s = p.short in
     all_fit _ _ _ _ _ _ _ _ _ _ _ p (none_left _ _ _ _ _ _ _ _ _ _ _ _ p c.if-last.true) (omega arith)
 
 pub loop-place-smaller : goal.loop-place-smaller
 loop-place-smaller c =
-    let p = on (goal.at.loop-place-smaller c).After-keep-kept in
+    let took : Upcoming c.args.y c.args.d.now c.loop-place.at c.loop-place.first c.in-Inside.place c.in-Inside.last =
+        upcoming _ _ _ _ _ _ (sym c.head_at-s.ensures ∙ c.in-Inside.is) in
+    let on : Passed c.args.edition c.args.y c.args.d.now c.args.start c.args.stop (rest c.before'In-Inside c.in-Fits.end) c.segment_answer-answer.new.counts c.keep-kept.new.came c.keep-kept.result c.in-Fits.end (c.loop-place.n + 1) × (c.loop-place.at < c.in-Fits.end) × (c.in-Fits.end ≤ length c.args.d.now) =
+        let q = took c.before'In-Inside in
+        passed_on _ _ _ _ _ _ _ _ _ _ _ c.loop-place.invariant _ _ _ q.cuts q.later (rest c.before'In-Inside) q.list _
+        c.segment_answer-answer.ensures.value _ _ c.in-Fits.is _ _ _
+        c.keep-kept.ensures.value c.keep-kept.ensures.undoubted_by c.segment_answer-answer.ensures.counted_on c.if-place-stop.false in
+    let p = on in
     let far = p.1 in
     let within = p.2 in
     omega arith
 
 pub loop-place-preserved : goal.loop-place-preserved
-loop-place-preserved c = passed_more _ _ _ _ _ _ _ _ _ _ _ _ (on (goal.at.loop-place-preserved c).After-keep-kept).0 c.if-last.false
+loop-place-preserved c =
+    let took : Upcoming c.args.y c.args.d.now c.loop-place.at c.loop-place.first c.in-Inside.place c.in-Inside.last =
+        upcoming _ _ _ _ _ _ (sym c.head_at-s.ensures ∙ c.in-Inside.is) in
+    let on : Passed c.args.edition c.args.y c.args.d.now c.args.start c.args.stop (rest c.before'In-Inside c.in-Fits.end) c.segment_answer-answer.new.counts c.keep-kept.new.came c.keep-kept.result c.in-Fits.end (c.loop-place.n + 1) × (c.loop-place.at < c.in-Fits.end) × (c.in-Fits.end ≤ length c.args.d.now) =
+        let q = took c.before'In-Inside in
+        passed_on _ _ _ _ _ _ _ _ _ _ _ c.loop-place.invariant _ _ _ q.cuts q.later (rest c.before'In-Inside) q.list _
+        c.segment_answer-answer.ensures.value _ _ c.in-Fits.is _ _ _
+        c.keep-kept.ensures.value c.keep-kept.ensures.undoubted_by c.segment_answer-answer.ensures.counted_on c.if-place-stop.false in
+    passed_more _ _ _ _ _ _ _ _ _ _ _ _ (on).0 c.if-last.false
