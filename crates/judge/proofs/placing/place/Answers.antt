@@ -80,7 +80,7 @@ enter-requires c =
         let a = c.args in
         found_inside a.edition (view_of a.y (part a.start a.end a.d.now)) a.last _ c.node_for-n.ensures c.if-n-eq0.false in
     let count = get_or c.args.counts.now c.node_for-n.result 0 in
-    ((omega (arith, c.if-n-eq0.false), inside), omega (arith, leb-false c.limit_of.result count c.if-full.false, c.limit_of.type-inv))
+    ((omega (arith, c.if-n-eq0.false), inside), omega (arith, leb-false c.limit_of.result count c.if-full.false, c.limit_of.type_inv))
 
 pub returns : goal.returns
 returns c =
