@@ -12,7 +12,9 @@ pub shape_of-row-in_default : goal.shape_of-row-in_default
 shape_of-row-in_default c = c.loop-spot.invariant.size
 
 pub returns-in_default : goal.returns-in_default
-returns-in_default c = filling_out _ _ _ _ _ _ _ _ _ c.loop-spot.invariant _ c.in_default.is c.counted.ensures
+returns-in_default c =
+    let each = filling_out _ _ _ _ _ _ _ _ _ c.loop-spot.invariant _ c.in_default.is c.counted.ensures in
+    record { value = each.0; row_after = each.1 }
 
 pub put_found-requires : goal.put_found-requires
 put_found-requires c =
