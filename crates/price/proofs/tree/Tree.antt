@@ -33,6 +33,8 @@ data Quiet : Kind → Type 0 where
   quiet_other : Quiet Other
 
 skip : (n : ℕ) (lin s : Segment) (ss : List Segment) (k : Kind) → kind_of s.bytes ≡ k → Quiet k → prices_from n lin (s ∷ ss) ≡ prices_from n lin ss
+skip n lin s ss Lin e q = elim q [ ]
+skip n lin s ss Pri e q = elim q [ ]
 skip n lin s ss Rng e quiet_rng = prices-next n lin s ss Rng e
 skip n lin s ss Other e quiet_other = prices-next n lin s ss Other e
 

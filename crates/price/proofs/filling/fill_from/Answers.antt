@@ -51,5 +51,5 @@ pub loop-spot-preserved : goal.loop-spot-preserved
 loop-spot-preserved c =
     filling_on _ _ _ _ _ _ _ _ _ c.loop-spot.invariant _ _ _
     c.in-At.is _ c.spot_at-next.ensures _ _ _
-    c.put_found.ensures c.put_found.auto.1.1.1.1.1.1.1.1.1.1.0
+    c.put_found.ensures c.put_found.auto.row
     c.added-seen.ensures c.moved-p.ensures
