@@ -39,7 +39,8 @@ pub returns : goal.returns
 returns c =
     let few : length (text_of (to_z w64 (of_z w64 c.args.z))) ≤ 20 =
         rw (to_z-of_z c.ranges.z) (text-fits _ c.ranges.z) in
-    word-put _ _ _ _ _ _ _ (ap text_of (to_z-of_z c.ranges.z))
+    let each = word-put _ _ _ _ _ _ _ (ap text_of (to_z-of_z c.ranges.z))
     (few)
     (text_end _ _ _ _ (few) c.decimal_text-size.ensures.value c.decimal_text-size.ensures.out_after refl)
-    c.put_from.ensures.value c.put_from.ensures.out_after
+    c.put_from.ensures.value c.put_from.ensures.out_after in
+    record { value = each.0; out_after = each.1 }

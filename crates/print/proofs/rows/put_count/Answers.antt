@@ -36,6 +36,7 @@ pub returns : goal.returns
 returns c =
     let few : length (digits_in 20 c.args.n) ≤ 20 =
         digits-few 20 19 _ (omega arith) in
-    word-put _ _ _ _ _ _ _ (count-text-is _) (few)
+    let each = word-put _ _ _ _ _ _ _ (count-text-is _) (few)
     (text_end _ _ _ _ (few) c.count_text-size.ensures.value c.count_text-size.ensures.out_after refl)
-    c.put_from.ensures.value c.put_from.ensures.out_after
+    c.put_from.ensures.value c.put_from.ensures.out_after in
+    record { value = each.0; out_after = each.1 }
