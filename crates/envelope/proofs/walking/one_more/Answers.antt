@@ -1,5 +1,5 @@
 -- `envelope::walking::one_more` meets its contract.
-use Rattle.envelope.proofs.walking.one-more.Goals as goal
+use Rattle.envelope.proofs.walking.one_more.Goals as goal
 
 pub returns-then-begins : goal.returns-then-begins
 returns-then-begins c = rw c.if-begins.true

@@ -2,7 +2,7 @@
 use mathlib.Core.Path.{sym, ◌∙◌}
 use borrow.Author.Tests.{not-true, not-false}
 use Rattle.messages.proofs.walks.Heads.{head-past, head-not, head-here}
-use Rattle.messages.proofs.head.head-at.Goals as goal
+use Rattle.messages.proofs.head.head_at.Goals as goal
 
 pub returns-then-d-place : goal.returns-then-d-place
 returns-then-d-place c = head-past _ _ _ _ _ c.past_breaks-place.ensures c.if-d-place.true

@@ -18,13 +18,17 @@ pub shape_of-out-then-end-at : goal.shape_of-out-then-end-at
 shape_of-out-then-end-at c = copying_length c.loop-y.invariant
 
 pub returns-then-end-at : goal.returns-then-end-at
-returns-then-end-at c = copying_end c.loop-y.invariant ((literal-is c.literal-at.ensures (omega arith)).none c.if-end-at.true)
+returns-then-end-at c =
+    let each = copying_end c.loop-y.invariant ((literal-is c.literal-at.ensures (omega arith)).none c.if-end-at.true) in
+    record { value = each.0; out_after = each.1 }
 
 pub shape_of-out-then-out-n : goal.shape_of-out-then-out-n
 shape_of-out-then-out-n c = copying_length c.loop-y.invariant
 
 pub returns-then-out-n : goal.returns-then-out-n
-returns-then-out-n c = copying_full c.loop-y.invariant c.if-out-n.true
+returns-then-out-n c =
+    let each = copying_full c.loop-y.invariant c.if-out-n.true in
+    record { value = each.0; out_after = each.1 }
 
 pub bounds-d-at : goal.bounds-d-at
 bounds-d-at c = omega arith

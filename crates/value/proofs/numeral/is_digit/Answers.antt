@@ -1,7 +1,7 @@
 -- `value::numeral::is_digit` meets its contract, one test after the other.
 use borrow.Author.Tests.{le-leb, lt-leb}
 use Rattle.value.specs.Numeral.{is_digit}
-use Rattle.value.proofs.numeral.is-digit.Goals as goal
+use Rattle.value.proofs.numeral.is_digit.Goals as goal
 
 pub returns-then-x-lt48 : goal.returns-then-x-lt48
 unfolding is_digit
