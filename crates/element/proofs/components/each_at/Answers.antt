@@ -7,6 +7,7 @@ use borrow.Author.Tests.{not-true, not-false}
 use Rattle.element.proofs.components.Walking.{walk_start, walk-found, walk_out, walk_inside, walk-element, walk-component}
 use Rattle.element.proofs.scan.Extents.{extent_end}
 use Rattle.element.proofs.components.each_at.Goals as goal
+use Rattle.element.proofs.components.each_at.Goals.{then-d-stop, else-d-stop}
 
 pub loop-y-init : goal.loop-y-init
 loop-y-init c = walk_start _ _ _ _ _ _ c.requires.0 c.requires.1 _ refl
@@ -82,7 +83,7 @@ loop-y-preserved c =
     let s = extent_end _ _ _ _ _ c.component_from-stop.ensures in
     let n = sym c.numbered.ensures ∙ c.if-numbered.false in
     let g = sym c.goes_on.ensures ∙ c.if-not-goes_on.false in
-    ⊎_elim
-    (λ a. walk-element _ _ _ _ _ _ _ _ _ w _ s n g _ _ _ a.0.taken a.1 a.2 refl)
-    (λ a. walk-component _ _ _ _ _ _ _ _ _ w _ s n g _ _ _ a.0.left a.1 a.2 refl)
-    c.if-d-stop.branch
+    elim c.if-d-stop.branch [
+      then-d-stop a ↦ walk-element _ _ _ _ _ _ _ _ _ w _ s n g _ _ _ a.if-d-stop.true a.e-is a.c-is refl
+    | else-d-stop a ↦ walk-component _ _ _ _ _ _ _ _ _ w _ s n g _ _ _ a.if-d-stop.false a.e-is a.c-is refl
+    ]

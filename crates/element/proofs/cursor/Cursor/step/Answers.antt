@@ -24,4 +24,7 @@ after-next-requires c =
     }
 
 pub returns : goal.returns
-returns c = sym (step-at _ _ _ _ _ (after-requires (goal.at.returns c).After-component_from-end c.after-next.lifetimes) _ c.after-next.ensures)
+returns c =
+    let stands = standing_of _ _ (record { place = omega (arith, c.limit_of-limit.ensures); element = omega arith; component = omega arith }) in
+    let stops = extent_end _ _ _ _ _ c.component_from-end.ensures in
+    sym (step-at _ _ _ _ _ (record { stands = stands; within = c.limit_of-limit.ensures; stops = stops }) _ c.after-next.ensures)
