@@ -4,8 +4,7 @@ use Prim.Native.Nat.{ℕ}
 use mathlib.Core.Bool.{true, false}
 use mathlib.Core.Path.{◌≡◌, refl}
 use mathlib.Core.List.{List, [], ◌∷◌, ◌++◌}
-use base.Fml.{GName}
-use denote.Ref.{MutBor}
+use denote.Bor.{Bor}
 use Rattle.cut.specs.declared.scan.Cut.TheVariants.{Segment, Nothing}
 use Rattle.bytewise.specs.Bytes.{bytes_of, begins}
 use Rattle.cut.specs.Base.{edifact, strictly}
@@ -17,12 +16,12 @@ use Rattle.cut.specs.Calls.{head_cut, segment_at, step_of}
 use Rattle.held.specs.Reading.{next_from, place_after, reader_on, answer_of, moved_on, answers}
 
 -- the bytes in a slice at any address
-abbrev lent : ℕ × ℕ → GName → List ℕ → MutBor (List ℕ)
-lent p γ d = record { ref_ptr = p; ghost_name = γ; now = d }
+abbrev lent : ℕ × ℕ → List ℕ → Bor (List ℕ)
+lent p d = record { ref_ptr = p; now = d }
 
-module _ (p : ℕ × ℕ) (γ : GName) where
+module _ (p : ℕ × ℕ) where
   una_released_piece
-      : answers 5 (reader_on edifact (lent p γ (bytes_of "UNA:+.? 'A?'B''UNH")))
+      : answers 5 (reader_on edifact (lent p (bytes_of "UNA:+.? 'A?'B''UNH")))
       ≡ Segment 9 14 false ∷ Segment 14 15 false ∷ Segment 15 18 true ∷ Nothing ∷ Nothing ∷ []
   unfolding
       answers answer_of moved_on next_from place_after step_of head_cut segment_at between allowed_byte may_serve has all_serve
@@ -32,7 +31,7 @@ module _ (p : ℕ × ℕ) (γ : GName) where
 
   -- other characters of UNA: the terminator is `~`, the release character `!`
   other_characters
-      : answers 3 (reader_on edifact (lent p γ (bytes_of "UNA|^,! ~A!~'~B?~"))) ≡ Segment 9 14 false ∷ Segment 14 17 false ∷ Nothing ∷ []
+      : answers 3 (reader_on edifact (lent p (bytes_of "UNA|^,! ~A!~'~B?~"))) ≡ Segment 9 14 false ∷ Segment 14 17 false ∷ Nothing ∷ []
   unfolding
       answers answer_of moved_on next_from place_after step_of head_cut segment_at between allowed_byte may_serve has all_serve
       distinct valid admits opens admission_of opening_of characters_of named segments_from join ends frees is_break trim trimmed
@@ -40,7 +39,7 @@ module _ (p : ℕ × ℕ) (γ : GName) where
   other_characters = refl
 
   -- two of UNA's characters are equal
-  not-admitted : answers 2 (reader_on edifact (lent p γ (bytes_of "UNA:+:? 'A'"))) ≡ Nothing ∷ Nothing ∷ []
+  not-admitted : answers 2 (reader_on edifact (lent p (bytes_of "UNA:+:? 'A'"))) ≡ Nothing ∷ Nothing ∷ []
   unfolding
       answers answer_of moved_on next_from place_after step_of head_cut segment_at between allowed_byte may_serve has all_serve
       distinct valid admits opens admission_of opening_of characters_of named segments_from join ends frees is_break trim trimmed
@@ -49,7 +48,7 @@ module _ (p : ℕ × ℕ) (γ : GName) where
 
   -- skipped before UNA, behind it, between segments and at the end
   usual_breaks
-      : answers 3 (reader_on edifact (lent p γ ((10 ∷ bytes_of "UNA:+.? '") ++ (13 ∷ 10 ∷ bytes_of "A'") ++ (13 ∷ 10 ∷ bytes_of "B'") ++ (10 ∷ []))))
+      : answers 3 (reader_on edifact (lent p ((10 ∷ bytes_of "UNA:+.? '") ++ (13 ∷ 10 ∷ bytes_of "A'") ++ (13 ∷ 10 ∷ bytes_of "B'") ++ (10 ∷ []))))
       ≡ Segment 12 14 false ∷ Segment 16 18 false ∷ Nothing ∷ []
   unfolding
       answers answer_of moved_on next_from place_after step_of head_cut segment_at between allowed_byte may_serve has all_serve
@@ -59,7 +58,7 @@ module _ (p : ℕ × ℕ) (γ : GName) where
 
   -- strictly it belongs to the segment behind it
   strict_break
-      : answers 3 (reader_on (strictly edifact) (lent p γ (bytes_of "A'" ++ (13 ∷ 10 ∷ bytes_of "B'"))))
+      : answers 3 (reader_on (strictly edifact) (lent p (bytes_of "A'" ++ (13 ∷ 10 ∷ bytes_of "B'"))))
       ≡ Segment 0 2 false ∷ Segment 2 6 false ∷ Nothing ∷ []
   unfolding
       answers answer_of moved_on next_from place_after step_of head_cut segment_at between allowed_byte may_serve has all_serve

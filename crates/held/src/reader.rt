@@ -1,5 +1,4 @@
-// The reader itself: thin functions over a struct that holds a reference, each proved by hand. Loops and branches stand in the covered
-// functions that these call.
+// The reader itself: thin functions over a struct that holds a reference. The work and its branches stand in the functions that these call.
 ghost use Rattle.std.specs.Prelude.{◌≡◌};
 ghost use Rattle.held.specs.Reading.{next_from, reader_on, answer_of, moved_on};
 

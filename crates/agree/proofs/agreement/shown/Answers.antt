@@ -2,6 +2,7 @@
 use mathlib.Core.Path.{sym, ◌∙◌}
 use borrow.Author.Tests.{eq-eqb, ne_eqb}
 use Rattle.agree.specs.workers.Visits.{shown_by}
+use Rattle.std.proofs.Common.{rules}
 use Rattle.agree.proofs.agreement.shown.Goals as goal
 
 pub returns-then-element-skip : goal.returns-then-element-skip
@@ -22,3 +23,7 @@ returns c =
       sym c.not_past.ensures ∙ c.if-not_past.false,
     )
     c.empty_span-2.ensures
+
+pub returns-in_default : goal.returns-in_default
+unfolding shown_by
+returns-in_default c = search rules

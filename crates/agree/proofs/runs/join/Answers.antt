@@ -8,21 +8,26 @@ use Rattle.agree.proofs.runs.join.Goals as goal
 pub returns-then-not-has_tag : goal.returns-then-not-has_tag
 returns-then-not-has_tag c =
     let n = c.if-not-has_tag.true in
-    (no-lin _ _ c.has_tag.ensures _ n, noted_other _ _ _ _ _ _ c.has_tag.ensures n)
+    record {
+      stops_value = no-lin _ _ c.has_tag.ensures _ n;
+      t_after = noted_other _ _ _ _ _ _ c.has_tag.ensures n;
+    }
 
 pub returns-then-agrees_marked : goal.returns-then-agrees_marked
-returns-then-agrees_marked c = (
-  sym c.if-agrees_marked.true ∙ lin-agrees-any _ _ c.has_tag.ensures _ _ _ _ _
+returns-then-agrees_marked c =
+    record {
+      stops_value = sym c.if-agrees_marked.true ∙ lin-agrees-any _ _ c.has_tag.ensures _ _ _ _ _
       c.if-not-has_tag.false c.head_at-h.ensures
-      c.agrees_marked.ensures,
-  refl,
-)
+      c.agrees_marked.ensures;
+      t_after = refl;
+    }
 
 pub returns : goal.returns
 returns c =
-    let u = c.if-not-has_tag.false in (
-      sym c.if-agrees_marked.false ∙ lin-agrees-any _ _ c.has_tag.ensures _ _ _ _ _ u c.head_at-h.ensures
-          c.agrees_marked.ensures,
-      noted-lin _ _ _ _ _ _ c.has_tag.ensures _ _ _ u
-          c.head_at-h.ensures c.print_head-f.ensures c.mark.ensures,
-    )
+    let u = c.if-not-has_tag.false in
+    record {
+      stops_value = sym c.if-agrees_marked.false ∙ lin-agrees-any _ _ c.has_tag.ensures _ _ _ _ _ u c.head_at-h.ensures
+          c.agrees_marked.ensures;
+      t_after = noted-lin _ _ _ _ _ _ c.has_tag.ensures _ _ _ u
+          c.head_at-h.ensures c.print_head-f.ensures c.mark.ensures;
+    }

@@ -19,7 +19,10 @@ agrees_in-requires c =
     let took : CutAhead c.args.y c.args.d.now c.loop-left.here c.in-Segment.place c.in-Segment.end c.in-Segment.piece =
         cut_ahead _ _ _ _ _ _ (sym c.segment_at-s.ensures ∙ c.in-Segment.is) in
     let q = took in
-    ((omega (arith, q.some), q.fits), c.requires)
+    record {
+      place_le_end = (omega (arith, q.some), q.fits);
+      at_value = c.requires;
+    }
 
 pub returns-then-agrees_in : goal.returns-then-agrees_in
 returns-then-agrees_in c =

@@ -18,7 +18,10 @@ join-joined-requires c =
     let took : CutAhead c.args.y c.args.d.now c.loop-room.here c.in-Segment.place c.in-Segment.end c.in-Segment.piece =
         cut_ahead _ _ _ _ _ _ (sym c.segment_at-s.ensures ∙ c.in-Segment.is) in
     let q = took in
-    ((omega (arith, q.some), q.fits), c.loop-room.invariant.is.marked)
+    record {
+      place_le_end = (omega (arith, q.some), q.fits);
+      at_value = c.loop-room.invariant.is.marked;
+    }
 
 pub returns-then-joined : goal.returns-then-joined
 returns-then-joined c =

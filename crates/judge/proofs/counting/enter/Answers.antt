@@ -17,5 +17,5 @@ bounds-counts-n-2 c = omega (arith, table_fits c.args.edition)
 pub returns : goal.returns
 returns c =
     let a = c.args in
-    entered a.edition a.n a.counts.now _ c.requires.0.1 (sound-at a.edition a.n c.requires.0.0 c.requires.0.1).lower
+    entered a.edition a.n a.counts.now _ c.requires.n_nonzero.1 (sound-at a.edition a.n c.requires.n_nonzero.0 c.requires.n_nonzero.1).lower
     c.children.ensures _ c.clear.ensures

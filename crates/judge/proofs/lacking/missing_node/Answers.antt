@@ -16,7 +16,7 @@ pub is_missed-requires : goal.is_missed-requires
 is_missed-requires c = (sought_inside c.loop-gaps.invariant c.loop-gaps-test.true _ c.first_in.ensures).1
 
 pub missing_for-requires : goal.missing_for-requires
-missing_for-requires c = c.requires.0
+missing_for-requires c = c.requires.n_in_bounds
 
 pub returns-then-is_missed : goal.returns-then-is_missed
 returns-then-is_missed c = c.missing_for.ensures
@@ -36,6 +36,6 @@ loop-gaps-preserved c =
 pub returns : goal.returns
 returns c =
     let a = c.args in
-    gap_none a.edition a.counts.now a.n a.last _ (ap₂ bit_and c.due.ensures c.preceding.ensures) c.requires.0.0
-    c.requires.0.1 c.requires.1
+    gap_none a.edition a.counts.now a.n a.last _ (ap₂ bit_and c.due.ensures c.preceding.ensures) c.requires.n_in_bounds.0
+    c.requires.n_in_bounds.1 c.requires.last_value
     (sought_out c.loop-gaps.invariant c.loop-gaps-test.false)

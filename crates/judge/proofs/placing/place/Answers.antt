@@ -20,7 +20,10 @@ returns-then-n-eq0 c =
     let o =
     place-nowhere a.edition (view_of a.y (part a.start a.end a.d.now)) a.last a.counts.now _ c.node_for-n.ensures
     c.if-n-eq0.true in
-    (o.answer, o.counts)
+    record {
+      value = o.answer;
+      counts_after = o.counts;
+    }
 
 pub limit_of-requires : goal.limit_of-requires
 limit_of-requires c =
@@ -54,7 +57,10 @@ missing_node-m-requires c =
     let follows : some_level (follows_in (guide_of c.args.edition) c.node_for-n.result) (levels (guide_of c.args.edition) (suc c.args.last) c.args.last 0) ≡ true =
         let a = c.args in
         found-follows a.edition (view_of a.y (part a.start a.end a.d.now)) a.last _ c.node_for-n.ensures c.if-n-eq0.false in
-    ((inside, before-inside), follows)
+    record {
+      n_in_bounds = (inside, before-inside);
+      last_value = follows;
+    }
 
 pub returns-then-full : goal.returns-then-full
 returns-then-full c =
@@ -63,7 +69,10 @@ returns-then-full c =
     place-over a.edition (view_of a.y (part a.start a.end a.d.now)) a.last a.counts.now _ c.node_for-n.ensures
     c.if-n-eq0.false
     _ c.limit_of.ensures _ c.number_over-over.ensures c.if-full.true in
-    (o.answer, o.counts)
+    record {
+      value = o.answer;
+      counts_after = o.counts;
+    }
 
 pub returns-then-m-ne0 : goal.returns-then-m-ne0
 returns-then-m-ne0 c =
@@ -72,7 +81,10 @@ returns-then-m-ne0 c =
     place-lacking a.edition (view_of a.y (part a.start a.end a.d.now)) a.last a.counts.now _ c.node_for-n.ensures
     c.if-n-eq0.false
     _ c.limit_of.ensures c.if-full.false _ c.missing_node-m.ensures c.if-m-ne0.true in
-    (o.answer, o.counts)
+    record {
+      value = o.answer;
+      counts_after = o.counts;
+    }
 
 pub enter-requires : goal.enter-requires
 enter-requires c =
@@ -80,7 +92,10 @@ enter-requires c =
         let a = c.args in
         found_inside a.edition (view_of a.y (part a.start a.end a.d.now)) a.last _ c.node_for-n.ensures c.if-n-eq0.false in
     let count = get_or c.args.counts.now c.node_for-n.result 0 in
-    ((omega (arith, c.if-n-eq0.false), inside), omega (arith, leb-false c.limit_of.result count c.if-full.false, c.limit_of.type-inv))
+    record {
+      n_nonzero = (omega (arith, c.if-n-eq0.false), inside);
+      n_bound = omega (arith, leb-false c.limit_of.result count c.if-full.false, c.limit_of.type_inv);
+    }
 
 pub returns : goal.returns
 returns c =
@@ -89,4 +104,7 @@ returns c =
     place_found a.edition (view_of a.y (part a.start a.end a.d.now)) a.last a.counts.now _ c.node_for-n.ensures
     c.if-n-eq0.false
     _ c.limit_of.ensures c.if-full.false _ c.missing_node-m.ensures c.if-m-ne0.false _ c.enter.ensures in
-    (o.answer, o.counts)
+    record {
+      value = o.answer;
+      counts_after = o.counts;
+    }

@@ -7,5 +7,5 @@ pub returns : goal.returns
 returns c =
     price_made _ _ _ _ _ _ _ _ _ c.component_at-a.ensures
     (price-read _ _ _ _ _ _ c.component_at-s.ensures c.number_of-n.ensures)
-    (kept _ _ (record { sfits = c.amount_in.type-inv }) c.amount_in.ensures)
-    (kept _ _ (record { sfits = c.decimals_in.type-inv }) c.decimals_in.ensures)
+    (kept _ _ (record { sfits = c.amount_in.type_inv }) c.amount_in.ensures)
+    (kept _ _ (record { sfits = c.decimals_in.type_inv }) c.decimals_in.ensures)

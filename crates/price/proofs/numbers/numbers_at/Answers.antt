@@ -27,9 +27,9 @@ returns c =
     let l : c.component_at-a.result.end - c.component_at-a.result.start < 2 ^ 63 = omega (arith, w.from, w.ordered, w.to, p.to) in
     numbers-made _ _ _ _ _ _ _ _ _ _ _ _ _ _ _ f l c.component_at-a.ensures
     (price-read _ _ _ _ _ _ c.component_at-s.ensures c.number_of-n.ensures)
-    (kept _ _ (record { sfits = c.article_place.type-inv }) c.article_place.ensures)
-    (kept _ _ (record { sfits = c.amount_in.type-inv }) c.amount_in.ensures)
-    (kept _ _ (record { sfits = c.decimals_in.type-inv }) c.decimals_in.ensures)
-    (kept _ _ (record { sfits = c.unit_in.type-inv }) c.unit_in.ensures)
-    (kept _ _ (record { sfits = c.from_start.type-inv }) c.from_start.ensures)
-    (kept _ _ (record { sfits = c.rng_place.type-inv }) c.rng_place.ensures)
+    (kept _ _ (record { sfits = c.article_place.type_inv }) c.article_place.ensures)
+    (kept _ _ (record { sfits = c.amount_in.type_inv }) c.amount_in.ensures)
+    (kept _ _ (record { sfits = c.decimals_in.type_inv }) c.decimals_in.ensures)
+    (kept _ _ (record { sfits = c.unit_in.type_inv }) c.unit_in.ensures)
+    (kept _ _ (record { sfits = c.from_start.type_inv }) c.from_start.ensures)
+    (kept _ _ (record { sfits = c.rng_place.type_inv }) c.rng_place.ensures)

@@ -14,7 +14,7 @@ from_start-requires c =
 
 pub returns-in-Rng : goal.returns-in-Rng
 returns-in-Rng c =
-    to_z-of_z (record { sfits = c.from_start.type-inv }) ∙ c.from_start.ensures ∙ rng-here _ _ _ _ _ _ c.in-At.is
+    to_z-of_z (record { sfits = c.from_start.type_inv }) ∙ c.from_start.ensures ∙ rng-here _ _ _ _ _ _ c.in-At.is
     c.in-Rng.is
 
 pub returns-in-Lin : goal.returns-in-Lin

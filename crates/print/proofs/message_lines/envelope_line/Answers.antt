@@ -3,7 +3,7 @@ use Rattle.print.proofs.Walking.{complete-line, broken-line}
 use Rattle.print.proofs.message_lines.envelope_line.Goals as goal
 
 pub returns-in-Complete : goal.returns-in-Complete
-returns-in-Complete c = complete-line _ _ _ _ c.in-Complete.is c.put_line.ensures
+returns-in-Complete c = complete-line _ _ _ _ c.in-Complete.is (c.put_line.ensures.value, c.put_line.ensures.out_after)
 
 pub returns-in-Refused : goal.returns-in-Refused
-returns-in-Refused c = broken-line _ _ _ _ _ _ c.in-Refused.is c.put_line-in-Refused.ensures
+returns-in-Refused c = broken-line _ _ _ _ _ _ c.in-Refused.is (c.put_line-in-Refused.ensures.value, c.put_line-in-Refused.ensures.out_after)

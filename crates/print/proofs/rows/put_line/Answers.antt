@@ -7,4 +7,4 @@ pub put_line_at-requires : goal.put_line_at-requires
 put_line_at-requires c = omega arith
 
 pub returns : goal.returns
-returns c = front-put _ _ _ _ _ _ c.put_line_at.ensures
+returns c = front-put _ _ _ _ _ _ (c.put_line_at.ensures.value, c.put_line_at.ensures.out_after)

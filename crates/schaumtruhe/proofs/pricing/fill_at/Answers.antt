@@ -5,7 +5,7 @@ use Rattle.schaumtruhe.proofs.pricing.fill_at.Goals as goal
 pub returns-in-Accepted : goal.returns-in-Accepted
 returns-in-Accepted c =
     let sheet = c.sheet_at-sheet.ensures in
-    let fill = c.fill-filled.ensures in
+    let fill = (c.fill-filled.ensures.value, c.fill-filled.ensures.row_after) in
     let is = c.in-Accepted.is in
     (priced-written _ _ _ _ sheet _ _ is _ _ _ _ fill.0 fill.1, row_written _ _ _ _ sheet _ _ is _ _ _ _ fill.0 fill.1)
 

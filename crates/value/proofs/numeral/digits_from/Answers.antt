@@ -8,13 +8,17 @@ use Rattle.value.proofs.Running.{along_start, along_join, along_more, along_end,
 use Rattle.value.proofs.numeral.digits_from.Goals as goal
 
 pub loop-i-init : goal.loop-i-init
-loop-i-init c = along_start _ _ _ _ _ c.requires.1
+loop-i-init c = along_start _ _ _ _ _ c.requires.value_bound
 
 pub bounds-d-i : goal.bounds-d-i
 bounds-d-i c = omega arith
 
 pub released_digits-rest-requires : goal.released_digits-rest-requires
-released_digits-rest-requires c = (omega arith, c.loop-i.invariant.bounded)
+released_digits-rest-requires c =
+    record {
+      e_in_bounds = omega arith;
+      value_bound = c.loop-i.invariant.bounded;
+    }
 
 pub overflow_add-result : goal.overflow_add-result
 overflow_add-result c =
@@ -34,13 +38,16 @@ returns-then-not-is_digit c =
     let h = c.loop-i-test.true in
     along_stop _ _ _ _ _ _ _ _ _
     c.loop-i.invariant
-    (literal-byte _ _ _ _ h c.requires.0 (unmarked _ _ c.if-x-y.false))
+    (literal-byte _ _ _ _ h c.requires.e_in_bounds (unmarked _ _ c.if-x-y.false))
     h
     (sym c.is_digit.ensures ∙ c.if-not-is_digit.true)
 
 pub pushed-sum-requires : goal.pushed-sum-requires
 pushed-sum-requires c =
-    (c.loop-i.invariant.bounded, sym c.is_digit.ensures ∙ c.if-not-is_digit.false)
+    record {
+      value_bound = c.loop-i.invariant.bounded;
+      x_value = sym c.is_digit.ensures ∙ c.if-not-is_digit.false;
+    }
 
 pub overflow_add-count : goal.overflow_add-count
 overflow_add-count c = omega arith
@@ -56,7 +63,7 @@ loop-i-preserved c =
     let h = c.loop-i-test.true in
     along_more _ _ _ _ _ _ _ _ _
     c.loop-i.invariant
-    (literal-byte _ _ _ _ h c.requires.0 (unmarked _ _ c.if-x-y.false))
+    (literal-byte _ _ _ _ h c.requires.e_in_bounds (unmarked _ _ c.if-x-y.false))
     h
     (sym c.is_digit.ensures ∙ c.if-not-is_digit.false)
     _

@@ -6,12 +6,12 @@ use Rattle.value.proofs.numeral.pushed.Goals as goal
 
 pub overflow_sub-result : goal.overflow_sub-result
 overflow_sub-result c =
-    let r = digit_range _ c.requires.1 in
+    let r = digit_range _ c.requires.x_value in
     omega arith
 
 pub returns-then-value-lt1000000000000000 : goal.returns-then-value-lt1000000000000000
 returns-then-value-lt1000000000000000 c =
-    let r = digit_range _ c.requires.1 in
+    let r = digit_range _ c.requires.x_value in
     record { grown = λ _. refl; bounded = omega arith }
 
 pub returns : goal.returns

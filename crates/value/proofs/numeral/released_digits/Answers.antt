@@ -8,7 +8,7 @@ use Rattle.plain.proofs.LiteralPlaces.{literal-is}
 use Rattle.value.proofs.numeral.released_digits.Goals as goal
 
 pub loop-y-init : goal.loop-y-init
-loop-y-init c = along_start _ _ _ _ _ c.requires.1
+loop-y-init c = along_start _ _ _ _ _ c.requires.value_bound
 
 pub literal-at-requires : goal.literal-at-requires
 literal-at-requires c = tt
@@ -32,7 +32,10 @@ returns-then-not-is_digit c =
 
 pub pushed-sum-requires : goal.pushed-sum-requires
 pushed-sum-requires c =
-    (c.loop-y.invariant.bounded, sym c.is_digit.ensures ∙ c.if-not-is_digit.false)
+    record {
+      value_bound = c.loop-y.invariant.bounded;
+      x_value = sym c.is_digit.ensures ∙ c.if-not-is_digit.false;
+    }
 
 pub overflow_add-count : goal.overflow_add-count
 overflow_add-count c =

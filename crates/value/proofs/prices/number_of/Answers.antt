@@ -2,6 +2,7 @@
 use mathlib.Core.Path.{sym, ◌∙◌}
 use native.Mathlib.Omega.{arith}
 use mir.Facts.{to_z-of_z}
+use mir.Syntax.{w64}
 use Rattle.value.proofs.Answers.{short-bounds, number_short, number_long, number-other}
 use Rattle.value.proofs.prices.number_of.Goals as goal
 
@@ -16,7 +17,7 @@ overflow_cast-result c =
 pub returns-in-Short : goal.returns-in-Short
 returns-in-Short c =
     number_short _ _ _ _ _ _ _ (sym c.numeral_of-n.ensures ∙ c.in-Short.is)
-    (to_z-of_z (record { sfits = c.with_sign.type-inv }) ∙ c.with_sign.ensures)
+    (to_z-of_z {w = w64} (record { sfits = c.with_sign.type_inv }) ∙ c.with_sign.ensures)
 
 pub returns-in-Long : goal.returns-in-Long
 returns-in-Long c = number_long _ _ _ (sym c.numeral_of-n.ensures ∙ c.in-Long.is)

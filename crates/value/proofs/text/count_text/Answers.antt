@@ -3,4 +3,6 @@ use Rattle.value.proofs.Texts.{digits-put}
 use Rattle.value.proofs.text.count_text.Goals as goal
 
 pub returns : goal.returns
-returns c = digits-put _ _ _ _ c.put_digits-at.ensures
+returns c =
+    let each = digits-put _ _ _ _ (c.put_digits-at.ensures.m_value, c.put_digits-at.ensures.out_after) in
+    record { value = each.0; out_after = each.1 }

@@ -24,7 +24,9 @@ pub shape_of-out-then-left-eq0 : goal.shape_of-out-then-left-eq0
 shape_of-out-then-left-eq0 c = simp length-set (c.loop-left.invariant.size ∙ sym c.requires)
 
 pub returns-then-left-eq0 : goal.returns-then-left-eq0
-returns-then-left-eq0 c = put_end _ _ _ _ _ c.loop-left.invariant c.if-left-eq0.true
+returns-then-left-eq0 c =
+    let each = put_end _ _ _ _ _ c.loop-left.invariant c.if-left-eq0.true in
+    record { m_value = each.0; out_after = each.1 }
 
 pub loop-left-smaller : goal.loop-left-smaller
 loop-left-smaller c = omega arith

@@ -8,7 +8,7 @@ overflow_sub-out c =
 
 pub returns-then-n-lt0 : goal.returns-then-n-lt0
 returns-then-n-lt0 c =
-    minus-put _
+    let each = minus-put _
     c.ranges.n
     _
     _
@@ -18,11 +18,12 @@ returns-then-n-lt0 c =
     _
     c.requires
     c.put_digits-at.ensures.out_after
-    c.if-n-lt0.true
+    c.if-n-lt0.true in
+    record { value = each.0; out_after = each.1 }
 
 pub returns : goal.returns
 returns c =
-    plain-put _
+    let each = plain-put _
     c.ranges.n
     _
     _
@@ -32,4 +33,5 @@ returns c =
     _
     c.requires
     c.put_digits-at.ensures.out_after
-    c.if-n-lt0.false
+    c.if-n-lt0.false in
+    record { value = each.0; out_after = each.1 }

@@ -7,7 +7,7 @@ use Rattle.verdict.proofs.faults.rule_fault.Goals as goal
 
 pub returns-then-is_numbered : goal.returns-then-is_numbered
 returns-then-is_numbered c =
-    no_line-fault c.args.edition _ _ _ _ _ c.in-Lin.is _ (numbered _ _ _ _ c.is_numbered.ensures c.requires.1)
+    no_line-fault c.args.edition _ _ _ _ _ c.in-Lin.is _ (numbered _ _ _ _ c.is_numbered.ensures c.requires.d_value)
     c.if-is_numbered.true
 
 pub returns-in-Unt : goal.returns-in-Unt
@@ -16,7 +16,7 @@ returns-in-Unt c =
 
 pub returns-else-is_numbered : goal.returns-else-is_numbered
 returns-else-is_numbered c =
-    rule_line c.args.edition _ _ _ _ _ c.in-Lin.is _ (numbered _ _ _ _ c.is_numbered.ensures c.requires.1)
+    rule_line c.args.edition _ _ _ _ _ c.in-Lin.is _ (numbered _ _ _ _ c.is_numbered.ensures c.requires.d_value)
     c.if-is_numbered.false
 
 pub returns-in-Unh : goal.returns-in-Unh
