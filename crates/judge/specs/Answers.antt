@@ -16,9 +16,9 @@ answer_of (refused k m) = Refused k m
 
 module _ (y : Syntax) (ed : Edition) (d : List ℕ) (start end last : ℕ) (cs : List ℕ) where
   -- what comes of the bytes from start to end after the node `last`, where cs are the counts
-  abbrev pub placedIn : Answer
-  placedIn = place (guide_of ed) (view_of y (part start end d)) last cs
+  abbrev pub placed_in : Answer
+  placed_in = place (guide_of ed) (view_of y (part start end d)) last cs
 
   -- the counts afterwards
-  abbrev pub countsIn : List ℕ
-  countsIn = counts_after (guide_of ed) placedIn cs
+  abbrev pub counts_in : List ℕ
+  counts_in = counts_after (guide_of ed) placed_in cs

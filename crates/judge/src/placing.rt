@@ -1,6 +1,6 @@
 // Places one segment after the other: its node, or the first fault in the order 13, 15 or 25, 14.
 ghost use Rattle.std.specs.Prelude.{◌≡◌};
-ghost use Rattle.judge.specs.Answers.{answer_of, placedIn, countsIn};
+ghost use Rattle.judge.specs.Answers.{answer_of, placed_in, counts_in};
 
 use crate::counting::enter;
 use crate::lacking::missing_node;
@@ -28,8 +28,8 @@ pub fn place(
     last: usize,
     counts: &mut [u32; 96],
 ) -> Placed
-    ensures value { result ≡ answer_of (placedIn y edition d.now start end last counts.old) }
-    ensures counts_after { counts.new ≡ countsIn y edition d.now start end last counts.old }
+    ensures value { result ≡ answer_of (placed_in y edition d.now start end last counts.old) }
+    ensures counts_after { counts.new ≡ counts_in y edition d.now start end last counts.old }
 {
     let n = node_for(y, edition, d, start, end, last);
     if n == 0 {

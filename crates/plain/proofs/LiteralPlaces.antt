@@ -1,4 +1,4 @@
--- Laws of `literalOf`: its value by the tests that `literal` makes, and that it is where the first decoded byte of a part stands.
+-- Laws of `literal_of`: its value by the tests that `literal` makes, and that it is where the first decoded byte of a part stands.
 use Rattle.std.proofs.Common.{◌≡◌, ℕ, ◌+◌, ◌<◌, ◌≤◌, min, Bool, true, false, cond, List, length, get_or, refl, arith, le-ltb, lt-ltb}
 use native.Mathlib.Decide.{dec_lt}
 use Rattle.cut.specs.declared.service.Syntax.{Syntax}

@@ -21,7 +21,7 @@ use Rattle.messages.specs.workers.Walks.{left_over}
 use Rattle.messages.proofs.Holding.{held_alone}
 use Rattle.messages.proofs.Passing.{Begun, begun, left, none_left}
 use Rattle.guide.specs.Answers.{accepts, refuses, Verdict as Judged}
-use Rattle.verdict.specs.Answers.{declared, judgedAs, numbers_of}
+use Rattle.verdict.specs.Answers.{declared, judged_as, numbers_of}
 use Rattle.verdict.specs.Verdicts.{verdict_named}
 use Rattle.verdict.specs.declared.answers.Judged.{Judged as JudgedAt}
 use Rattle.verdict.specs.declared.answers.Verdict.{Verdict}
@@ -31,7 +31,7 @@ use Rattle.price.specs.Calls.{prices_in}
 use Rattle.price.specs.Cursors.{told_of, told_from, first_cursor}
 use Rattle.price.proofs.Face.{told_message}
 use Rattle.schaumtruhe.specs.Calls.{judged, listed, only_accepted, accepted}
-use Rattle.schaumtruhe.specs.workers.Answers.{oneIf}
+use Rattle.schaumtruhe.specs.workers.Answers.{one_if}
 use Rattle.schaumtruhe.proofs.places.Begun.{one_only, one-few, same-verdict, same_end}
 use Rattle.print.specs.declared.state.Counts.{Counts}
 use Rattle.print.specs.declared.state.Stage.{Stage}
@@ -233,7 +233,7 @@ module _ (y : Syntax) (d : List ℕ) (c : Counts) where
         (append_assoc (message_lines y (c.messages + 1) m) later last ∙ ap (λ (t : List ℕ). message_lines y (c.messages + 1) m ++ t) rest-left)
 
     module _ (s : ℕ) (starts : s ≡ past_at y d c.at) (j : JudgedAt)
-        (judges : j ≡ judgedAs (declared (verdict_named y c.at (held here))) (last_end c.at (held here))) where
+        (judges : j ≡ judged_as (declared (verdict_named y c.at (held here))) (last_end c.at (held here))) where
       v_same : j.verdict ≡ declared (judged y m)
       v_same = same-verdict y d c.at h j judges
 
@@ -250,7 +250,7 @@ module _ (y : Syntax) (d : List ℕ) (c : Counts) where
           let f = sound-few c t in
           let e = e_same in
           let l = b.some in
-          let o : oneIf j.verdict ≤ 1 = rw v_same (one-few (judged y m)) in
+          let o : one_if j.verdict ≤ 1 = rw v_same (one-few (judged y m)) in
           few-sound (counted_after c j.verdict j.end)
           (record {
             messages = omega (arith, f.messages, l, e);

@@ -5,7 +5,7 @@ ghost use Rattle.messages.specs.Held.{head_outer};
 ghost use Rattle.messages.specs.declared.outer.Outer.TheVariants as outer;
 ghost use Rattle.envelope.specs.Envelope.{envelope_numbers};
 ghost use Rattle.verdict.specs.Answers.{numbers_of};
-ghost use Rattle.schaumtruhe.specs.workers.Answers.{oneIf};
+ghost use Rattle.schaumtruhe.specs.workers.Answers.{one_if};
 ghost use Rattle.print.specs.Report.{line_of};
 ghost use Rattle.print.specs.Printing.{last_lines, left_from, sound, least, Wrote};
 ghost use Rattle.print.specs.workers.Rows.{put_at};
@@ -111,7 +111,7 @@ fn stage_after(v: Verdict, start: usize) -> Stage
 }
 
 fn one_if(v: Verdict) -> usize
-    ensures { (result ≡ oneIf v) × (result ≤ 1) }
+    ensures { (result ≡ one_if v) × (result ≤ 1) }
 {
     match v {
         Verdict::Accepted { .. } => 1,

@@ -25,7 +25,7 @@ use Rattle.schaumtruhe.specs.Calls.{
   article_by,
   article_at,
 }
-use Rattle.schaumtruhe.specs.workers.Answers.{standingOf, refusalBy}
+use Rattle.schaumtruhe.specs.workers.Answers.{standing_of, refusal_by}
 use Rattle.schaumtruhe.specs.declared.sheets.Standing.{Standing}
 use Rattle.schaumtruhe.specs.declared.sheets.Standing.TheVariants.{Accepted, Refused}
 use Rattle.schaumtruhe.proofs.judging.Verdicts.{Stands, stands_alone}
@@ -47,14 +47,14 @@ module _ (y : Syntax) (d : List ℕ) (at k : ℕ) where
   unless-refused zero s h = absurd (h refl)
   unless-refused (suc n) s h = refl
 
-  module _ (sheet : Standing) (sought : sheet ≡ standingOf (sheet_at y d at)) where
-    by-standing : (st : Standing) → sheet ≡ st → refusalBy y d st k ≡ article_refusal y d at k
+  module _ (sheet : Standing) (sought : sheet ≡ standing_of (sheet_at y d at)) where
+    by-standing : (st : Standing) → sheet ≡ st → refusal_by y d st k ≡ article_refusal y d at k
     unfolding article_refusal
     by-standing (Accepted s e) is =
         rw (found y d at sheet sought s e is).is (ap (λ (qs : List Listed). pickℕ (ltb k (length qs)) 0 32) (same-prices y d at sheet sought s e is))
     by-standing (Refused n) is = rw (lost y d at sheet sought n is)
 
-    module _ (r : ℕ) (refuses : r ≡ refusalBy y d sheet k) where
+    module _ (r : ℕ) (refuses : r ≡ refusal_by y d sheet k) where
       pub refusal-at : r ≡ article_refusal y d at k
       refusal-at = refuses ∙ by-standing sheet refl
 

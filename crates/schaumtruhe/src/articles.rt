@@ -2,7 +2,7 @@
 ghost use Rattle.std.specs.Prelude.{◌≡◌, length};
 ghost use Rattle.price.specs.Calls.{prices_in};
 ghost use Rattle.schaumtruhe.specs.Calls.{article_refusal, article_at};
-ghost use Rattle.schaumtruhe.specs.workers.Answers.{refusalBy};
+ghost use Rattle.schaumtruhe.specs.workers.Answers.{refusal_by};
 
 use crate::sheets::{Standing, sheet_at};
 use cut::Syntax;
@@ -20,7 +20,7 @@ fn total(y: Syntax, d: &[u8], start: usize, end: usize) -> usize
 
 // 1, 2, 31 or 30; 32 if the message has no price k; else 0.
 fn refusal_by(y: Syntax, d: &[u8], sheet: Standing, k: usize) -> u32
-    ensures { result ≡ refusalBy y d.now sheet k }
+    ensures { result ≡ refusal_by y d.now sheet k }
 {
     match sheet {
         Standing::Accepted { start, end } => { if k < total(y, d, start, end) { 0 } else { 32 } }

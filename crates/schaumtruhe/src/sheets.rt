@@ -1,7 +1,7 @@
 // The accepted message that begins at a place: what prices and articles are asked of.
 ghost use Rattle.std.specs.Prelude.{◌≡◌};
 ghost use Rattle.schaumtruhe.specs.Calls.{sheet_at};
-ghost use Rattle.schaumtruhe.specs.workers.Answers.{standingOf, standingBy};
+ghost use Rattle.schaumtruhe.specs.workers.Answers.{standing_of, standing_by};
 
 use cut::Syntax;
 use verdict::{Verdict, judged};
@@ -15,7 +15,7 @@ pub enum Standing {
 
 // The message from start to end by its verdict.
 fn by_verdict(v: Verdict, start: usize, end: usize) -> Standing
-    ensures { result ≡ standingBy v start end }
+    ensures { result ≡ standing_by v start end }
 {
     match v {
         Verdict::Accepted { .. } => Standing::Accepted { start, end },
@@ -24,7 +24,7 @@ fn by_verdict(v: Verdict, start: usize, end: usize) -> Standing
 }
 
 pub(crate) fn sheet_at(y: Syntax, d: &[u8], at: usize) -> Standing
-    ensures { result ≡ standingOf (sheet_at y d.now at) }
+    ensures { result ≡ standing_of (sheet_at y d.now at) }
 {
     let refusal = cut::admission(y, d);
     if refusal != 0 {

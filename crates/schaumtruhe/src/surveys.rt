@@ -4,7 +4,7 @@ ghost use Rattle.messages.specs.Held.{head_outer};
 ghost use Rattle.cut.specs.Segments.{segments_at};
 ghost use Rattle.messages.specs.declared.outer.Outer.TheVariants as outer;
 ghost use Rattle.schaumtruhe.specs.Calls.{survey_of};
-ghost use Rattle.schaumtruhe.specs.workers.Answers.{oneIf, Stepped};
+ghost use Rattle.schaumtruhe.specs.workers.Answers.{one_if, Stepped};
 
 use cut::Syntax;
 use messages::{Outer, outer_at};
@@ -33,7 +33,7 @@ struct Counts {
 }
 
 fn one_if(v: Verdict) -> usize
-    ensures { result ≡ oneIf v }
+    ensures { result ≡ one_if v }
 {
     match v {
         Verdict::Accepted { .. } => 1,

@@ -8,7 +8,7 @@ use Rattle.messages.specs.Calls.{next_message}
 use Rattle.held.specs.Reading.{next_from}
 use Rattle.verdict.specs.Answers.{declared}
 use Rattle.schaumtruhe.specs.Calls.{survey_of, verdict_at, priced_at, row_at, article_refusal, article_at}
-use Rattle.schaumtruhe_c.specs.Answers.{totalsOf, next_of, judgedOf, prices_of, articleOf, segmentOf}
+use Rattle.schaumtruhe_c.specs.Answers.{totals_of, next_of, judged_of, prices_of, article_of, segment_of}
 use Rattle.schaumtruhe_c.specs.declared.answers.Totals.{Totals}
 use Rattle.schaumtruhe_c.specs.declared.answers.Next.{Next}
 use Rattle.schaumtruhe_c.specs.declared.answers.Judged.{Judged}
@@ -17,7 +17,7 @@ use Rattle.schaumtruhe_c.specs.declared.answers.Article.{Article}
 use Rattle.schaumtruhe_c.specs.declared.answers.Segment.{Segment}
 
 module _ (y : Syntax) (d : List ℕ) where
-  pub one_totals : (r t : Totals) → r ≡ totalsOf (survey_of y d) → t ≡ totalsOf (survey_of y d) → r ≡ t
+  pub one_totals : (r t : Totals) → r ≡ totals_of (survey_of y d) → t ≡ totals_of (survey_of y d) → r ≡ t
   one_totals r t h k = h ∙ sym k
 
   module _ (at : ℕ) where
@@ -25,10 +25,10 @@ module _ (y : Syntax) (d : List ℕ) where
     one-next r t h k = h ∙ sym k
 
     pub one-judged
-        : (r t : Judged) → r ≡ judgedOf (declared (verdict_at y d at)) → t ≡ judgedOf (declared (verdict_at y d at)) → r ≡ t
+        : (r t : Judged) → r ≡ judged_of (declared (verdict_at y d at)) → t ≡ judged_of (declared (verdict_at y d at)) → r ≡ t
     one-judged r t h k = h ∙ sym k
 
-    pub one-segment : (r t : Segment) → r ≡ segmentOf (next_from y d at) → t ≡ segmentOf (next_from y d at) → r ≡ t
+    pub one-segment : (r t : Segment) → r ≡ segment_of (next_from y d at) → t ≡ segment_of (next_from y d at) → r ≡ t
     one-segment r t h k = h ∙ sym k
 
     module _ (j : ℕ) where
@@ -40,6 +40,6 @@ module _ (y : Syntax) (d : List ℕ) where
       one-row row r t h k = h ∙ sym k
 
       pub one-article
-          : (r t : Article) → r ≡ articleOf (article_refusal y d at j) (article_at y d at j)
-          → t ≡ articleOf (article_refusal y d at j) (article_at y d at j) → r ≡ t
+          : (r t : Article) → r ≡ article_of (article_refusal y d at j) (article_at y d at j)
+          → t ≡ article_of (article_refusal y d at j) (article_at y d at j) → r ≡ t
       one-article r t h k = h ∙ sym k

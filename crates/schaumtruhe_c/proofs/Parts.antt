@@ -9,7 +9,7 @@ use Rattle.cut.specs.Admission.{admission_of}
 use Rattle.cut.specs.Used.{characters_of}
 use Rattle.plain.specs.Plain.{decoded, copied}
 use Rattle.plain.proofs.Decoding.{decoded_limited}
-use Rattle.schaumtruhe_c.specs.Answers.{plainAt}
+use Rattle.schaumtruhe_c.specs.Answers.{plain_at}
 
 copied_none : (row : List ℕ) → row ≡ copied [] row
 unfolding copied
@@ -17,23 +17,23 @@ copied_none [] = refl
 copied_none (x ∷ xs) = refl
 
 module _ (y z : Syntax) (d : List ℕ) (a n k : ℕ) (used : z ≡ characters_of y d) (asked : k ≡ admission_of z d) where
-  none : (k ≡ 0 → ⊥) → plainAt (characters_of y d) d a n ≡ []
-  unfolding plainAt
+  none : (k ≡ 0 → ⊥) → plain_at (characters_of y d) d a n ≡ []
+  unfolding plain_at
   none h =
       let e : admission_of (characters_of y d) d ≡ k = rw (← used, ← asked) in
       rw (ne_eqb _ _ (λ g. h (sym e ∙ g)))
 
   pub plain_refused
-      : (out : List ℕ) → (k ≡ 0 → ⊥) → (0 ≡ length (plainAt (characters_of y d) d a n)) × (out ≡ copied (plainAt (characters_of y d) d a n) out)
+      : (out : List ℕ) → (k ≡ 0 → ⊥) → (0 ≡ length (plain_at (characters_of y d) d a n)) × (out ≡ copied (plain_at (characters_of y d) d a n) out)
   plain_refused out h = (sym (ap length (none h)), copied_none out ∙ ap (λ (s : List ℕ). copied s out) (sym (none h)))
 
-  given : (e : ℕ) → k ≡ 0 → e ≡ min (a + n) (length d) → decoded z a e d ≡ plainAt (characters_of y d) d a n
-  unfolding plainAt
+  given : (e : ℕ) → k ≡ 0 → e ≡ min (a + n) (length d) → decoded z a e d ≡ plain_at (characters_of y d) d a n
+  unfolding plain_at
   given e h f =
       let g : admission_of (characters_of y d) d ≡ 0 = rw (← used, ← asked) h in
       rw (eq-eqb _ _ g, ← used) (decoded_limited z d a (a + n) e f)
 
   pub plain_Copied
       : (e m : ℕ) (out after : List ℕ) → k ≡ 0 → e ≡ min (a + n) (length d) → m ≡ length (decoded z a e d) → after ≡ copied (decoded z a e d) out
-      → (m ≡ length (plainAt (characters_of y d) d a n)) × (after ≡ copied (plainAt (characters_of y d) d a n) out)
+      → (m ≡ length (plain_at (characters_of y d) d a n)) × (after ≡ copied (plain_at (characters_of y d) d a n) out)
   plain_Copied e m out after h f l w = (l ∙ ap length (given e h f), w ∙ ap (λ (s : List ℕ). copied s out) (given e h f))

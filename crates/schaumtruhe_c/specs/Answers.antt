@@ -26,9 +26,9 @@ use Rattle.schaumtruhe_c.specs.declared.answers.Article.{Article}
 use Rattle.schaumtruhe_c.specs.declared.answers.Segment.{Segment}
 
 -- "messages found, accepted, and segments outside"
-unfoldable pub totalsOf : Surveyed → Totals
-totalsOf (surveyed.Counted m a o) = record { number = 0; messages = m; accepted = a; outside = o }
-totalsOf (surveyed.Refused n) = record { number = n; messages = 0; accepted = 0; outside = 0 }
+unfoldable pub totals_of : Surveyed → Totals
+totals_of (surveyed.Counted m a o) = record { number = 0; messages = m; accepted = a; outside = o }
+totals_of (surveyed.Refused n) = record { number = n; messages = 0; accepted = 0; outside = 0 }
 
 -- item 8: "`V 0 0` when all is well"
 unfoldable pub enveloped : Enveloped → Envelope
@@ -41,9 +41,9 @@ next_of (found.Message s e) = record { found = 1; start = s; end = e }
 next_of found.Nothing = record { found = 0; start = 0; end = 0 }
 
 -- "an accepted one has verdict 0, its count of segments, the byte after it, 0"
-unfoldable pub judgedOf : Verdict → Judged
-judgedOf (verdict.Accepted n e) = record { number = 0; segment = n; place = e; node = 0 }
-judgedOf (verdict.Refused k i p n) = record { number = k; segment = i; place = p; node = n }
+unfoldable pub judged_of : Verdict → Judged
+judged_of (verdict.Accepted n e) = record { number = 0; segment = n; place = e; node = 0 }
+judged_of (verdict.Refused k i p n) = record { number = k; segment = i; place = p; node = n }
 
 -- "how many were written and how many the message has"
 unfoldable pub prices_of : Priced → Prices
@@ -51,33 +51,33 @@ prices_of (priced.Written w t) = record { number = 0; written = w; total = t }
 prices_of (priced.Refused n) = record { number = n; written = 0; total = 0 }
 
 -- "The article of a price, as that part of the delivery itself": its place and length there
-unfoldable pub articleOf : ℕ → Span → Article
-articleOf n s = record { number = n; place = s.start; length = s.end - s.start }
+unfoldable pub article_of : ℕ → Span → Article
+article_of n s = record { number = n; place = s.start; length = s.end - s.start }
 
-abbrev pub articleAnswer : Syntax → List ℕ → ℕ → ℕ → Article
-articleAnswer y d at k = articleOf (article_refusal y d at k) (article_at y d at k)
+abbrev pub article_answer : Syntax → List ℕ → ℕ → ℕ → Article
+article_answer y d at k = article_of (article_refusal y d at k) (article_at y d at k)
 
 -- "the next segment's start, end and whether it is a piece, or none"
-unfoldable pub segmentOf : Cut → Segment
-segmentOf (cut.Segment s e p) = record { found = 1; start = s; end = e; piece = cond p 1 0 }
-segmentOf cut.Nothing = record { found = 0; start = 0; end = 0; piece = 0 }
+unfoldable pub segment_of : Cut → Segment
+segment_of (cut.Segment s e p) = record { found = 1; start = s; end = e; piece = cond p 1 0 }
+segment_of cut.Nothing = record { found = 0; start = 0; end = 0; piece = 0 }
 
 -- the part of the delivery of n bytes from the place a on, "releases removed"; it has no byte in a delivery that is not admitted
-unfoldable pub plainAt : Syntax → List ℕ → ℕ → ℕ → List ℕ
-plainAt z d a n = cond (eqb (admission_of z d) 0) (decoded z a (a + n) d) []
+unfoldable pub plain_at : Syntax → List ℕ → ℕ → ℕ → List ℕ
+plain_at z d a n = cond (eqb (admission_of z d) 0) (decoded z a (a + n) d) []
 
 -- the numbers of an answer in the order of its fields
-unfoldable pub totalsNumbers : Totals → List ℕ
-totalsNumbers t = t.number ∷ t.messages ∷ t.accepted ∷ t.outside ∷ []
+unfoldable pub totals_numbers : Totals → List ℕ
+totals_numbers t = t.number ∷ t.messages ∷ t.accepted ∷ t.outside ∷ []
 
-unfoldable pub envelopedNumbers : Envelope → List ℕ
-envelopedNumbers e = e.number ∷ e.place ∷ []
+unfoldable pub enveloped_numbers : Envelope → List ℕ
+enveloped_numbers e = e.number ∷ e.place ∷ []
 
-unfoldable pub judgedNumbers : Judged → List ℕ
-judgedNumbers j = j.number ∷ j.segment ∷ j.place ∷ j.node ∷ []
+unfoldable pub judged_numbers : Judged → List ℕ
+judged_numbers j = j.number ∷ j.segment ∷ j.place ∷ j.node ∷ []
 
-unfoldable pub pricesNumbers : Prices → List ℕ
-pricesNumbers p = p.number ∷ p.written ∷ p.total ∷ []
+unfoldable pub prices_numbers : Prices → List ℕ
+prices_numbers p = p.number ∷ p.written ∷ p.total ∷ []
 
-unfoldable pub articleNumbers : Article → List ℕ
-articleNumbers a = a.number ∷ a.place ∷ a.length ∷ []
+unfoldable pub article_numbers : Article → List ℕ
+article_numbers a = a.number ∷ a.place ∷ a.length ∷ []

@@ -1,6 +1,6 @@
 // Each answer as numbers: first 0 or document 01's refusal number; what a refusal does not give is 0.
 ghost use Rattle.std.specs.Prelude.{cond, ◌≡◌};
-ghost use Rattle.schaumtruhe_c.specs.Answers.{totalsOf, enveloped, next_of, judgedOf, prices_of, segmentOf};
+ghost use Rattle.schaumtruhe_c.specs.Answers.{totals_of, enveloped, next_of, judged_of, prices_of, segment_of};
 
 use cut::Cut;
 use envelope::Enveloped;
@@ -74,7 +74,7 @@ pub struct Segment {
 }
 
 pub(crate) fn totals_of(s: Surveyed) -> Totals
-    ensures { result ≡ totalsOf s }
+    ensures { result ≡ totals_of s }
 {
     match s {
         Surveyed::Counted {
@@ -126,7 +126,7 @@ pub(crate) fn next_of(f: Found) -> Next
 }
 
 pub(crate) fn judged_of(v: Verdict) -> Judged
-    ensures { result ≡ judgedOf v }
+    ensures { result ≡ judged_of v }
 {
     match v {
         Verdict::Accepted { segments, end } => Judged {
@@ -173,7 +173,7 @@ fn flag(b: bool) -> u32
 }
 
 pub(crate) fn segment_of(c: Cut) -> Segment
-    ensures { result ≡ segmentOf c }
+    ensures { result ≡ segment_of c }
 {
     match c {
         Cut::Segment { start, end, piece } => Segment {

@@ -8,7 +8,7 @@ ghost use Rattle.held.specs.Reading.{next_from};
 ghost use Rattle.verdict.specs.Answers.{declared};
 ghost use Rattle.schaumtruhe.specs.Readings.{usual_reading, strict_reading, used_in};
 ghost use Rattle.schaumtruhe.specs.Calls.{survey_of, verdict_at, priced_at, row_at};
-ghost use Rattle.schaumtruhe_c.specs.Answers.{totalsOf, enveloped, next_of, judgedOf, prices_of, articleAnswer, segmentOf, plainAt};
+ghost use Rattle.schaumtruhe_c.specs.Answers.{totals_of, enveloped, next_of, judged_of, prices_of, article_answer, segment_of, plain_at};
 
 use crate::answers;
 use crate::answers::{Article, Envelope, Judged, Next, Prices, Segment, Totals};
@@ -39,7 +39,7 @@ pub extern "C" fn schaumtruhe_strict() -> Reading
 // The whole delivery; or 1 or 2.
 #[unsafe(no_mangle)]
 pub extern "C" fn schaumtruhe_survey(how: Reading, d: &[u8]) -> Totals
-    ensures { result ≡ totalsOf (survey_of (used_in how d.now) d.now) }
+    ensures { result ≡ totals_of (survey_of (used_in how d.now) d.now) }
 {
     answers::totals_of(survey(how, d))
 }
@@ -63,7 +63,7 @@ pub extern "C" fn schaumtruhe_next_message(y: Syntax, d: &[u8], from: usize) -> 
 // The verdict of the message that begins at a place; or 1, 2 or 31.
 #[unsafe(no_mangle)]
 pub extern "C" fn schaumtruhe_judge_at(how: Reading, d: &[u8], at: usize) -> Judged
-    ensures { result ≡ judgedOf (declared (verdict_at (used_in how d.now) d.now at)) }
+    ensures { result ≡ judged_of (declared (verdict_at (used_in how d.now) d.now at)) }
 {
     answers::judged_of(judge_at(how, d, at))
 }
@@ -86,7 +86,7 @@ pub extern "C" fn schaumtruhe_prices(
 // Where the article of price k stands; or 1, 2, 31, 30 or 32.
 #[unsafe(no_mangle)]
 pub extern "C" fn schaumtruhe_article(how: Reading, d: &[u8], at: usize, k: usize) -> Article
-    ensures { result ≡ articleAnswer (used_in how d.now) d.now at k }
+    ensures { result ≡ article_answer (used_in how d.now) d.now at k }
 {
     let number = article_refusal(how, d, at, k);
     let s = article_at(how, d, at, k);
@@ -101,7 +101,7 @@ pub extern "C" fn schaumtruhe_article(how: Reading, d: &[u8], at: usize, k: usiz
 // One step of the segment reader from a place: the next segment, or none; none in a delivery that is not admitted.
 #[unsafe(no_mangle)]
 pub extern "C" fn schaumtruhe_segment_at(y: Syntax, d: &[u8], at: usize) -> Segment
-    ensures { result ≡ segmentOf (next_from y d.now at) }
+    ensures { result ≡ segment_of (next_from y d.now at) }
 {
     answers::segment_of(step_from(y, d, at))
 }
@@ -116,8 +116,8 @@ pub extern "C" fn schaumtruhe_plain(
     count: usize,
     out: &mut [u8],
 ) -> usize
-    ensures value { result ≡ length (plainAt (characters_of y d.now) d.now place count) }
-    ensures out_after { out.new ≡ copied (plainAt (characters_of y d.now) d.now place count) out.old }
+    ensures value { result ≡ length (plain_at (characters_of y d.now) d.now place count) }
+    ensures out_after { out.new ≡ copied (plain_at (characters_of y d.now) d.now place count) out.old }
 {
     let z = characters(y, d);
     if admission(z, d) != 0 {

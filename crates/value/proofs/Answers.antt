@@ -92,44 +92,44 @@ module _ (y : Syntax) (s : List ℕ) (f : Format) (k : ℕ) where
   fits-n n p q = rw p (count-exactly y s k n (q ∙ digits_number y s))
 
 -- prices: the numeral's amount and decimals
-abbrev pub amountIn : Numeral → Number
-amountIn (Short m v n k) = Amount (signed m v) k
-amountIn (Long n) = Nothing
-amountIn Other = Nothing
+abbrev pub amount_in : Numeral → Number
+amount_in (Short m v n k) = Amount (signed m v) k
+amount_in (Long n) = Nothing
+amount_in Other = Nothing
 
 amount-by : (m : Bool) (v n k : ℕ) (long b : Bool) → ltb 15 n ≡ long
-    → amountIn (cond b (cond long (Long n) (Short m v n k)) Other) ≡ cond (b && leb n 15) (Amount (signed m v) k) Nothing
+    → amount_in (cond b (cond long (Long n) (Short m v n k)) Other) ≡ cond (b && leb n 15) (Amount (signed m v) k) Nothing
 amount-by m v n k true true e = rw (lt-leb n 15 (ltb-true 15 n e))
 amount-by m v n k false true e = rw (le-leb n 15 (ltb-false 15 n e))
 amount-by m v n k long false e = refl
 
-amount-number : (y : Syntax) (s : List ℕ) → amountIn (numeral_of y s) ≡ number_of y s
+amount-number : (y : Syntax) (s : List ℕ) → amount_in (numeral_of y s) ≡ number_of y s
 unfolding number_of
 amount-number y s =
-    ap amountIn (numeral-is y s)
+    ap amount_in (numeral-is y s)
     ∙ amount-by (minus s) (decimal (digits s)) (length (digits s)) (length (fraction s)) (ltb 15 (length (digits s))) (is_number y s) refl
 
 module _ (y : Syntax) (s : List ℕ) where
   pub number_short
       : (m : Bool) (v n k : ℕ) (z : ℤ) → numeral_of y s ≡ Short m v n k → z ≡ signed m v → Amount z k ≡ number_of y s
-  number_short m v n k z e h = ap (λ (i : ℤ). Amount i k) h ∙ ap amountIn (sym e) ∙ amount-number y s
+  number_short m v n k z e h = ap (λ (i : ℤ). Amount i k) h ∙ ap amount_in (sym e) ∙ amount-number y s
 
   pub number_long : (n : ℕ) → numeral_of y s ≡ Long n → Nothing ≡ number_of y s
-  number_long n e = ap amountIn (sym e) ∙ amount-number y s
+  number_long n e = ap amount_in (sym e) ∙ amount-number y s
 
   pub number-other : numeral_of y s ≡ Other → Nothing ≡ number_of y s
-  number-other e = ap amountIn (sym e) ∙ amount-number y s
+  number-other e = ap amount_in (sym e) ∙ amount-number y s
 
 -- a numeral with its value has at most fifteen digits, so both numbers are small
-abbrev valueIn : Numeral → ℕ
-valueIn (Short m v n k) = v
-valueIn (Long n) = 0
-valueIn Other = 0
+abbrev value_in : Numeral → ℕ
+value_in (Short m v n k) = v
+value_in (Long n) = 0
+value_in Other = 0
 
-abbrev decimalsIn : Numeral → ℕ
-decimalsIn (Short m v n k) = k
-decimalsIn (Long n) = 0
-decimalsIn Other = 0
+abbrev decimals_in : Numeral → ℕ
+decimals_in (Short m v n k) = k
+decimals_in (Long n) = 0
+decimals_in Other = 0
 
 both_below : (s t : List ℕ) → decimal (digits_ahead s ++ digits_ahead t) < 10 ^ length (digits_ahead s ++ digits_ahead t)
 both_below s t =
@@ -145,8 +145,8 @@ both_below s t =
     (omega arith)
 
 small : (m : Bool) (v n k : ℕ) (long b : Bool) → v < 10 ^ n → k ≤ n → ltb 15 n ≡ long
-    → (valueIn (cond b (cond long (Long n) (Short m v n k)) Other) < 10 ^ 15)
-    × (decimalsIn (cond b (cond long (Long n) (Short m v n k)) Other) ≤ 15)
+    → (value_in (cond b (cond long (Long n) (Short m v n k)) Other) < 10 ^ 15)
+    × (decimals_in (cond b (cond long (Long n) (Short m v n k)) Other) ≤ 15)
 small m v n k true true h l e = omega arith
 small m v n k false true h l e =
     let f : n ≤ 15 = ltb-false 15 n e in
@@ -166,6 +166,6 @@ short-bounds y s e =
     let q = sym (numeral-is y s) ∙ e in
     let b = small (minus s) (decimal (digits s)) (length (digits s)) (length (fraction s)) (ltb 15 (length (digits s))) (is_number y s) (digits-below s)
     (fraction-within s) refl in
-    let v = ap valueIn q in
-    let k = ap decimalsIn q in
+    let v = ap value_in q in
+    let k = ap decimals_in q in
     omega arith

@@ -10,8 +10,8 @@ declared (accepts n e) = Accepted n e
 declared (refuses k i p n) = Refused k i p n
 
 -- a verdict with the end of its message
-abbrev pub judgedAs : Verdict → ℕ → JudgedAt
-judgedAs v e = record { verdict = v; end = e }
+abbrev pub judged_as : Verdict → ℕ → JudgedAt
+judged_as v e = record { verdict = v; end = e }
 
 -- "verdict segment place node; an accepted one has verdict 0, its count of segments, the byte after it, 0"
 unfoldable pub numbers_of : Verdict → List ℕ

@@ -7,7 +7,7 @@ ghost use Rattle.messages.specs.Messages.{body};
 ghost use Rattle.guide.specs.Nodes.{number_of};
 ghost use Rattle.guide.specs.Answers.{refuses};
 ghost use Rattle.guide.specs.Editions.{guide_of};
-ghost use Rattle.verdict.specs.Answers.{declared, judgedAs};
+ghost use Rattle.verdict.specs.Answers.{declared, judged_as};
 ghost use Rattle.verdict.specs.Named.{held_at};
 ghost use Rattle.verdict.specs.Verdicts.{verdict_named};
 ghost use Rattle.verdict.specs.workers.Ends.{closed_by, told_by, told_again, Closable, judged_at, until_at};
@@ -32,7 +32,7 @@ pub enum Walked {
 }
 
 fn with_end(verdict: Verdict, end: usize) -> Judged
-    ensures { result ≡ judgedAs verdict end }
+    ensures { result ≡ judged_as verdict end }
 {
     Judged { verdict, end }
 }
@@ -62,7 +62,7 @@ fn close_of(y: Syntax, d: &[u8], end: usize, last: bool) -> usize
 
 // The walk ends at a segment that has no fault, and names its node.
 fn stopped(edition: Edition, segment: usize, place: usize, row: usize, end: usize) -> Walked
-    ensures { result ≡ Refused (judgedAs (declared (refuses 23 segment place (number_of (guide_of edition) row))) end) }
+    ensures { result ≡ Refused (judged_as (declared (refuses 23 segment place (number_of (guide_of edition) row))) end) }
 {
     Walked::Refused(with_end(refused(edition, 23, segment, place, row), end))
 }
@@ -149,7 +149,7 @@ fn judged_by(y: Syntax, edition: Edition, d: &[u8], start: usize) -> Judged
 
 // The verdict and the end of the message that the first segment from `start` on begins, by the guide named in UNH.
 pub fn judged(y: Syntax, d: &[u8], start: usize) -> Judged
-    ensures { result ≡ judgedAs (declared (verdict_named y start (held_at y d.now start))) (last_end start (held_at y d.now start)) }
+    ensures { result ≡ judged_as (declared (verdict_named y start (held_at y d.now start))) (last_end start (held_at y d.now start)) }
 {
     judged_by(y, edition_at(y, d, start), d, start)
 }

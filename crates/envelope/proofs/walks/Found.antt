@@ -56,7 +56,7 @@ module _ (y : Syntax) (d : List ℕ) (start end : ℕ) (o : Opened y d start end
 
   strays-rest : strays y d f (last_in d w) ≡ others (f ∷ last_of f rest ∷ []) (left_over false rest)
   unfolding others begins_in
-  strays-rest = rw (outside-first, k.last, eq-eqb start start refl)
+  strays-rest = ap (λ (l : Segment). others (f ∷ l ∷ []) (outside y d)) k.last ∙ rw (outside-first, eq-eqb start start refl)
 
   pub stray-found : w.stray ≡ first_start (length d) (strays y d f (last_in d w))
   stray-found =

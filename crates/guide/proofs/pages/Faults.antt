@@ -15,7 +15,7 @@ use Rattle.guide.specs.Page.{Status, must, may, Row, used, unused, Page, element
 use Rattle.guide.specs.Content.{text, Asked, by_status, by_content, Sound}
 use Rattle.guide.specs.FirstFault.{Fault, not-used, missing, wrong-format, wrong-code}
 use Rattle.guide.specs.Nodes.{chosen}
-use Rattle.guide.specs.workers.PageFault.{not_used, missing as isMissing, wrong_format, wrong_code, text_fault, any_filled}
+use Rattle.guide.specs.workers.PageFault.{not_used, missing as is_missing, wrong_format, wrong_code, text_fault, any_filled}
 use Rattle.guide.specs.Choices.{pickℕ}
 use Rattle.guide.proofs.pages.Listing.{begun, or_cases, or_right, off_coded, off_other, off_list, filled-found, found-filled}
 
@@ -27,14 +27,14 @@ unused-filled y asked (x ∷ xs) h = refl
 
 -- of none on one that asks for it
 must-empty : (y : Syntax) (f : Format) (cs : List (List ℕ)) → text_fault y true (used must f cs) [] ≡ 17
-unfolding text_fault not_used isMissing none
+unfolding text_fault not_used is_missing none
 must-empty y f cs = refl
 
 -- and of a text on a row in use: that of its format, or that of its code, or none
 pub used-filled
     : (y : Syntax) (asked : Bool) (k : Status) (f : Format) (cs : List (List ℕ)) (t : List ℕ) → (t ≡ [] → ⊥)
     → text_fault y asked (used k f cs) t ≡ pickℕ (not (fits_format y f t)) 19 (pickℕ (not (chosen cs t)) 20 0)
-unfolding text_fault not_used isMissing wrong_format wrong_code some none
+unfolding text_fault not_used is_missing wrong_format wrong_code some none
 used-filled y asked k f cs [] h = absurd (h refl)
 used-filled y asked must f cs (x ∷ xs) h = refl
 used-filled y asked may f cs (x ∷ xs) h = refl
@@ -65,7 +65,7 @@ module _ (y : Syntax) (page : Page) (s : List ℕ) (e : ℕ) where
 
     -- a fault that is found is one
     pub found-fault : (n : ℕ) → found ≡ suc n → Fault y page s (suc n) e c
-    unfolding text_fault not_used isMissing wrong_format wrong_code some none
+    unfolding text_fault not_used is_missing wrong_format wrong_code some none
     found-fault n = go (row_of page e c) refl (text y s e c) refl asks refl
       where
         inside

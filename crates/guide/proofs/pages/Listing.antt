@@ -77,7 +77,7 @@ unfolding some
 filled-some [] h = absurd (h refl)
 filled-some (x ∷ xs) h = refl
 
--- `anyFilled` finds a component that is not empty, and overlooks none
+-- `any_filled` finds a component that is not empty, and overlooks none
 module _ (y : Syntax) where
   pub filled-found : (bs : List (List ℕ)) → any_filled y bs ≡ true → (c : ℕ) × (plain y false (get_or bs c []) ≡ [] → ⊥)
   unfolding any_filled

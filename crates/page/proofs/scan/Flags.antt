@@ -25,7 +25,7 @@ mark-flag d a n m s j f h at e =
     }
 
 -- nothing is tested behind the place a
-pub Scan-begins
+pub scan_begins
     : (t : ℕ → Bool) (d : List ℕ) (bound a : ℕ) → a ≤ bound → (s : Scan) → s ≡ record { at = a; next = a; left = 0 }
     → Tested t d bound s.at s.next s.left
-Scan-begins t d bound a h s e = rw e (scan_none t d bound a h)
+scan_begins t d bound a h s e = rw e (scan_none t d bound a h)

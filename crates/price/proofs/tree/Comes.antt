@@ -8,7 +8,7 @@ use Rattle.bytewise.specs.Bytes.{bytes_of}
 use Rattle.cut.specs.Segments.{Segment}
 use Rattle.guide.specs.Nodes.{Guide}
 use Rattle.guide.specs.Tree.{Kids, none, then, Given, giving, assigned}
-use Rattle.guide.specs.Sheet.{Price, Position, only_if, is_tag, children_with, prices_of as pricesUnder, position, positions_in}
+use Rattle.guide.specs.Sheet.{Price, Position, only_if, is_tag, children_with, prices_of as prices_under, position, positions_in}
 use Rattle.guide.specs.Accepted.{Each}
 use Rattle.guide.proofs.Basics.{T_true}
 use Rattle.price.specs.Numbers.{Listed}
@@ -53,11 +53,11 @@ module _ (g : Guide) (P : ℕ → Segment → Type 0) where
     lin : Given_as (bytes_of "LIN") p.lin
     prices : Each ComesPrice p.prices
 
-  prices_come : (f : Kids Segment) → Each Has (assigned f) → Each ComesPrice (pricesUnder g f)
-  unfolding Each pricesUnder
+  prices_come : (f : Kids Segment) → Each Has (assigned f) → Each ComesPrice (prices_under g f)
+  unfolding Each prices_under
   prices_come none e = tt
   prices_come (then b n s k) e =
-      each_more ComesPrice (pricesUnder g b) _ (prices_come b (each_front Has (assigned b) (giving n s ∷ assigned k) e)) (here (pri_node g n) refl)
+      each_more ComesPrice (prices_under g b) _ (prices_come b (each_front Has (assigned b) (giving n s ∷ assigned k) e)) (here (pri_node g n) refl)
     where
       here : (t : Bool) → pri_node g n ≡ t → Each ComesPrice (only_if t (record { pri = s; rng = children_with g (bytes_of "RNG") k }))
       here true h = (record { node = n; tagged = T_true h; holds = (each_back Has (assigned b) (giving n s ∷ assigned k) e).0 }, tt)

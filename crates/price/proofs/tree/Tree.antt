@@ -14,7 +14,7 @@ use Rattle.cut.specs.Segments.{Segment}
 use Rattle.plain.specs.Plain.{same}
 use Rattle.guide.specs.Nodes.{Guide, node, takes}
 use Rattle.guide.specs.Tree.{Kids, none, then, one, segs, Limits, Next, Closed, Whole}
-use Rattle.guide.specs.Sheet.{Price, Position, only_if, children_with, prices_of as pricesUnder, position, positions_in}
+use Rattle.guide.specs.Sheet.{Price, Position, only_if, children_with, prices_of as prices_under, position, positions_in}
 use Rattle.guide.specs.Accepted.{seen}
 use Rattle.guide.proofs.Basics.{T_true, true-T, or_cases, map-append}
 use Rattle.guide.proofs.tables.Tables.{takes-limit}
@@ -33,6 +33,8 @@ data Quiet : Kind → Type 0 where
   quiet_other : Quiet Other
 
 skip : (n : ℕ) (lin s : Segment) (ss : List Segment) (k : Kind) → kind_of s.bytes ≡ k → Quiet k → prices_from n lin (s ∷ ss) ≡ prices_from n lin ss
+skip n lin s ss Lin e q = elim q [ ]
+skip n lin s ss Pri e q = elim q [ ]
 skip n lin s ss Rng e quiet_rng = prices-next n lin s ss Rng e
 skip n lin s ss Other e quiet_other = prices-next n lin s ss Other e
 
@@ -133,8 +135,8 @@ module _ (y : Syntax) (g : Guide) (t : Priced g) where
 
   below-lin
       : (x : ℕ) (f : Kids Segment) → Kid x f → T (lin_node g x) → T (in_lin g x) → (n : ℕ) (lin : Segment) (ts : List Segment) → rng_next ts ≡ []
-      → prices_from n lin (segs f ++ ts) ≡ map (listed n lin) (pricesUnder g f) ++ prices_from n lin ts
-  unfolding Closed pricesUnder same
+      → prices_from n lin (segs f ++ ts) ≡ map (listed n lin) (prices_under g f) ++ prices_from n lin ts
+  unfolding Closed prices_under same
   below-lin x none c l i n lin ts e = refl
   below-lin x (then b m s k) c l i n lin ts e =
       ap (prices_from n lin) (tree-last b m s k ts) ∙ go (kind_of s.bytes) refl (kind_node y g m s c.1.takes) (below-lin x b c.0 l i n lin)
@@ -153,26 +155,26 @@ module _ (y : Syntax) (g : Guide) (t : Priced g) where
 
       go
           : (w : Kind) → kind_of s.bytes ≡ w → Is g m w
-          → ((us : List Segment) → rng_next us ≡ [] → prices_from n lin (segs b ++ us) ≡ map (listed n lin) (pricesUnder g b) ++ prices_from n lin us)
+          → ((us : List Segment) → rng_next us ≡ [] → prices_from n lin (segs b ++ us) ≡ map (listed n lin) (prices_under g b) ++ prices_from n lin us)
           → prices_from n lin (segs b ++ rest)
-          ≡ map (listed n lin) (pricesUnder g b ++ only_if (pri_node g m) (record { pri = s; rng = children_with g (bytes_of "RNG") k })) ++ prices_from n lin ts
+          ≡ map (listed n lin) (prices_under g b ++ only_if (pri_node g m) (record { pri = s; rng = children_with g (bytes_of "RNG") k })) ++ prices_from n lin ts
       go Lin a (is-lin d p r) ih = absurd (t.lin_out m lm (T_true d) (rw up i))
       go Rng a (is-rng d p r) ih =
           absurd (true≢false (sym (true-T _ (t.rng_under m lm (T_true r))) ∙ tag-apart g (node g m).parent (bytes_of "LIN") (bytes_of "PRI") refl
           (rw up (true-T _ l))))
       go Other a (is-other d p r) ih =
           ih rest (no_rng s (segs k ++ ts) Other a refl)
-          ∙ ap (λ (qs : List Listed). map (listed n lin) (pricesUnder g b) ++ qs)
+          ∙ ap (λ (qs : List Listed). map (listed n lin) (prices_under g b) ++ qs)
           (skip n lin s (segs k ++ ts) Other a quiet_other ∙ deep m k c.2 (under d) n lin ts)
-          ∙ rw (p, append-nil (pricesUnder g b))
+          ∙ rw (p, append-nil (prices_under g b))
       go Pri a (is-pri d p r) ih =
           ih rest (no_rng s (segs k ++ ts) Pri a refl)
-          ∙ ap (λ (qs : List Listed). map (listed n lin) (pricesUnder g b) ++ qs)
+          ∙ ap (λ (qs : List Listed). map (listed n lin) (prices_under g b) ++ qs)
           (prices-next n lin s (segs k ++ ts) Pri a
           ∙ ap₂ ◌∷◌ (ap (λ (rs : List Segment). listed n lin (record { pri = s; rng = rs })) (rng_children m k c.2 c.3 ts e))
           (deep m k c.2 (under d) n lin ts))
-          ∙ rw (p, map-append (listed n lin) (pricesUnder g b) (record { pri = s; rng = children_with g (bytes_of "RNG") k } ∷ []))
-          (sym (append_assoc (map (listed n lin) (pricesUnder g b)) (listed n lin (record { pri = s; rng = children_with g (bytes_of "RNG") k }) ∷ [])
+          ∙ rw (p, map-append (listed n lin) (prices_under g b) (record { pri = s; rng = children_with g (bytes_of "RNG") k } ∷ []))
+          (sym (append_assoc (map (listed n lin) (prices_under g b)) (listed n lin (record { pri = s; rng = children_with g (bytes_of "RNG") k }) ∷ [])
           (prices_from n lin ts)))
 
 -- the LIN of the last of some positions

@@ -3,7 +3,7 @@ use Rattle.std.specs.Prelude.{ℕ, ◌+◌}
 use Rattle.verdict.specs.declared.answers.Verdict.{Verdict}
 use Rattle.verdict.specs.declared.answers.Verdict.TheVariants.{Accepted, Refused}
 use Rattle.price.specs.Cursors.{first_cursor}
-use Rattle.schaumtruhe.specs.workers.Answers.{oneIf}
+use Rattle.schaumtruhe.specs.workers.Answers.{one_if}
 use Rattle.print.specs.declared.state.Counts.{Counts}
 use Rattle.print.specs.declared.state.Stage.{Stage}
 use Rattle.print.specs.declared.state.Stage.TheVariants as stage
@@ -15,4 +15,4 @@ stage_after (Refused k i p n) start = stage.Between
 
 -- the counts behind a message with this verdict
 abbrev pub counted_after : Counts → Verdict → ℕ → Counts
-counted_after c v e = record { at = e; messages = c.messages + 1; accepted = c.accepted + oneIf v; outside = c.outside }
+counted_after c v e = record { at = e; messages = c.messages + 1; accepted = c.accepted + one_if v; outside = c.outside }

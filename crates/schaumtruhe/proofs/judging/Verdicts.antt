@@ -17,7 +17,7 @@ use Rattle.messages.specs.Messages.{Message, start_of, close_of, messages}
 use Rattle.messages.specs.Calls.{is_found, message_at}
 use Rattle.guide.specs.Accepted.{segments_of}
 use Rattle.guide.specs.Answers.{accepts, refuses, Verdict as Judged}
-use Rattle.verdict.specs.Answers.{declared, judgedAs}
+use Rattle.verdict.specs.Answers.{declared, judged_as}
 use Rattle.verdict.specs.declared.answers.Judged.{Judged as JudgedAt}
 use Rattle.verdict.specs.Verdicts.{verdict_named, named_of, verdict_of}
 use Rattle.verdict.specs.declared.answers.Verdict.{Verdict}
@@ -37,7 +37,7 @@ use Rattle.schaumtruhe.specs.Calls.{
   sheet_unless,
   sheet_at,
 }
-use Rattle.schaumtruhe.specs.workers.Answers.{standingOf, standingBy}
+use Rattle.schaumtruhe.specs.workers.Answers.{standing_of, standing_by}
 use Rattle.schaumtruhe.specs.declared.sheets.Standing.{Standing}
 use Rattle.schaumtruhe.specs.declared.sheets.Standing.TheVariants.{Accepted, Refused}
 use Rattle.schaumtruhe.proofs.places.Found.{Here, here, nowhere-here, Begins, not-begun, is-begun}
@@ -50,13 +50,13 @@ sheet_more : (a : ℕ) (s : Sheet) → (a ≡ 0 → ⊥) → missing a ≡ sheet
 sheet_more zero s h = absurd (h refl)
 sheet_more (suc a) s h = refl
 
-pub by-accepted : (v : Verdict) (n c s e : ℕ) → v ≡ verdict.Accepted n c → Accepted s e ≡ standingBy v s e
+pub by-accepted : (v : Verdict) (n c s e : ℕ) → v ≡ verdict.Accepted n c → Accepted s e ≡ standing_by v s e
 by-accepted v n c s e h = rw h
 
-pub by_refused : (v : Verdict) (k i p n s e : ℕ) → v ≡ verdict.Refused k i p n → Refused 30 ≡ standingBy v s e
+pub by_refused : (v : Verdict) (k i p n s e : ℕ) → v ≡ verdict.Refused k i p n → Refused 30 ≡ standing_by v s e
 by_refused v k i p n s e h = rw h
 
-standing-same : (m : Message) (v : Judged) → standingBy (declared v) (start_of m) (close_of m) ≡ standingOf (sheet_by v m)
+standing-same : (m : Message) (v : Judged) → standing_by (declared v) (start_of m) (close_of m) ≡ standing_of (sheet_by v m)
 standing-same m (accepts n e) = refl
 standing-same m (refuses k i p n) = refl
 
@@ -67,9 +67,9 @@ module _ (y : Syntax) (d : List ℕ) (at : ℕ) (a : ℕ) (admits : a ≡ admiss
     unfolding verdict_at
     delivery_refused r h = rw (← admits) (h ∙ ap declared (refuses_more a _ refused))
 
-    pub delivery_missing : Refused a ≡ standingOf (sheet_at y d at)
+    pub delivery_missing : Refused a ≡ standing_of (sheet_at y d at)
     unfolding sheet_at
-    delivery_missing = rw (← admits) (ap standingOf (sheet_more a _ refused))
+    delivery_missing = rw (← admits) (ap standing_of (sheet_more a _ refused))
 
   module _ (admitted : a ≡ 0) (b : Bool) (begins : b ≡ is_found (message_at y d at)) where
     is-admitted : admission_of y d ≡ 0
@@ -81,13 +81,13 @@ module _ (y : Syntax) (d : List ℕ) (at : ℕ) (a : ℕ) (admits : a ≡ admiss
       unfolding verdict_at
       place_refused r h = rw (is-admitted, not-begun y d at b begins none) h
 
-      pub place-missing : Refused 31 ≡ standingOf (sheet_at y d at)
+      pub place-missing : Refused 31 ≡ standing_of (sheet_at y d at)
       unfolding sheet_at
       place-missing = rw (is-admitted, not-begun y d at b begins none)
 
     -- one does
     module _ (some : b ≡ true) (j : JudgedAt)
-        (judges : j ≡ judgedAs (declared (verdict_named y at (held (segments_at y d at)))) (last_end at (held (segments_at y d at)))) where
+        (judges : j ≡ judged_as (declared (verdict_named y at (held (segments_at y d at)))) (last_end at (held (segments_at y d at)))) where
       abbrev h : Begins y d at
       h = is-begun y d at b begins some
 
@@ -103,12 +103,12 @@ module _ (y : Syntax) (d : List ℕ) (at : ℕ) (a : ℕ) (admits : a ≡ admiss
       unfolding verdict_at
       message-judged = rw (is-admitted, h.only) is-judged
 
-      pub message-stands : (r : Standing) → r ≡ standingBy j.verdict at j.end → r ≡ standingOf (sheet_at y d at)
+      pub message-stands : (r : Standing) → r ≡ standing_by j.verdict at j.end → r ≡ standing_of (sheet_at y d at)
       unfolding sheet_at
       message-stands r k =
           let w = declared (judged y h.message) in
-          let z : standingBy j.verdict at j.end ≡ standingBy w (start_of h.message) (close_of h.message) =
-          ap (λ (x : Verdict). standingBy x at j.end) is-judged ∙ ap₂ (standingBy w) (sym h.starts) (sym closes) in
+          let z : standing_by j.verdict at j.end ≡ standing_by w (start_of h.message) (close_of h.message) =
+          ap (λ (x : Verdict). standing_by x at j.end) is-judged ∙ ap₂ (standing_by w) (sym h.starts) (sym closes) in
           rw (is-admitted, h.only) (k ∙ z ∙ standing-same h.message (judged y h.message))
 
 -- where a message stands at the place, it stands there by itself

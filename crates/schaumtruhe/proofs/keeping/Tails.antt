@@ -24,11 +24,11 @@ use Rattle.guide.specs.Composites.{S009, C002, C106, C507, C506, C082, C212, ser
 use Rattle.guide.specs.Content.{text}
 use Rattle.guide.specs.Answers.{Verdict, accepts, refuses}
 use Rattle.guide.specs.workers.Judging.{bytes_fault, end_fault, line_fault, rule_fault, content_fault, segment_answer, judge_from}
-use Rattle.guide.specs.Nodes.{among, chosen, matches, paired, required, number_of as nodeNumber}
+use Rattle.guide.specs.Nodes.{among, chosen, matches, paired, required, number_of as node_number}
 use Rattle.guide.specs.Page.{codes, simple, element_of, row_of}
 use Rattle.guide.specs.workers.PageFault.{first_of, not_used, missing, wrong_format, wrong_code, text_fault, component_fault, any_filled, element_fault, page_fault}
 use Rattle.guide.specs.Pages20d.{coded, UNH, BGM, DTM, RFF, NAD, PGI, LIN, PRI, UNT, pages20d, page_of}
-use Rattle.guide.specs.workers.Placing.{lowest, levels, fits_in, seek, lacking, place, indexed, recounted, counts_after, last_after, given, missing as missingIn}
+use Rattle.guide.specs.workers.Placing.{lowest, levels, fits_in, seek, lacking, place, indexed, recounted, counts_after, last_after, given, missing as missing_in}
 use Rattle.guide.specs.Pricat.{pricat20d}
 use Rattle.guide.specs.Sheet.{is_tag}
 use Rattle.guide.specs.Views.{view_of}
@@ -53,10 +53,10 @@ unfolding
     some none is_digit digits_ahead behind_digits minus unsigned whole fraction digits is_tail is_number decimal unless_mark plain same
     S009 C002 C106 C507 C506 C082 C212 services C509 basis text
     bytes_fault end_fault line_fault rule_fault content_fault segment_answer judge_from
-    among chosen matches paired required nodeNumber codes simple element_of row_of
+    among chosen matches paired required node_number codes simple element_of row_of
     first_of not_used missing wrong_format wrong_code text_fault component_fault any_filled element_fault page_fault
     coded UNH BGM DTM RFF NAD PGI LIN PRI UNT pages20d page_of
-    lowest levels fits_in seek lacking place indexed recounted counts_after last_after given missingIn pricat20d is_tag view_of
+    lowest levels fits_in seek lacking place indexed recounted counts_after last_after given missing_in pricat20d is_tag view_of
     next_if behind_if heading_from positions_from positions_of agrees_any first_after first_agreeing
     nodes_of unless_agreeing for_intervals settled verdict_from verdict_of edition_in edition_of named_of beginning_at verdict_at
 judged_at d at = verdict_at edifact d at

@@ -12,22 +12,22 @@ use Rattle.messages.specs.Messages.{Message}
 use Rattle.messages.proofs.Passing.{Begun, begun}
 use Rattle.guide.specs.Answers.{accepts, refuses, Verdict as Judged}
 use Rattle.guide.specs.workers.Judging.{judge_from}
-use Rattle.verdict.specs.Answers.{declared, judgedAs}
+use Rattle.verdict.specs.Answers.{declared, judged_as}
 use Rattle.verdict.specs.Verdicts.{verdict_named, named_of, verdict_from, verdict_of}
 use Rattle.verdict.specs.declared.answers.Judged.{Judged as JudgedAt}
 use Rattle.schaumtruhe.specs.Calls.{judged, only_accepted}
-use Rattle.schaumtruhe.specs.workers.Answers.{oneIf}
+use Rattle.schaumtruhe.specs.workers.Answers.{one_if}
 
-pub one_only : (m : Message) (v : Judged) → length (only_accepted v m) ≡ oneIf (declared v)
+pub one_only : (m : Message) (v : Judged) → length (only_accepted v m) ≡ one_if (declared v)
 one_only m (accepts n e) = refl
 one_only m (refuses k i p n) = refl
 
-pub one-few : (v : Judged) → oneIf (declared v) ≤ 1
+pub one-few : (v : Judged) → one_if (declared v) ≤ 1
 one-few (accepts n e) = omega arith
 one-few (refuses k i p n) = omega arith
 
 module _ (y : Syntax) (d : List ℕ) (at : ℕ) (h : head_outer (segments_at y d at) ≡ outer.Message) (j : JudgedAt)
-    (judges : j ≡ judgedAs (declared (verdict_named y at (held (segments_at y d at)))) (last_end at (held (segments_at y d at)))) where
+    (judges : j ≡ judged_as (declared (verdict_named y at (held (segments_at y d at)))) (last_end at (held (segments_at y d at)))) where
   abbrev b : Begun y d at
   b = begun y d at h
 

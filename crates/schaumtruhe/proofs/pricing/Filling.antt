@@ -13,7 +13,7 @@ use Rattle.price.specs.Listing.{prices_of}
 use Rattle.price.specs.Numbers.{Listed}
 use Rattle.price.specs.declared.filling.Filled.{Filled}
 use Rattle.schaumtruhe.specs.Calls.{Sheet, stands, missing, sheet_at, listed, written, priced_by, row_by, priced_at, row_at}
-use Rattle.schaumtruhe.specs.workers.Answers.{standingOf, refusalBy}
+use Rattle.schaumtruhe.specs.workers.Answers.{standing_of, refusal_by}
 use Rattle.schaumtruhe.specs.declared.pricing.Priced.{Priced}
 use Rattle.schaumtruhe.specs.declared.pricing.Priced.TheVariants as priced
 use Rattle.schaumtruhe.specs.declared.sheets.Standing.{Standing}
@@ -27,7 +27,7 @@ pub record Accepts (sheet : Sheet) (s e : ℕ) : Type 0 where
   pub starts : start_of message ≡ s
   pub closes : close_of message ≡ e
 
-pub accepts : (sheet : Sheet) (s e : ℕ) → standingOf sheet ≡ Accepted s e → Accepts sheet s e
+pub accepts : (sheet : Sheet) (s e : ℕ) → standing_of sheet ≡ Accepted s e → Accepts sheet s e
 accepts (stands m) s e h =
     let a : start_of m ≡ s = cc in
     let b : close_of m ≡ e = cc in
@@ -36,7 +36,7 @@ accepts (missing n) s e h =
     let z : ◌≡◌ {A = ℕ} 0 1 = cc in
     absurd (omega arith)
 
-pub refuses : (sheet : Sheet) (n : ℕ) → standingOf sheet ≡ Refused n → sheet ≡ missing n
+pub refuses : (sheet : Sheet) (n : ℕ) → standing_of sheet ≡ Refused n → sheet ≡ missing n
 refuses (stands m) n h =
     let z : ◌≡◌ {A = ℕ} 0 1 = cc in
     absurd (omega arith)
@@ -55,17 +55,17 @@ is_total f row y start qs h = rw h
 module _ (y : Syntax) (d : List ℕ) (k : ℕ) (sheet : Standing) where
   -- 32 or none
   module _ (s e : ℕ) (is : sheet ≡ Accepted s e) (t : ℕ) (counts : t ≡ length (prices_in y d s e)) where
-    pub has-price : k < t → 0 ≡ refusalBy y d sheet k
+    pub has-price : k < t → 0 ≡ refusal_by y d sheet k
     has-price h =
         let l : k < length (prices_in y d s e) = omega arith in
         rw (is, lt-ltb k (length (prices_in y d s e)) l)
 
-    pub no_price : t ≤ k → 32 ≡ refusalBy y d sheet k
+    pub no_price : t ≤ k → 32 ≡ refusal_by y d sheet k
     no_price h =
         let l : length (prices_in y d s e) ≤ k = omega arith in
         rw (is, le-ltb k (length (prices_in y d s e)) l)
 
-module _ (y : Syntax) (d : List ℕ) (at : ℕ) (sheet : Standing) (sought : sheet ≡ standingOf (sheet_at y d at)) where
+module _ (y : Syntax) (d : List ℕ) (at : ℕ) (sheet : Standing) (sought : sheet ≡ standing_of (sheet_at y d at)) where
   -- an accepted message stands there
   module _ (s e : ℕ) (is : sheet ≡ Accepted s e) where
     pub found : Accepts (sheet_at y d at) s e

@@ -19,11 +19,11 @@ use Rattle.messages.proofs.Passing.{Begun, begun, left, none_left}
 use Rattle.cut.proofs.Places.{admitted}
 use Rattle.cut.proofs.Ahead.{none-past}
 use Rattle.guide.specs.Answers.{accepts}
-use Rattle.verdict.specs.Answers.{declared, judgedAs}
+use Rattle.verdict.specs.Answers.{declared, judged_as}
 use Rattle.verdict.specs.Verdicts.{verdict_named}
 use Rattle.verdict.specs.declared.answers.Judged.{Judged as JudgedAt}
 use Rattle.schaumtruhe.specs.Calls.{judged, only_accepted, accepted, survey_unless, survey_of}
-use Rattle.schaumtruhe.specs.workers.Answers.{oneIf, Stepped}
+use Rattle.schaumtruhe.specs.workers.Answers.{one_if, Stepped}
 use Rattle.schaumtruhe.proofs.places.Begun.{one_only, one-few, same-verdict, same_end}
 use Rattle.schaumtruhe.specs.declared.surveys.Counts.{Counts}
 use Rattle.schaumtruhe.specs.declared.surveys.Surveyed.TheVariants.{Counted, Refused}
@@ -38,12 +38,12 @@ module _ (y : Syntax) (d : List ℕ) where
   module _ (at : ℕ) where
     -- the message that begins at the place
     module _ (h : head_outer (from at) ≡ outer.Message) (j : JudgedAt)
-        (judges : j ≡ judgedAs (declared (verdict_named y at (held (from at)))) (last_end at (held (from at)))) (o : ℕ) (one : o ≡ oneIf j.verdict) where
+        (judges : j ≡ judged_as (declared (verdict_named y at (held (from at)))) (last_end at (held (from at)))) (o : ℕ) (one : o ≡ one_if j.verdict) where
       abbrev b : Begun y d at
       b = begun y d at h
 
-      is_one : o ≡ oneIf (declared (judged y b.message))
-      is_one = one ∙ ap oneIf (same-verdict y d at h j judges)
+      is_one : o ≡ one_if (declared (judged y b.message))
+      is_one = one ∙ ap one_if (same-verdict y d at h j judges)
 
       more_accepts : o + among (messages_in (from j.end)) ≡ among (messages_in (from at))
       unfolding accepted

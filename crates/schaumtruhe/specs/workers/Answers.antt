@@ -14,21 +14,21 @@ use Rattle.schaumtruhe.specs.declared.sheets.Standing.TheVariants.{Accepted, Ref
 use Rattle.schaumtruhe.specs.Calls.{Sheet, stands, missing, accepted}
 
 -- an accepted message by its start and end
-abbrev pub standingOf : Sheet → Standing
-standingOf (stands m) = Accepted (start_of m) (close_of m)
-standingOf (missing n) = Refused n
+abbrev pub standing_of : Sheet → Standing
+standing_of (stands m) = Accepted (start_of m) (close_of m)
+standing_of (missing n) = Refused n
 
-abbrev pub standingBy : Verdict → ℕ → ℕ → Standing
-standingBy (verdict.Accepted n e) s c = Accepted s c
-standingBy (verdict.Refused k i p n) s c = Refused 30
+abbrev pub standing_by : Verdict → ℕ → ℕ → Standing
+standing_by (verdict.Accepted n e) s c = Accepted s c
+standing_by (verdict.Refused k i p n) s c = Refused 30
 
-abbrev pub oneIf : Verdict → ℕ
-oneIf (verdict.Accepted n e) = 1
-oneIf (verdict.Refused k i p n) = 0
+abbrev pub one_if : Verdict → ℕ
+one_if (verdict.Accepted n e) = 1
+one_if (verdict.Refused k i p n) = 0
 
-abbrev pub refusalBy : Syntax → List ℕ → Standing → ℕ → ℕ
-refusalBy y d (Accepted s e) k = pickℕ (ltb k (length (prices_in y d s e))) 0 32
-refusalBy y d (Refused n) k = n
+abbrev pub refusal_by : Syntax → List ℕ → Standing → ℕ → ℕ
+refusal_by y d (Accepted s e) k = pickℕ (ltb k (length (prices_in y d s e))) 0 32
+refusal_by y d (Refused n) k = n
 
 -- what a step from the place `at` adds to the counts, and where it ends
 pub record Stepped (y : Syntax) (d : List ℕ) (at : ℕ) (r : Counts) : Type 0 where

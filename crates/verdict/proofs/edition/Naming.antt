@@ -23,7 +23,7 @@ use Rattle.guide.specs.Editions.{guide_of, pages_of}
 use Rattle.guide.specs.declared.edition.Edition.{Edition}
 use Rattle.guide.specs.declared.edition.Edition.TheVariants.{D, C}
 use Rattle.verdict.specs.declared.answers.Judged.{Judged}
-use Rattle.verdict.specs.Answers.{declared, judgedAs}
+use Rattle.verdict.specs.Answers.{declared, judged_as}
 use Rattle.verdict.specs.Named.{edition_in, edition_of}
 use Rattle.verdict.specs.Verdicts.{verdict_named, verdict_from}
 
@@ -73,6 +73,6 @@ module _ (y : Syntax) (d : List ℕ) (at s : ℕ) (o : s ≡ past_at y d at) whe
 
 pub judged-named
     : (y : Syntax) (a : ℕ) (ss : List Segment) (ed : Edition) → ed ≡ edition_of y ss → (c : ℕ) (j : Judged)
-    → j ≡ judgedAs (declared (verdict_from y (guide_of ed) (pages_of ed) a ss)) c → j ≡ judgedAs (declared (verdict_named y a ss)) c
+    → j ≡ judged_as (declared (verdict_from y (guide_of ed) (pages_of ed) a ss)) c → j ≡ judged_as (declared (verdict_named y a ss)) c
 unfolding verdict_named
 judged-named y a ss ed h c j g = rw (← h) g

@@ -27,7 +27,7 @@ use Rattle.verdict.specs.declared.ended.Conclusion.TheVariants as ended
 use Rattle.verdict.specs.declared.kept.Kept.{Kept}
 use Rattle.verdict.specs.declared.message.Walked.{Walked}
 use Rattle.verdict.specs.declared.message.Walked.TheVariants as walked
-use Rattle.verdict.specs.Answers.{declared, judgedAs}
+use Rattle.verdict.specs.Answers.{declared, judged_as}
 use Rattle.verdict.specs.Named.{held_at}
 use Rattle.verdict.specs.Verdicts.{node_of, unless_agreeing}
 use Rattle.verdict.specs.workers.Ends.{NoneAgrees, agreement_at, ended_with, EndedAs, told_again, closed_by, told_by, Through, Closable, until_at}
@@ -116,7 +116,7 @@ module _ (e : ℕ) (b : Bool) (ss : List Segment) where
 pub record Again (ed : Edition) (y : Syntax) (d : List ℕ) (start stop close : ℕ) (m : Judged) : Type 0 where
   pub tells
       : (w : Walked) → told_by ed w ≡ declared (until_at ed y d start stop) → (o : Judged)
-      → w ≡ walked.Refused o → judgedAs o.verdict close ≡ m
+      → w ≡ walked.Refused o → judged_as o.verdict close ≡ m
   pub stops
       : (w : Walked) → told_by ed w ≡ declared (until_at ed y d start stop) → (k : Kept) (n at : ℕ)
       → w ≡ walked.Fits k n at → ⊥
@@ -153,8 +153,8 @@ module _ (ed : Edition) (y : Syntax) (d : List ℕ) (start stop close : ℕ) (m 
     fits = sym (ap (closed_by ed y d start) e) ∙ through is_first
 
     module _ (c : Conclusion) (is : EndedAs ed y d start k n at c) where
-      pub closed_ended : (v : Verdict) → c ≡ ended.Told v → (r : Judged) → r ≡ judgedAs v at → r ≡ m
-      closed_ended v h r j = j ∙ ap (λ (x : Verdict). judgedAs x at) (rw h at is) ∙ fits
+      pub closed_ended : (v : Verdict) → c ≡ ended.Told v → (r : Judged) → r ≡ judged_as v at → r ≡ m
+      closed_ended v h r j = j ∙ ap (λ (x : Verdict). judged_as x at) (rw h at is) ∙ fits
 
       -- a second one is to name the node
       pub once_more : (p : ℕ) → c ≡ ended.Agrees p → Again ed y d start p at m
@@ -165,7 +165,7 @@ module _ (ed : Edition) (y : Syntax) (d : List ℕ) (start stop close : ℕ) (m 
           record {
             tells =
                 λ v q o g.
-                ap (λ (x : Verdict). judgedAs x at)
+                ap (λ (x : Verdict). judged_as x at)
                 (compared ed y d start n at k true (sym f.0) refl f.1.0 o.verdict
                 (agrees ed y d start n at _ refl all f.1.1.0 p f.1.1.1 v q o g))
                 ∙ fits;

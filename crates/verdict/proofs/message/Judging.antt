@@ -43,7 +43,7 @@ use Rattle.verdict.specs.declared.message.Walked.TheVariants as walked
 use Rattle.verdict.specs.declared.segment.Answered.{Answered}
 use Rattle.verdict.specs.declared.segment.Answered.TheVariants as outcome
 use Rattle.verdict.specs.declared.segment.Found.{Found}
-use Rattle.verdict.specs.Answers.{declared, judgedAs}
+use Rattle.verdict.specs.Answers.{declared, judged_as}
 use Rattle.verdict.specs.workers.Until.{decide_until, judge_until}
 use Rattle.verdict.specs.Verdicts.{nodes_of, for_intervals, settled, verdict_from}
 use Rattle.verdict.specs.workers.Ends.{NoneAgrees, agreement_at, ended_with, closed_by, fitted, told_by, Closable}
@@ -87,7 +87,7 @@ module _ (ed : Edition) (y : Syntax) (d : List ℕ) (start stop : ℕ) where
   -- what the walk w promises
   abbrev Promised : Walked → Type 0
   Promised w =
-      (length d ≤ stop → closed_by ed y d start w ≡ judgedAs (declared (verdict_from y (guide_of ed) (pages_of ed) start all)) (last_end start all))
+      (length d ≤ stop → closed_by ed y d start w ≡ judged_as (declared (verdict_from y (guide_of ed) (pages_of ed) start all)) (last_end start all))
       × (Closable ed y d start w × (told_by ed w ≡ declared until_stop))
 
   -- n segments have been judged without a fault, up to the place `at`, ss are the message's others, and t is the table of the articles that came; none of
@@ -161,7 +161,7 @@ module _ (ed : Edition) (y : Syntax) (d : List ℕ) (start stop : ℕ) where
 
       -- what the walk promises where all segments fit
       pub all_fit : suc n < 2 ^ 64 → Promised (walked.Fits k n at)
-      all_fit h = (λ far. ap₂ judgedAs (ap declared is_ended) is_end, ((h, (none-agree, (alone, is-judged))), ap declared (sym is_until)))
+      all_fit h = (λ far. ap₂ judged_as (ap declared is_ended) is_end, ((h, (none-agree, (alone, is-judged))), ap declared (sym is_until)))
 
     -- the next segment, and the message's others after it, which its end tells
     module _ (s e : ℕ) (piece : Bool) (cuts : cut_at y d s ≡ cut.Segment s e piece) (later : at ≤ s)
@@ -216,18 +216,18 @@ module _ (ed : Edition) (y : Syntax) (d : List ℕ) (start stop : ℕ) where
         pub passed_refused
             : (j m t : ℕ) → r ≡ outcome.Refused j m t → (v : Told) → v ≡ Refused j (n + 1) s (number_of (guide_of ed) m) → (c : ℕ)
             → c ≡ last_end t (rest t) → (o : Judged)
-            → o ≡ judgedAs v c → Promised (walked.Refused o)
+            → o ≡ judged_as v c → Promised (walked.Refused o)
         passed_refused j m t h v u c l o g =
             let a = answered_refused ed y d s e answer j m t (sym is-answer ∙ h) in
             let i : n + 1 ≡ suc n = omega arith in (
-              λ far. g ∙ ap₂ judgedAs (u ∙ is_refused j m a.0) (l ∙ ap (λ (x : ℕ). last_end x (rest x)) (sym a.1) ∙ more_closes),
+              λ far. g ∙ ap₂ judged_as (u ∙ is_refused j m a.0) (l ∙ ap (λ (x : ℕ). last_end x (rest x)) (sym a.1) ∙ more_closes),
               (tt, ap (λ (x : Judged). x.verdict) g ∙ u ∙ rw (← until_here, a.0, i)),
             )
 
         -- the walk ends at this one, which fits
         pub passed_stopped
             : (f : Found) (u : ℕ) → r ≡ outcome.Fits f u → s ≡ stop → (w : Walked)
-            → w ≡ walked.Refused (judgedAs (Refused 23 (n + 1) s (number_of (guide_of ed) f.node)) u)
+            → w ≡ walked.Refused (judged_as (Refused 23 (n + 1) s (number_of (guide_of ed) f.node)) u)
             → Promised w
         passed_stopped f u h b w g =
             let a = answered-fits ed y d s e answer f u (sym is-answer ∙ h) in

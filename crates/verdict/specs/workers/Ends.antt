@@ -17,7 +17,7 @@ use Rattle.verdict.specs.declared.ended.Conclusion.TheVariants as ended
 use Rattle.verdict.specs.declared.kept.Kept.{Kept}
 use Rattle.verdict.specs.declared.message.Walked.{Walked}
 use Rattle.verdict.specs.declared.message.Walked.TheVariants as walked
-use Rattle.verdict.specs.Answers.{declared, judgedAs}
+use Rattle.verdict.specs.Answers.{declared, judged_as}
 use Rattle.verdict.specs.Named.{held_at}
 use Rattle.verdict.specs.Verdicts.{unless_agreeing, verdict_from}
 use Rattle.verdict.specs.workers.Until.{judge_until}
@@ -48,13 +48,13 @@ EndedAs ed y d start k n at (ended.Agrees p) =
 
 -- the answer of a walk that refuses; that of a second one is closed where the first one came to
 abbrev pub told_again : Bool → Judged → ℕ → Judged
-told_again true o c = judgedAs o.verdict c
+told_again true o c = judged_as o.verdict c
 told_again false o c = o
 
 -- the answer for the message that begins at `start`, once its segments have been walked
 abbrev pub closed_by : Edition → Syntax → List ℕ → ℕ → Walked → Judged
 closed_by ed y d start (walked.Refused o) = o
-closed_by ed y d start (walked.Fits k n at) = judgedAs (declared (ended_with ed y d start k n at)) at
+closed_by ed y d start (walked.Fits k n at) = judged_as (declared (ended_with ed y d start k n at)) at
 
 -- 24 or accepted, for n segments up to `at` that fit
 abbrev pub fitted : Edition → Kept → ℕ → ℕ → Verdict
@@ -79,7 +79,7 @@ Closable ed y d start (walked.Fits k n at) =
 
 -- the verdict and the end of the message that begins at `start`, by the guide of an edition
 abbrev pub judged_at : Edition → Syntax → List ℕ → ℕ → Judged
-judged_at ed y d start = judgedAs (declared (verdict_from y (guide_of ed) (pages_of ed) start (held_at y d start))) (last_end start (held_at y d start))
+judged_at ed y d start = judged_as (declared (verdict_from y (guide_of ed) (pages_of ed) start (held_at y d start))) (last_end start (held_at y d start))
 
 -- what the walk of that message tells which ends at the place `stop`
 abbrev pub until_at : Edition → Syntax → List ℕ → ℕ → ℕ → Verdict

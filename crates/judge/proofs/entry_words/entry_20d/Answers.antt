@@ -1,7 +1,123 @@
 -- `judge::entry_words::entry_20d` meets its contract: the number of each arm is, computed, the word of its row. Assumes nothing.
 use native.Mathlib.Omega.{arith}
+use mathlib.Core.Path.{sym, ap}
+use Rattle.guide.specs.workers.Placing.{levels}
+use Rattle.guide.specs.Pricat.{pricat20d}
+use Rattle.judge.specs.workers.Sets.{bits, nodes_that, some_level, inside_of, preceding_of, children_of, entry_word}
 use Rattle.judge.proofs.rows.Tables.{differs-past}
 use Rattle.judge.proofs.entry_words.entry_20d.Goals as goal
+
+pub returns-in-0 : goal.returns-in-0
+unfolding pricat20d entry_word preceding_of children_of inside_of nodes_that bits some_level levels
+returns-in-0 c = sym (ap (entry_word pricat20d) c.in-0.is)
+
+pub returns-in-1 : goal.returns-in-1
+unfolding pricat20d entry_word preceding_of children_of inside_of nodes_that bits some_level levels
+returns-in-1 c = sym (ap (entry_word pricat20d) c.in-1.is)
+
+pub returns-in-2 : goal.returns-in-2
+unfolding pricat20d entry_word preceding_of children_of inside_of nodes_that bits some_level levels
+returns-in-2 c = sym (ap (entry_word pricat20d) c.in-2.is)
+
+pub returns-in-3 : goal.returns-in-3
+unfolding pricat20d entry_word preceding_of children_of inside_of nodes_that bits some_level levels
+returns-in-3 c = sym (ap (entry_word pricat20d) c.in-3.is)
+
+pub returns-in-4 : goal.returns-in-4
+unfolding pricat20d entry_word preceding_of children_of inside_of nodes_that bits some_level levels
+returns-in-4 c = sym (ap (entry_word pricat20d) c.in-4.is)
+
+pub returns-in-5 : goal.returns-in-5
+unfolding pricat20d entry_word preceding_of children_of inside_of nodes_that bits some_level levels
+returns-in-5 c = sym (ap (entry_word pricat20d) c.in-5.is)
+
+pub returns-in-6 : goal.returns-in-6
+unfolding pricat20d entry_word preceding_of children_of inside_of nodes_that bits some_level levels
+returns-in-6 c = sym (ap (entry_word pricat20d) c.in-6.is)
+
+pub returns-in-7 : goal.returns-in-7
+unfolding pricat20d entry_word preceding_of children_of inside_of nodes_that bits some_level levels
+returns-in-7 c = sym (ap (entry_word pricat20d) c.in-7.is)
+
+pub returns-in-8 : goal.returns-in-8
+unfolding pricat20d entry_word preceding_of children_of inside_of nodes_that bits some_level levels
+returns-in-8 c = sym (ap (entry_word pricat20d) c.in-8.is)
+
+pub returns-in-9 : goal.returns-in-9
+unfolding pricat20d entry_word preceding_of children_of inside_of nodes_that bits some_level levels
+returns-in-9 c = sym (ap (entry_word pricat20d) c.in-9.is)
+
+pub returns-in-10 : goal.returns-in-10
+unfolding pricat20d entry_word preceding_of children_of inside_of nodes_that bits some_level levels
+returns-in-10 c = sym (ap (entry_word pricat20d) c.in-10.is)
+
+pub returns-in-11 : goal.returns-in-11
+unfolding pricat20d entry_word preceding_of children_of inside_of nodes_that bits some_level levels
+returns-in-11 c = sym (ap (entry_word pricat20d) c.in-11.is)
+
+pub returns-in-12 : goal.returns-in-12
+unfolding pricat20d entry_word preceding_of children_of inside_of nodes_that bits some_level levels
+returns-in-12 c = sym (ap (entry_word pricat20d) c.in-12.is)
+
+pub returns-in-13 : goal.returns-in-13
+unfolding pricat20d entry_word preceding_of children_of inside_of nodes_that bits some_level levels
+returns-in-13 c = sym (ap (entry_word pricat20d) c.in-13.is)
+
+pub returns-in-14 : goal.returns-in-14
+unfolding pricat20d entry_word preceding_of children_of inside_of nodes_that bits some_level levels
+returns-in-14 c = sym (ap (entry_word pricat20d) c.in-14.is)
+
+pub returns-in-15 : goal.returns-in-15
+unfolding pricat20d entry_word preceding_of children_of inside_of nodes_that bits some_level levels
+returns-in-15 c = sym (ap (entry_word pricat20d) c.in-15.is)
+
+pub returns-in-16 : goal.returns-in-16
+unfolding pricat20d entry_word preceding_of children_of inside_of nodes_that bits some_level levels
+returns-in-16 c = sym (ap (entry_word pricat20d) c.in-16.is)
+
+pub returns-in-17 : goal.returns-in-17
+unfolding pricat20d entry_word preceding_of children_of inside_of nodes_that bits some_level levels
+returns-in-17 c = sym (ap (entry_word pricat20d) c.in-17.is)
+
+pub returns-in-18 : goal.returns-in-18
+unfolding pricat20d entry_word preceding_of children_of inside_of nodes_that bits some_level levels
+returns-in-18 c = sym (ap (entry_word pricat20d) c.in-18.is)
+
+pub returns-in-19 : goal.returns-in-19
+unfolding pricat20d entry_word preceding_of children_of inside_of nodes_that bits some_level levels
+returns-in-19 c = sym (ap (entry_word pricat20d) c.in-19.is)
+
+pub returns-in-20 : goal.returns-in-20
+unfolding pricat20d entry_word preceding_of children_of inside_of nodes_that bits some_level levels
+returns-in-20 c = sym (ap (entry_word pricat20d) c.in-20.is)
+
+pub returns-in-21 : goal.returns-in-21
+unfolding pricat20d entry_word preceding_of children_of inside_of nodes_that bits some_level levels
+returns-in-21 c = sym (ap (entry_word pricat20d) c.in-21.is)
+
+pub returns-in-22 : goal.returns-in-22
+unfolding pricat20d entry_word preceding_of children_of inside_of nodes_that bits some_level levels
+returns-in-22 c = sym (ap (entry_word pricat20d) c.in-22.is)
+
+pub returns-in-23 : goal.returns-in-23
+unfolding pricat20d entry_word preceding_of children_of inside_of nodes_that bits some_level levels
+returns-in-23 c = sym (ap (entry_word pricat20d) c.in-23.is)
+
+pub returns-in-24 : goal.returns-in-24
+unfolding pricat20d entry_word preceding_of children_of inside_of nodes_that bits some_level levels
+returns-in-24 c = sym (ap (entry_word pricat20d) c.in-24.is)
+
+pub returns-in-25 : goal.returns-in-25
+unfolding pricat20d entry_word preceding_of children_of inside_of nodes_that bits some_level levels
+returns-in-25 c = sym (ap (entry_word pricat20d) c.in-25.is)
+
+pub returns-in-26 : goal.returns-in-26
+unfolding pricat20d entry_word preceding_of children_of inside_of nodes_that bits some_level levels
+returns-in-26 c = sym (ap (entry_word pricat20d) c.in-26.is)
+
+pub returns-in-27 : goal.returns-in-27
+unfolding pricat20d entry_word preceding_of children_of inside_of nodes_that bits some_level levels
+returns-in-27 c = sym (ap (entry_word pricat20d) c.in-27.is)
 
 -- each row has an arm
 pub returns-in_default : goal.returns-in_default

@@ -4,7 +4,7 @@ use mathlib.Core.Path.{◌≡◌}
 use mathlib.Core.Bool.{true}
 use native.Mathlib.Omega.{arith}
 use lib.ListN.{length, get_or}
-use borrow.Author.Tests.{leb-false}
+use borrow.Author.Tests.{le-leb, lt-leb}
 use Rattle.bytewise.specs.Bytes.{part}
 use Rattle.guide.specs.workers.Placing.{levels}
 use Rattle.guide.specs.Views.{view_of}
@@ -68,7 +68,7 @@ returns-then-full c =
     let o =
     place-over a.edition (view_of a.y (part a.start a.end a.d.now)) a.last a.counts.now _ c.node_for-n.ensures
     c.if-n-eq0.false
-    _ c.limit_of.ensures _ c.number_over-over.ensures c.if-full.true in
+    _ c.limit_of.ensures _ c.number_over-over.ensures (le-leb _ _ c.if-full.true) in
     record {
       value = o.answer;
       counts_after = o.counts;
@@ -80,7 +80,7 @@ returns-then-m-ne0 c =
     let o =
     place-lacking a.edition (view_of a.y (part a.start a.end a.d.now)) a.last a.counts.now _ c.node_for-n.ensures
     c.if-n-eq0.false
-    _ c.limit_of.ensures c.if-full.false _ c.missing_node-m.ensures c.if-m-ne0.true in
+    _ c.limit_of.ensures (lt-leb _ _ c.if-full.false) _ c.missing_node-m.ensures c.if-m-ne0.true in
     record {
       value = o.answer;
       counts_after = o.counts;
@@ -94,7 +94,7 @@ enter-requires c =
     let count = get_or c.args.counts.now c.node_for-n.result 0 in
     record {
       n_nonzero = (omega (arith, c.if-n-eq0.false), inside);
-      n_bound = omega (arith, leb-false c.limit_of.result count c.if-full.false, c.limit_of.type_inv);
+      n_bound = omega (arith, c.if-full.false, c.limit_of.type_inv);
     }
 
 pub returns : goal.returns
@@ -103,7 +103,7 @@ returns c =
     let o =
     place_found a.edition (view_of a.y (part a.start a.end a.d.now)) a.last a.counts.now _ c.node_for-n.ensures
     c.if-n-eq0.false
-    _ c.limit_of.ensures c.if-full.false _ c.missing_node-m.ensures c.if-m-ne0.false _ c.enter.ensures in
+    _ c.limit_of.ensures (lt-leb _ _ c.if-full.false) _ c.missing_node-m.ensures c.if-m-ne0.false _ c.enter.ensures in
     record {
       value = o.answer;
       counts_after = o.counts;

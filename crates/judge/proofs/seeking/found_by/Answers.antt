@@ -13,10 +13,6 @@ use Rattle.judge.proofs.sets.Members.{rest_less}
 use Rattle.judge.proofs.sets.Sought.{sought_out, sought_inside, sought_found, sought_next}
 use Rattle.judge.proofs.seeking.found_by.Goals as goal
 
--- whether the key is one of the codes of node n
-abbrev keyed : Edition → ℕ → ℕ → Bool
-keyed edition key n = picks (map packed (node (guide_of edition) n).selector.codes) key
-
 pub loop-likely-init : goal.loop-likely-init
 unfolding Nodes
 loop-likely-init c = record { fits = omega arith; inside = c.requires; answer = refl }

@@ -66,7 +66,7 @@ overflow_add-removed c =
     let sought : let a = c.args in MarkSought a.d.now c.loop-y.from.at c.mark_on-behind.result =
         c.mark_on-behind.ensures c.if-behind-eq0.false in
     let goes : let a = c.args in Clean a.y a.d.now a.scan.at c.untested-from.result (c.loop-y.removed + 1) =
-        clean-mark _ c.requires.0 _ _ _ _ c.loop-y.invariant _ (sought c.before'After-shared_slice_known-in-loop-y-1) _ refl c.if-d-end.false (omega (arith, c.if-d-end-2.false))
+        clean-mark _ c.requires.0 _ _ _ _ c.loop-y.invariant _ sought _ refl c.if-d-end.false (omega (arith, c.if-d-end-2.false))
         (sym c.marks.ensures ∙ c.if-not-marks.false)
         (sym c.is_text.ensures ∙ c.if-not-is_text.false) _ c.untested-from.ensures in
     omega (arith, (goes).past.onward, (goes).past.within)
@@ -76,7 +76,7 @@ loop-y-smaller c =
     let sought : let a = c.args in MarkSought a.d.now c.loop-y.from.at c.mark_on-behind.result =
         c.mark_on-behind.ensures c.if-behind-eq0.false in
     let goes : let a = c.args in Clean a.y a.d.now a.scan.at c.untested-from.result (c.loop-y.removed + 1) =
-        clean-mark _ c.requires.0 _ _ _ _ c.loop-y.invariant _ (sought c.before'After-shared_slice_known-in-loop-y-1) _ refl c.if-d-end.false (omega (arith, c.if-d-end-2.false))
+        clean-mark _ c.requires.0 _ _ _ _ c.loop-y.invariant _ sought _ refl c.if-d-end.false (omega (arith, c.if-d-end-2.false))
         (sym c.marks.ensures ∙ c.if-not-marks.false)
         (sym c.is_text.ensures ∙ c.if-not-is_text.false) _ c.untested-from.ensures in
     let z = ap (λ (x : Scan). x.at) c.untested-from.ensures in
@@ -87,7 +87,7 @@ loop-y-preserved c =
     let sought : let a = c.args in MarkSought a.d.now c.loop-y.from.at c.mark_on-behind.result =
         c.mark_on-behind.ensures c.if-behind-eq0.false in
     let goes : let a = c.args in Clean a.y a.d.now a.scan.at c.untested-from.result (c.loop-y.removed + 1) =
-        clean-mark _ c.requires.0 _ _ _ _ c.loop-y.invariant _ (sought c.before'After-shared_slice_known-in-loop-y-1) _ refl c.if-d-end.false (omega (arith, c.if-d-end-2.false))
+        clean-mark _ c.requires.0 _ _ _ _ c.loop-y.invariant _ sought _ refl c.if-d-end.false (omega (arith, c.if-d-end-2.false))
         (sym c.marks.ensures ∙ c.if-not-marks.false)
         (sym c.is_text.ensures ∙ c.if-not-is_text.false) _ c.untested-from.ensures in
     goes

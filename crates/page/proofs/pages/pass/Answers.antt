@@ -60,8 +60,8 @@ loop-y-preserved-then-stop-eq2 c =
     let counted : let a = c.args in c.component_from-p.result.length ≡ length (decoded a.y c.loop-y.a c.component_from-p.result.end a.d.now) =
         extent-length _ _ _ _ _ c.component_from-p.ensures c.loop-y.invariant.0.ahead c.requires.1 in
     let behind : let a = c.args in Behind a.y (page_in a.page) a.d.now a.limit (page_fault a.y (page_in a.page) (part a.start a.limit a.d.now)) c.loop-y.a c.loop-y.e c.loop-y.c c.mood_after-mood.result =
-        pass_on _ _ _ _ _ _ _ _ _ _ c.loop-y.invariant.0 _ (ended c.before'After-component_from-p) _ c.row_at-row.ensures _ c.known_fault-fault.ensures c.if-fault-gt0.false _ _
-        (counted c.before'After-component_from-p) c.mood_after-mood.ensures in
+        pass_on _ _ _ _ _ _ _ _ _ _ c.loop-y.invariant.0 _ ended _ c.row_at-row.ensures _ c.known_fault-fault.ensures c.if-fault-gt0.false _ _
+        counted c.mood_after-mood.ensures in
     let q = c.loop-y.invariant in (
       pass_further _ _ _ _ _ _ _ _ _ _ q.0 _ (ended) _ (behind) _ c.stop_at-stop.ensures _ refl c.if-stop-eq2.true,
       gather_further _ _ _ _ _ _ _ _ q.1 _ (ended) _ c.stop_at-stop.ensures _ c.places_on-places.ensures _ refl c.if-stop-eq2.true,
@@ -78,8 +78,8 @@ returns-then-lack-gt0 c =
     let counted : let a = c.args in c.component_from-p.result.length ≡ length (decoded a.y c.loop-y.a c.component_from-p.result.end a.d.now) =
         extent-length _ _ _ _ _ c.component_from-p.ensures c.loop-y.invariant.0.ahead c.requires.1 in
     let behind : let a = c.args in Behind a.y (page_in a.page) a.d.now a.limit (page_fault a.y (page_in a.page) (part a.start a.limit a.d.now)) c.loop-y.a c.loop-y.e c.loop-y.c c.mood_after-mood.result =
-        pass_on _ _ _ _ _ _ _ _ _ _ c.loop-y.invariant.0 _ (ended c.before'After-component_from-p) _ c.row_at-row.ensures _ c.known_fault-fault.ensures c.if-fault-gt0.false _ _
-        (counted c.before'After-component_from-p) c.mood_after-mood.ensures in
+        pass_on _ _ _ _ _ _ _ _ _ _ c.loop-y.invariant.0 _ ended _ c.row_at-row.ensures _ c.known_fault-fault.ensures c.if-fault-gt0.false _ _
+        counted c.mood_after-mood.ensures in
     let g = pass_left _ _ _ _ _ _ _ _ _ _ c.loop-y.invariant.0 _ (ended) _ (behind) _ c.stop_at-stop.ensures _ refl c.if-stop-eq2.false _
     c.ending-lack.ensures c.if-lack-gt0.true in
     result_told _ _ _ _ _ _ g _ _ c.told-then-lack-gt0.ensures c.if-lack-gt0.true
@@ -94,8 +94,8 @@ returns-then-stop-eq0 c =
     let counted : let a = c.args in c.component_from-p.result.length ≡ length (decoded a.y c.loop-y.a c.component_from-p.result.end a.d.now) =
         extent-length _ _ _ _ _ c.component_from-p.ensures c.loop-y.invariant.0.ahead c.requires.1 in
     let behind : let a = c.args in Behind a.y (page_in a.page) a.d.now a.limit (page_fault a.y (page_in a.page) (part a.start a.limit a.d.now)) c.loop-y.a c.loop-y.e c.loop-y.c c.mood_after-mood.result =
-        pass_on _ _ _ _ _ _ _ _ _ _ c.loop-y.invariant.0 _ (ended c.before'After-component_from-p) _ c.row_at-row.ensures _ c.known_fault-fault.ensures c.if-fault-gt0.false _ _
-        (counted c.before'After-component_from-p) c.mood_after-mood.ensures in
+        pass_on _ _ _ _ _ _ _ _ _ _ c.loop-y.invariant.0 _ ended _ c.row_at-row.ensures _ c.known_fault-fault.ensures c.if-fault-gt0.false _ _
+        counted c.mood_after-mood.ensures in
     let q = c.loop-y.invariant in
     let i = c.if-stop-eq0.true in
     let g = pass_done _ _ _ _ _ _ _ _ _ _ q.0 _ (ended) _ (behind) _ c.stop_at-stop.ensures _ refl c.if-stop-eq2.false _ c.ending-lack.ensures
@@ -121,8 +121,8 @@ loop-y-preserved c =
     let counted : let a = c.args in c.component_from-p.result.length ≡ length (decoded a.y c.loop-y.a c.component_from-p.result.end a.d.now) =
         extent-length _ _ _ _ _ c.component_from-p.ensures c.loop-y.invariant.0.ahead c.requires.1 in
     let behind : let a = c.args in Behind a.y (page_in a.page) a.d.now a.limit (page_fault a.y (page_in a.page) (part a.start a.limit a.d.now)) c.loop-y.a c.loop-y.e c.loop-y.c c.mood_after-mood.result =
-        pass_on _ _ _ _ _ _ _ _ _ _ c.loop-y.invariant.0 _ (ended c.before'After-component_from-p) _ c.row_at-row.ensures _ c.known_fault-fault.ensures c.if-fault-gt0.false _ _
-        (counted c.before'After-component_from-p) c.mood_after-mood.ensures in
+        pass_on _ _ _ _ _ _ _ _ _ _ c.loop-y.invariant.0 _ ended _ c.row_at-row.ensures _ c.known_fault-fault.ensures c.if-fault-gt0.false _ _
+        counted c.mood_after-mood.ensures in
     let q = c.loop-y.invariant in
     let i = c.if-stop-eq0.false in
     let j = c.if-stop-eq2.false in (

@@ -18,6 +18,7 @@ use Rattle.page.proofs.cells.Fields.{service-last, service-next}
 use Rattle.page.proofs.quick.Start.{begun-room}
 use Rattle.page.proofs.quick.Loop.{walk_begins, pages_begin, here-counted, walk_on, pages_on, faultless_here}
 use Rattle.page.proofs.quick.faultless_from.Goals as goal
+use Rattle.page.proofs.quick.faultless_from.Goals.{then-p-gt0+else-not-is_right, else-p-gt0}
 
 pub is_begun-requires : goal.is_begun-requires
 is_begun-requires c = c.requires
@@ -54,16 +55,6 @@ is_right-requires c =
 pub returns-then-not-is_right : goal.returns-then-not-is_right
 returns-then-not-is_right c = λ page f h. absurd (h c.untold-then-not-is_right.ensures)
 
--- a component that is not empty has no fault on its row
-checked
-    : (j : goal.Joined-p-gt0)
-    → let a = j.args in
-    j.clean_on-p.result.length ≡ length (decoded a.y j.loop-y.scan.at j.clean_on-p.result.end a.d.now)
-    → 0 < j.clean_on-p.result.length
-    → text_fault a.y false (free_row (j.cell-w.result / 0x4_0000_0000))
-    (decoded a.y j.loop-y.scan.at j.clean_on-p.result.end a.d.now) ≡ 0
-checked j n h = ⊎_elim (λ w. w.1.ensures (not-false _ w.2.left) n) (λ w. absurd (let z = w.left in omega (arith, z, h))) j.if-p-gt0.branch
-
 pub bounds-d-end : goal.bounds-d-end
 bounds-d-end c =
     let told : let a = c.args in CleanAhead a.y a.d.now c.loop-y.scan.at c.clean_on-p.result =
@@ -80,13 +71,23 @@ overflow_add-result c =
 
 pub returns-then-may_end : goal.returns-then-may_end
 returns-then-may_end c =
+    -- a component that is not empty has no fault on its row
+    let checked
+        : c.clean_on-p.result.length ≡ length (decoded c.args.y c.loop-y.scan.at c.clean_on-p.result.end c.args.d.now)
+        → 0 < c.clean_on-p.result.length
+        → text_fault c.args.y false (free_row (c.cell-w.result / 0x4_0000_0000))
+        (decoded c.args.y c.loop-y.scan.at c.clean_on-p.result.end c.args.d.now) ≡ 0 =
+        λ n h. elim c.if-p-gt0.branch [
+          then-p-gt0+else-not-is_right w ↦ w.is_right.ensures w.if-not-is_right.false n
+        | else-p-gt0 w ↦ absurd (omega arith)
+        ] in
     let told : let a = c.args in CleanAhead a.y a.d.now c.loop-y.scan.at c.clean_on-p.result =
         c.clean_on-p.ensures c.if-end-eq0.false in
     λ page f h.
     let l = c.loop-y in
     let e = service-last _ _ c.if-x-y.true in
     faultless_here _ _ _ l.invariant.0 _ _ _ l.invariant.1 _ (told) e _ refl _ _ _ l.invariant.2 _ (ap (λ (i : ℕ). i / 0x4_0000_0000) c.cell-w.ensures)
-    (checked (goal.at.returns-then-may_end c).Joined-p-gt0 (here-counted _ _ _ l.invariant.0 _ _ _ l.invariant.1 _ (told) e)) _ c.keep-places.ensures c.if-x-y.true
+    (checked (here-counted _ _ _ l.invariant.0 _ _ _ l.invariant.1 _ (told) e)) _ c.keep-places.ensures c.if-x-y.true
     (subst (λ (i : ℕ). may_end i c.clean_on-p.result.length ≡ true) c.cell-w.ensures (sym c.may_end.ensures ∙ c.if-may_end.true)) _ refl page f
 
 pub returns-then-x-y : goal.returns-then-x-y
@@ -104,6 +105,16 @@ loop-y-smaller c =
 
 pub loop-y-preserved : goal.loop-y-preserved
 loop-y-preserved c =
+    -- a component that is not empty has no fault on its row
+    let checked
+        : c.clean_on-p.result.length ≡ length (decoded c.args.y c.loop-y.scan.at c.clean_on-p.result.end c.args.d.now)
+        → 0 < c.clean_on-p.result.length
+        → text_fault c.args.y false (free_row (c.cell-w.result / 0x4_0000_0000))
+        (decoded c.args.y c.loop-y.scan.at c.clean_on-p.result.end c.args.d.now) ≡ 0 =
+        λ n h. elim c.if-p-gt0.branch [
+          then-p-gt0+else-not-is_right w ↦ w.is_right.ensures w.if-not-is_right.false n
+        | else-p-gt0 w ↦ absurd (omega arith)
+        ] in
     let told : let a = c.args in CleanAhead a.y a.d.now c.loop-y.scan.at c.clean_on-p.result =
         c.clean_on-p.ensures c.if-end-eq0.false in
     let l = c.loop-y in
@@ -115,7 +126,7 @@ loop-y-preserved c =
     let e = service-next _ _ n _ _ b z in (
       l.invariant.0,
       walk_on _ _ _ l.invariant.0 _ _ _ l.invariant.1 _ (told) e _ refl n _ _ b z,
-      pages_on _ _ _ l.invariant.0 _ _ _ l.invariant.1 _ (told) e _ refl _ _ _ l.invariant.2 _ (ap (λ ((goal.at.loop-y-preserved c).Else-s-eq0 : ℕ). (goal.at.loop-y-preserved c).Else-s-eq0 / 0x4_0000_0000) c.cell-w.ensures)
-          (checked (goal.at.loop-y-preserved c).Joined-p-gt0 (here-counted _ _ _ l.invariant.0 _ _ _ l.invariant.1 _ (told) e)) _ c.keep-places.ensures n _
-          (b ∙ ap (λ ((goal.at.loop-y-preserved c).Else-s-eq0 : ℕ). next_of a.y x (steps_of (goal.at.loop-y-preserved c).Else-s-eq0 c.clean_on-p.result.length)) c.cell-w.ensures) z,
+      pages_on _ _ _ l.invariant.0 _ _ _ l.invariant.1 _ (told) e _ refl _ _ _ l.invariant.2 _ (ap (λ (i : ℕ). i / 0x4_0000_0000) c.cell-w.ensures)
+          (checked (here-counted _ _ _ l.invariant.0 _ _ _ l.invariant.1 _ (told) e)) _ c.keep-places.ensures n _
+          (b ∙ ap (λ (i : ℕ). next_of a.y x (steps_of i c.clean_on-p.result.length)) c.cell-w.ensures) z,
     )

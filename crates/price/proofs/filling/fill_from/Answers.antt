@@ -12,7 +12,9 @@ pub shape_of-row-in_default : goal.shape_of-row-in_default
 shape_of-row-in_default c = c.loop-spot.invariant.size
 
 pub returns-in_default : goal.returns-in_default
-returns-in_default c = filling_out _ _ _ _ _ _ _ _ _ c.loop-spot.invariant _ c.in_default.is c.counted.ensures
+returns-in_default c =
+    let each = filling_out _ _ _ _ _ _ _ _ _ c.loop-spot.invariant _ c.in_default.is c.counted.ensures in
+    record { value = each.0; row_after = each.1 }
 
 pub put_found-requires : goal.put_found-requires
 put_found-requires c =
@@ -49,5 +51,5 @@ pub loop-spot-preserved : goal.loop-spot-preserved
 loop-spot-preserved c =
     filling_on _ _ _ _ _ _ _ _ _ c.loop-spot.invariant _ _ _
     c.in-At.is _ c.spot_at-next.ensures _ _ _
-    c.put_found.ensures c.put_found.auto.1.1.1.1.1.1.1.1.1.1.0
+    c.put_found.ensures c.put_found.auto.row
     c.added-seen.ensures c.moved-p.ensures

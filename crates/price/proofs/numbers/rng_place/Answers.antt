@@ -1,5 +1,6 @@
 -- `price::numbers::rng_place` meets its contract.
 use mathlib.Core.Path.{refl, ◌∙◌}
+use mir.Syntax.{w64}
 use mir.Facts.{to_z-of_z}
 use Rattle.price.proofs.numbers.Answers.{rng-none, rng-here, rng-other}
 use Rattle.price.proofs.numbers.rng_place.Goals as goal
@@ -14,7 +15,7 @@ from_start-requires c =
 
 pub returns-in-Rng : goal.returns-in-Rng
 returns-in-Rng c =
-    to_z-of_z (record { sfits = c.from_start.type_inv }) ∙ c.from_start.ensures ∙ rng-here _ _ _ _ _ _ c.in-At.is
+    to_z-of_z {w = w64} (record { sfits = c.from_start.type_inv }) ∙ c.from_start.ensures ∙ rng-here _ _ _ _ _ _ c.in-At.is
     c.in-Rng.is
 
 pub returns-in-Lin : goal.returns-in-Lin

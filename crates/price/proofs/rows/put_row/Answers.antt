@@ -1,6 +1,7 @@
 -- `price::rows::put_row` meets its contract: the eight fields in eight stores.
 use native.Mathlib.Omega.{arith}
 use lib.ListN.{length-set}
+use mir.Syntax.{w64}
 use mir.Facts.{to_z-of_z}
 use Rattle.price.proofs.filling.Puts.{row_put}
 use Rattle.price.proofs.rows.put_row.Goals as goal
@@ -33,11 +34,11 @@ pub returns : goal.returns
 returns c =
     let t = c.struct_told-8-1.given in
     row_put _ _ _ _ _ _ _ _ _ _ _ c.requires
-    (to_z-of_z (record { sfits = t.0.1 }))
-    (to_z-of_z (record { sfits = t.1.0.1 }))
-    (to_z-of_z (record { sfits = t.1.1.0.1 }))
-    (to_z-of_z (record { sfits = t.1.1.1.0.1 }))
-    (to_z-of_z (record { sfits = t.1.1.1.1.0.1 }))
-    (to_z-of_z (record { sfits = t.1.1.1.1.1.0.1 }))
-    (to_z-of_z (record { sfits = t.1.1.1.1.1.1.0.1 }))
-    (to_z-of_z (record { sfits = t.1.1.1.1.1.1.1.0.1 }))
+    (to_z-of_z {w = w64} (record { sfits = t.0.1 }))
+    (to_z-of_z {w = w64} (record { sfits = t.1.0.1 }))
+    (to_z-of_z {w = w64} (record { sfits = t.1.1.0.1 }))
+    (to_z-of_z {w = w64} (record { sfits = t.1.1.1.0.1 }))
+    (to_z-of_z {w = w64} (record { sfits = t.1.1.1.1.0.1 }))
+    (to_z-of_z {w = w64} (record { sfits = t.1.1.1.1.1.0.1 }))
+    (to_z-of_z {w = w64} (record { sfits = t.1.1.1.1.1.1.0.1 }))
+    (to_z-of_z {w = w64} (record { sfits = t.1.1.1.1.1.1.1.0.1 }))

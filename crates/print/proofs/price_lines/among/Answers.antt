@@ -1,5 +1,6 @@
 -- `print::price_lines::among` meets its contract.
 use mathlib.Core.Path.{refl, sym, ◌∙◌}
+use mir.Syntax.{w64}
 use mir.Facts.{to_z-of_z}
 use Rattle.print.proofs.Sounds.{wrote_same}
 use Rattle.print.proofs.Telling.{among_none, among_wrote}
@@ -16,4 +17,4 @@ pub returns : goal.returns
 returns c =
     among_wrote _ _ _ c.requires.1 _ c.requires.0 _ _ _ _ _ _ _ _ _
     (sym c.next_price-p.ensures ∙ c.in-Price.is)
-    (to_z-of_z (search rules)) (to_z-of_z (search rules)) _ _ c.opening-n.ensures.value c.opening-n.ensures.out_after
+    (to_z-of_z {w = w64} (search rules)) (to_z-of_z {w = w64} (search rules)) _ _ c.opening-n.ensures.value c.opening-n.ensures.out_after

@@ -1,12 +1,12 @@
 -- `schaumtruhe_c::calls::schaumtruhe_article` meets its contract.
 use mathlib.Core.Path.{ap₂}
 use Rattle.schaumtruhe.proofs.ArticlePlaces.{article-within}
-use Rattle.schaumtruhe_c.specs.Answers.{articleOf}
+use Rattle.schaumtruhe_c.specs.Answers.{article_of}
 use Rattle.schaumtruhe_c.proofs.calls.schaumtruhe_article.Goals as goal
 
 pub overflow_sub-length : goal.overflow_sub-length
 overflow_sub-length c = rw c.article_at-s.ensures (article-within _ _ _ _).0
 
 pub returns : goal.returns
-unfolding articleOf
-returns c = ap₂ articleOf c.article_refusal-number.ensures c.article_at-s.ensures
+unfolding article_of
+returns c = ap₂ article_of c.article_refusal-number.ensures c.article_at-s.ensures

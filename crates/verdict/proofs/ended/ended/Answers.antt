@@ -21,7 +21,7 @@ returns-then-not-kept c =
     let a = c.args in
     told_as a.edition a.y a.d.now a.start _ _ a.kept _ c.has_tag.ensures _ _ c.accepted-then-not-kept.ensures
     (undoubted a.edition a.y a.d.now a.start _ _ a.kept _ c.has_tag.ensures
-    c.if-not-has_tag.false c.if-kept.false _ refl (c.requires.none_agrees c.if-not-kept.true))
+    c.if-not-has_tag.false c.if-kept.false _ refl (c.requires.none_agrees (not-true _ c.if-not-kept.true)))
 
 pub returns-in-At : goal.returns-in-At
 returns-in-At c =

@@ -1,7 +1,8 @@
 -- `verdict::faults::rule_fault` meets its contract: UNT, LIN, or neither.
-use Prim.Native.Nat.{ℕ}
-use mathlib.Core.List.{List, [], ◌∷◌}
-use Rattle.verdict.proofs.roles.RoleTags.{not-lin, not_unt}
+use Rattle.std.proofs.Common.{◌≡◌, ◌⊎◌, inl, inr, ap, false}
+use Rattle.verdict.specs.declared.roles.Role.{Role}
+use Rattle.verdict.specs.declared.roles.Role.TheVariants.{Unh, Bgm, Other}
+use Rattle.verdict.specs.workers.Segments.{is_lin, is_unt}
 use Rattle.verdict.proofs.faults.Numbers.{numbered, rule_end, rule_line, no_line-fault, no_rule}
 use Rattle.verdict.proofs.faults.rule_fault.Goals as goal
 
@@ -19,8 +20,13 @@ returns-else-is_numbered c =
     rule_line c.args.edition _ _ _ _ _ c.in-Lin.is _ (numbered _ _ _ _ c.is_numbered.ensures c.requires.d_value)
     c.if-is_numbered.false
 
+-- of the other roles none has a rule
+without_rule : (r : Role) → (r ≡ Unh) ⊎ ((r ≡ Bgm) ⊎ (r ≡ Other)) → (is_unt r ≡ false) × (is_lin r ≡ false)
+without_rule r (inl e) = (ap is_unt e, ap is_lin e)
+without_rule r (inr (inl e)) = (ap is_unt e, ap is_lin e)
+without_rule r (inr (inr e)) = (ap is_unt e, ap is_lin e)
+
 pub returns-in-Unh : goal.returns-in-Unh
 returns-in-Unh c =
-    let others : List ℕ = 2 ∷ 3 ∷ 4 ∷ [] in
-    let a = c.args in
-    no_rule a.edition _ _ _ _ _ (not_unt others tt a.role c.in-Unh.in-Unh-own.keys3) (not-lin others tt a.role c.in-Unh.in-Unh-own.keys3)
+    let w = without_rule c.args.role c.in-Unh.is in
+    no_rule c.args.edition _ _ _ _ _ w.0 w.1

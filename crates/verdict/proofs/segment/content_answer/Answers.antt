@@ -13,7 +13,10 @@ returns-then-number-ne0 c =
 
 pub rule_fault-wrong-requires : goal.rule_fault-wrong-requires
 rule_fault-wrong-requires c =
-    (c.requires, spanned-text _ _ _ _ _ _ _ (sound _ _ _ _ _ _ c.read-page.ensures c.if-number-ne0.false).first)
+    record {
+      positions_bound = c.requires;
+      d_value = spanned-text _ _ _ _ _ _ _ (sound _ _ _ _ _ _ c.read-page.ensures c.if-number-ne0.false).first;
+    }
 
 pub returns-then-wrong-ne0 : goal.returns-then-wrong-ne0
 returns-then-wrong-ne0 c =

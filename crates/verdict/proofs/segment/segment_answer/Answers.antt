@@ -9,7 +9,10 @@ returns-in-At c =
     place-answered a.edition a.y a.d.now a.start a.i a.kept a.counts.now _ c.place-answer.ensures.value _
     c.place-answer.ensures.counts_after _ c.in-At.is
     _ c.content_answer.ensures in
-    (o.answer, o.counts)
+    record {
+      value = o.answer;
+      counted_on = o.counts;
+    }
 
 pub returns-in-Refused : goal.returns-in-Refused
 returns-in-Refused c =
@@ -18,4 +21,7 @@ returns-in-Refused c =
     place_refused a.edition a.y a.d.now a.start a.i a.kept a.counts.now _ c.place-answer.ensures.value _
     c.place-answer.ensures.counts_after _ _ c.in-Refused.is
     _ c.misplaced.ensures in
-    (o.answer, o.counts)
+    record {
+      value = o.answer;
+      counted_on = o.counts;
+    }
