@@ -7,7 +7,8 @@ use Rattle.schaumtruhe.proofs.calls.prices.Goals as goal
 pub returns : goal.returns
 returns c =
     let a = c.args in
-    let used = c.characters.ensures in (
-      c.fill_at.ensures.value ∙ ap (λ (y : Syntax). priced_at y a.d.now a.at a.k a.row.now) used,
-      c.fill_at.ensures.row_after ∙ ap (λ (y : Syntax). row_at y a.d.now a.at a.k a.row.now) used,
-    )
+    let used = c.characters.ensures in
+    record {
+      value = c.fill_at.ensures.value ∙ ap (λ (y : Syntax). priced_at y a.d.now a.at a.k a.row.now) used;
+      row_after = c.fill_at.ensures.row_after ∙ ap (λ (y : Syntax). row_at y a.d.now a.at a.k a.row.now) used;
+    }

@@ -5,11 +5,17 @@ use Rattle.schaumtruhe.proofs.pricing.fill_at.Goals as goal
 pub returns-in-Accepted : goal.returns-in-Accepted
 returns-in-Accepted c =
     let sheet = c.sheet_at-sheet.ensures in
-    let fill = (c.fill-filled.ensures.value, c.fill-filled.ensures.row_after) in
+    let fill = c.fill-filled.ensures in
     let is = c.in-Accepted.is in
-    (priced-written _ _ _ _ sheet _ _ is _ _ _ _ fill.0 fill.1, row_written _ _ _ _ sheet _ _ is _ _ _ _ fill.0 fill.1)
+    record {
+      value = priced-written _ _ _ _ sheet _ _ is _ _ _ _ fill.value fill.row_after;
+      row_after = row_written _ _ _ _ sheet _ _ is _ _ _ _ fill.value fill.row_after;
+    }
 
 pub returns-in-Refused : goal.returns-in-Refused
 returns-in-Refused c =
     let sheet = c.sheet_at-sheet.ensures in
-    (priced_refused _ _ _ _ sheet _ c.in-Refused.is _ _, row_unchanged _ _ _ _ sheet _ c.in-Refused.is _ _)
+    record {
+      value = priced_refused _ _ _ _ sheet _ c.in-Refused.is _ _;
+      row_after = row_unchanged _ _ _ _ sheet _ c.in-Refused.is _ _;
+    }

@@ -4,9 +4,14 @@ use Rattle.schaumtruhe_c.proofs.calls.schaumtruhe_plain.Goals as goal
 
 pub returns-then-admission-ne0 : goal.returns-then-admission-ne0
 returns-then-admission-ne0 c =
-    plain_refused _ _ _ _ _ _ c.characters-z.ensures c.admission.ensures _ c.if-admission-ne0.true
+    let a = c.args in
+    let each = plain_refused a.y _ a.d.now a.place a.count _ c.characters-z.ensures c.admission.ensures a.out.now c.if-admission-ne0.true in
+    record { value = each.0; out_after = each.1 }
 
 pub returns : goal.returns
 returns c =
-    plain_Copied _ _ _ _ _ _ c.characters-z.ensures c.admission.ensures _ _ _ _
-    c.if-admission-ne0.false c.behind-end.ensures c.plain_length-n.ensures c.copy_plain.ensures.out_after
+    let a = c.args in
+    let each =
+    plain_Copied a.y _ a.d.now a.place a.count _ c.characters-z.ensures c.admission.ensures _ _ a.out.now _ c.if-admission-ne0.false
+    c.behind-end.ensures c.plain_length-n.ensures c.copy_plain.ensures.out_after in
+    record { value = each.0; out_after = each.1 }

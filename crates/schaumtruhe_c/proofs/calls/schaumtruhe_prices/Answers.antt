@@ -5,5 +5,5 @@ use Rattle.schaumtruhe_c.proofs.calls.schaumtruhe_prices.Goals as goal
 
 pub returns : goal.returns
 returns c =
-    let fill = (c.prices.ensures.value, c.prices.ensures.row_after) in
-    (c.prices_of.ensures ∙ ap prices_of fill.0, fill.1)
+    let fill = c.prices.ensures in
+    record { value = c.prices_of.ensures ∙ ap prices_of fill.value; row_after = fill.row_after }
