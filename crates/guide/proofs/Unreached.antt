@@ -78,10 +78,13 @@ lettered_longer y n [] h = absurd h
 lettered_longer y zero (x ∷ xs) h = omega arith
 lettered_longer y (suc n) (x ∷ xs) h = omega (arith, lettered_longer y n xs (and_right (capital x) (lettered y n xs) h))
 
+four_bytes : (y : Syntax) (s : Segment) → Clean y s → 4 ≤ length s.bytes
+unfolding tagged_bytes
+four_bytes y s c = omega (arith, lettered_longer y 3 s.bytes (T_true c.tagged))
+
 -- "A terminated LIN takes at least four bytes", as every segment does that is free of 11
 pub least-bytes : (y : Syntax) (s : Segment) → Clean y s → least ≤ length s.bytes
-unfolding tagged_bytes
-least-bytes y s c = omega (arith, lettered_longer y 3 s.bytes (T_true c.tagged))
+least-bytes y s c = four_bytes y s c
 
 module _ (y : Syntax) (g : Guide) (pages : ℕ → Page) where
   -- a segment among some without a fault
@@ -101,13 +104,13 @@ module _ (y : Syntax) (g : Guide) (pages : ℕ → Page) where
       ended false e = allowed_so (allowed_bytes s.bytes) e refl
 
   -- segments without a fault have four bytes each at least
-  free_long : (before ss : List Segment) → FaultFree y g pages (before ++ ss) → length ss * least ≤ total ss
+  free_long : (before ss : List Segment) → FaultFree y g pages (before ++ ss) → length ss * 4 ≤ total ss
   unfolding total
   free_long before [] free = omega arith
   free_long before (s ∷ ss) free =
       let q : (before ++ (s ∷ [])) ++ ss ≡ before ++ (s ∷ ss) = append_assoc before (s ∷ []) ss in
       let more = free_long (before ++ (s ∷ [])) ss (subst (FaultFree y g pages) (sym q) free) in
-      omega (arith, least-bytes y s (free-clean before s ss free), more)
+      omega (arith, four_bytes y s (free-clean before s ss free), more)
 
 no_content : (y : Syntax) (page : Page) (s : List ℕ) → First y page s 15 → ⊥
 no_content y page s f = go f.here
