@@ -2,6 +2,6 @@
 # Times the proved library and the plain reader against the yardstick: bench.sh [seconds that it takes].
 set -eu -o pipefail
 cd "$(dirname "$0")/.."
-rt staticlib schaumtruhe_c | tail -n 1
+rust/archive.sh
 export CARGO_TARGET_DIR="$PWD/target/rust"
 cargo run --quiet --offline --release --manifest-path rust/proved/Cargo.toml --bin bench_proved -- "${1:-60}"

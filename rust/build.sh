@@ -8,7 +8,7 @@ cd "$(dirname "$0")/.."
 vectors=target/vectors
 mkdir -p $vectors
 python3 docs/places.py $vectors
-rt staticlib schaumtruhe_c | tail -n 1
+rust/archive.sh
 "${CC:-cc}" -std=c11 -Wall -Wextra -Werror -pedantic -O2 -Iinclude examples/example.c target/staticlib/libschaumtruhe_c.a -o target/example
 
 export CARGO_TARGET_DIR="$PWD/target/rust"

@@ -1,4 +1,4 @@
-//! Links the archive that `rt staticlib schaumtruhe_c` writes: from the folder that SCHAUMTRUHE_ARCHIVE names, or from `target/staticlib` of
+//! Links the archive that `rust/archive.sh` writes: from the folder that SCHAUMTRUHE_ARCHIVE names, or from `target/staticlib` of
 //! this repository.
 use std::env;
 use std::path::PathBuf;
@@ -10,7 +10,7 @@ fn main() {
         None => here.join("../../target/staticlib"),
     };
     let archive = folder.join("libschaumtruhe_c.a");
-    assert!(archive.is_file(), "no {}: `rt staticlib schaumtruhe_c` writes it", archive.display());
+    assert!(archive.is_file(), "no {}: `rust/archive.sh` writes it", archive.display());
     println!("cargo:rerun-if-env-changed=SCHAUMTRUHE_ARCHIVE");
     println!("cargo:rerun-if-changed={}", archive.display());
     println!("cargo:rustc-link-search=native={}", folder.display());
