@@ -17,24 +17,24 @@ enum Left {
 }
 
 // P position article amount decimals.
-fn price_line(y: Syntax, message: &[u8], row: &[i64], k: usize) -> bool
+fn price_line(rt: &impl Print, y: Syntax, message: &[u8], row: &[i64], k: usize) -> bool
     requires { (k * 8) + 8 ≤ length row.now }
 {
     let at = k * 8;
-    put(b"P")
-        && put_signed(row[at])
-        && put_article(y, message, row[at + 1], row[at + 2])
-        && put_signed(row[at + 3])
-        && put_signed(row[at + 4])
-        && put(b"\n")
+    put(rt, b"P")
+        && put_signed(rt, row[at])
+        && put_article(rt, y, message, row[at + 1], row[at + 2])
+        && put_signed(rt, row[at + 3])
+        && put_signed(rt, row[at + 4])
+        && put(rt, b"\n")
 }
 
 // One line for each price that was written to the row.
-fn row_lines(y: Syntax, message: &[u8], row: &[i64], written: usize) -> bool
+fn row_lines(rt: &impl Print, y: Syntax, message: &[u8], row: &[i64], written: usize) -> bool
     requires { written * 8 ≤ length row.now }
 {
     for k in 0..written {
-        if !price_line(y, message, row, k) {
+        if !price_line(rt, y, message, row, k) {
             return false;
         }
     }
@@ -56,7 +56,7 @@ fn left_of(k: usize, written: usize, total: usize) -> Left {
 }
 
 // The lines of the prices of the message from start to end, from the k-th on, as many as a row takes.
-fn some_lines(how: Reading, d: &[u8], start: usize, end: usize, k: usize) -> Left
+fn some_lines(rt: &impl Print, how: Reading, d: &[u8], start: usize, end: usize, k: usize) -> Left
     requires { (start ≤ end) × (end ≤ length d.now) }
 {
     let y = characters(how.syntax, d);
@@ -65,33 +65,42 @@ fn some_lines(how: Reading, d: &[u8], start: usize, end: usize, k: usize) -> Lef
     let Priced::Written { written, total } = p else {
         return Left::Lost;
     };
-    if !row_lines(y, &d[start..end], &row, written) {
+    if !row_lines(rt, y, &d[start..end], &row, written) {
         return Left::Unwritten;
     }
     left_of(k, written, total)
 }
 
-fn lost() -> bool {
-    complain(b"sheetcheck: the prices of an accepted message could not be read\n");
+fn lost(rt: &impl Eprint) -> bool {
+    complain(
+        rt,
+        "sheetcheck: the prices of an accepted message could not be read\n",
+    );
     false
 }
 
 // The prices of the message from start to end. Each turn writes one line or more, and a price takes more than one byte, so that there are
 // turns enough.
-pub(crate) fn price_lines(how: Reading, d: &[u8], start: usize, end: usize) -> bool
+pub(crate) fn price_lines(
+    rt: &(impl Print + Eprint),
+    how: Reading,
+    d: &[u8],
+    start: usize,
+    end: usize,
+) -> bool
     requires { (start ≤ end) × (end ≤ length d.now) }
 {
     let mut k = 0;
     for turn in 0..d.len() {
-        let left = some_lines(how, d, start, end, k);
+        let left = some_lines(rt, how, d, start, end, k);
         match left {
             Left::From { price } => {
                 k = price;
             }
             Left::Nothing => return true,
             Left::Unwritten => return false,
-            Left::Lost => return lost(),
+            Left::Lost => return lost(rt),
         }
     }
-    lost()
+    lost(rt)
 }

@@ -17,21 +17,21 @@ returns-in_default c =
 pub agrees_at-requires : goal.agrees_at-requires
 agrees_at-requires c =
     let took : CutAhead c.args.y c.args.d.now c.loop-left.at c.in-Segment.place c.in-Segment.end c.in-Segment.piece =
-        cut_ahead _ _ _ _ _ _ (sym c.segment_at-s.ensures ∙ c.in-Segment.is) in
+    cut_ahead _ _ _ _ _ _ (sym c.segment_at-s.ensures ∙ c.in-Segment.is) in
     let q = took in
     search rules
 
 pub returns-then-agrees_at : goal.returns-then-agrees_at
 returns-then-agrees_at c =
     let took : CutAhead c.args.y c.args.d.now c.loop-left.at c.in-Segment.place c.in-Segment.end c.in-Segment.piece =
-        cut_ahead _ _ _ _ _ _ (sym c.segment_at-s.ensures ∙ c.in-Segment.is) in
+    cut_ahead _ _ _ _ _ _ (sym c.segment_at-s.ensures ∙ c.in-Segment.is) in
     sym (any_found (seeks_agree _ _) _ _ _ _ _ _ _ (took) c.loop-left-test.true _
     c.agrees_at.ensures c.if-agrees_at.true) ∙ c.loop-left.invariant
 
 pub loop-left-preserved : goal.loop-left-preserved
 loop-left-preserved c =
     let took : CutAhead c.args.y c.args.d.now c.loop-left.at c.in-Segment.place c.in-Segment.end c.in-Segment.piece =
-        cut_ahead _ _ _ _ _ _ (sym c.segment_at-s.ensures ∙ c.in-Segment.is) in
+    cut_ahead _ _ _ _ _ _ (sym c.segment_at-s.ensures ∙ c.in-Segment.is) in
     sym (any_on (seeks_agree _ _) _ _ _ _ _ _ _ (took) c.loop-left-test.true _
     c.agrees_at.ensures c.if-agrees_at.false) ∙ c.loop-left.invariant
 

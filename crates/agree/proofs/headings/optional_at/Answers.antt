@@ -16,18 +16,18 @@ returns-in_default c = optional-none _ _ _ _ (sym c.segment_at-s.ensures ∙ c.i
 pub has_tag-requires : goal.has_tag-requires
 has_tag-requires c =
     let took : CutAhead c.args.y c.args.d.now c.args.at c.in-Segment.start c.in-Segment.end c.in-Segment.piece =
-        cut_ahead _ _ _ _ _ _ (sym c.segment_at-s.ensures ∙ c.in-Segment.is) in
+    cut_ahead _ _ _ _ _ _ (sym c.segment_at-s.ensures ∙ c.in-Segment.is) in
     let q = took in
     search rules
 
 pub returns-then-has_tag : goal.returns-then-has_tag
 returns-then-has_tag c =
     let took : CutAhead c.args.y c.args.d.now c.args.at c.in-Segment.start c.in-Segment.end c.in-Segment.piece =
-        cut_ahead _ _ _ _ _ _ (sym c.segment_at-s.ensures ∙ c.in-Segment.is) in
+    cut_ahead _ _ _ _ _ _ (sym c.segment_at-s.ensures ∙ c.in-Segment.is) in
     optional-here _ _ _ _ _ _ _ (took) (sym c.has_tag.ensures ∙ c.if-has_tag.true)
 
 pub returns : goal.returns
 returns c =
     let took : CutAhead c.args.y c.args.d.now c.args.at c.in-Segment.start c.in-Segment.end c.in-Segment.piece =
-        cut_ahead _ _ _ _ _ _ (sym c.segment_at-s.ensures ∙ c.in-Segment.is) in
+    cut_ahead _ _ _ _ _ _ (sym c.segment_at-s.ensures ∙ c.in-Segment.is) in
     optional-other _ _ _ _ _ _ _ (took) (sym c.has_tag.ensures ∙ c.if-has_tag.false)

@@ -17,8 +17,8 @@ pub returns-then-agrees_marked : goal.returns-then-agrees_marked
 returns-then-agrees_marked c =
     record {
       stops_value = sym c.if-agrees_marked.true ∙ lin-agrees-any _ _ c.has_tag.ensures _ _ _ _ _
-      c.if-not-has_tag.false c.head_at-h.ensures
-      c.agrees_marked.ensures;
+          c.if-not-has_tag.false c.head_at-h.ensures
+          c.agrees_marked.ensures;
       t_after = refl;
     }
 

@@ -17,7 +17,7 @@ returns-in_default c =
 pub agrees_in-requires : goal.agrees_in-requires
 agrees_in-requires c =
     let took : CutAhead c.args.y c.args.d.now c.loop-left.here c.in-Segment.place c.in-Segment.end c.in-Segment.piece =
-        cut_ahead _ _ _ _ _ _ (sym c.segment_at-s.ensures ∙ c.in-Segment.is) in
+    cut_ahead _ _ _ _ _ _ (sym c.segment_at-s.ensures ∙ c.in-Segment.is) in
     let q = took in
     record {
       place_le_end = (omega (arith, q.some), q.fits);
@@ -27,14 +27,14 @@ agrees_in-requires c =
 pub returns-then-agrees_in : goal.returns-then-agrees_in
 returns-then-agrees_in c =
     let took : CutAhead c.args.y c.args.d.now c.loop-left.here c.in-Segment.place c.in-Segment.end c.in-Segment.piece =
-        cut_ahead _ _ _ _ _ _ (sym c.segment_at-s.ensures ∙ c.in-Segment.is) in
+    cut_ahead _ _ _ _ _ _ (sym c.segment_at-s.ensures ∙ c.in-Segment.is) in
     sym (any_found (seeks_meet _ _) _ _ _ _ _ _ _ (took) c.loop-left-test.true _
     c.agrees_in.ensures c.if-agrees_in.true) ∙ c.loop-left.invariant
 
 pub loop-left-preserved : goal.loop-left-preserved
 loop-left-preserved c =
     let took : CutAhead c.args.y c.args.d.now c.loop-left.here c.in-Segment.place c.in-Segment.end c.in-Segment.piece =
-        cut_ahead _ _ _ _ _ _ (sym c.segment_at-s.ensures ∙ c.in-Segment.is) in
+    cut_ahead _ _ _ _ _ _ (sym c.segment_at-s.ensures ∙ c.in-Segment.is) in
     sym (any_on (seeks_meet _ _) _ _ _ _ _ _ _ (took) c.loop-left-test.true _
     c.agrees_in.ensures c.if-agrees_in.false) ∙ c.loop-left.invariant
 

@@ -16,7 +16,7 @@ returns-in_default c = c.loop-room.invariant.is
 pub join-joined-requires : goal.join-joined-requires
 join-joined-requires c =
     let took : CutAhead c.args.y c.args.d.now c.loop-room.here c.in-Segment.place c.in-Segment.end c.in-Segment.piece =
-        cut_ahead _ _ _ _ _ _ (sym c.segment_at-s.ensures ∙ c.in-Segment.is) in
+    cut_ahead _ _ _ _ _ _ (sym c.segment_at-s.ensures ∙ c.in-Segment.is) in
     let q = took in
     record {
       place_le_end = (omega (arith, q.some), q.fits);
@@ -30,21 +30,21 @@ returns-then-joined c =
 pub overflow_add-n : goal.overflow_add-n
 overflow_add-n c =
     let took : CutAhead c.args.y c.args.d.now c.loop-room.here c.in-Segment.place c.in-Segment.end c.in-Segment.piece =
-        cut_ahead _ _ _ _ _ _ (sym c.segment_at-s.ensures ∙ c.in-Segment.is) in
+    cut_ahead _ _ _ _ _ _ (sym c.segment_at-s.ensures ∙ c.in-Segment.is) in
     let q = took in
     omega (arith, q.later, q.some, c.loop-room.invariant.is.few)
 
 pub loop-room-smaller : goal.loop-room-smaller
 loop-room-smaller c =
     let took : CutAhead c.args.y c.args.d.now c.loop-room.here c.in-Segment.place c.in-Segment.end c.in-Segment.piece =
-        cut_ahead _ _ _ _ _ _ (sym c.segment_at-s.ensures ∙ c.in-Segment.is) in
+    cut_ahead _ _ _ _ _ _ (sym c.segment_at-s.ensures ∙ c.in-Segment.is) in
     let q = took in
     omega (arith, q.later, q.some, q.fits)
 
 pub loop-room-preserved : goal.loop-room-preserved
 loop-room-preserved c =
     let took : CutAhead c.args.y c.args.d.now c.loop-room.here c.in-Segment.place c.in-Segment.end c.in-Segment.piece =
-        cut_ahead _ _ _ _ _ _ (sym c.segment_at-s.ensures ∙ c.in-Segment.is) in
+    cut_ahead _ _ _ _ _ _ (sym c.segment_at-s.ensures ∙ c.in-Segment.is) in
     run_on _ _ _ _ _ _ c.loop-room.invariant _ _ _ (took) _
     c.join-joined.ensures.stops_value c.if-joined.false _ c.join-joined.ensures.t_after
 

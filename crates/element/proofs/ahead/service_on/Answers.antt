@@ -30,17 +30,17 @@ loop-m-preserved c = λ a s.
 pub overflow_add-result : goal.overflow_add-result
 overflow_add-result c =
     let tested : let a = c.args in Scanned a.y a.d.now a.scan.at c.loop-m.n c.loop-m.m =
-        c.loop-m.invariant _ c.requires.3 in
+    c.loop-m.invariant _ c.requires.3 in
     let first : let a = c.args in FirstOf 8 (waiting (is_service a.y) a.d.now a.scan.at c.loop-m.n) c.first_of.result =
-        first_of _ _ _ (tested).flagged c.loop-m-test.false c.first_of.ensures in
+    first_of _ _ _ (tested).flagged c.loop-m-test.false c.first_of.ensures in
     omega (arith, (first).within, (tested).within)
 
 pub overflow_sub-result : goal.overflow_sub-result
 overflow_sub-result c =
     let tested : let a = c.args in Scanned a.y a.d.now a.scan.at c.loop-m.n c.loop-m.m =
-        c.loop-m.invariant _ c.requires.3 in
+    c.loop-m.invariant _ c.requires.3 in
     let first : let a = c.args in FirstOf 8 (waiting (is_service a.y) a.d.now a.scan.at c.loop-m.n) c.first_of.result =
-        first_of _ _ _ (tested).flagged c.loop-m-test.false c.first_of.ensures in
+    first_of _ _ _ (tested).flagged c.loop-m-test.false c.first_of.ensures in
     omega (arith, scan_flag _ _ _ _ _ _ (tested) _ (first))
 
 pub overflow_sub-result-2 : goal.overflow_sub-result-2
@@ -49,7 +49,7 @@ overflow_sub-result-2 c = omega (arith, c.loop-m-test.false)
 pub returns : goal.returns
 returns c =
     let tested : let a = c.args in Scanned a.y a.d.now a.scan.at c.loop-m.n c.loop-m.m =
-        c.loop-m.invariant _ c.requires.3 in
+    c.loop-m.invariant _ c.requires.3 in
     let first : let a = c.args in FirstOf 8 (waiting (is_service a.y) a.d.now a.scan.at c.loop-m.n) c.first_of.result =
-        first_of _ _ _ (tested).flagged c.loop-m-test.false c.first_of.ensures in
+    first_of _ _ _ (tested).flagged c.loop-m-test.false c.first_of.ensures in
     sought_flag _ _ _ _ _ (tested) _ (first) c.loop-m-test.false _ _ refl

@@ -45,14 +45,14 @@ returns-then-x-y c = λ h. absurd (false≢true (sym c.untold-then-x-y.ensures �
 pub returns-then-c-eq0 : goal.returns-then-c-eq0
 returns-then-c-eq0 c =
     let stops : let a = c.args in c.service_on-behind.result.at - 1 ≡ c.loop-y.scan.at + length (component a.y (part c.loop-y.scan.at a.limit a.d.now) 0 0) =
-        sought_stop _ _ _ _ c.requires.1 _ c.service_on-behind.ensures _ refl c.if-limit-stop.false c.if-x-y.false in
+    sought_stop _ _ _ _ c.requires.1 _ c.service_on-behind.ensures _ refl c.if-limit-stop.false c.if-x-y.false in
     λ h.
     ap (λ (q : Quick). q.span) c.told.ensures ∙ count-found _ _ _ _ _ _ _ _ _ c.loop-y.invariant.0 _ (stops) c.if-e-eq0.true c.if-c-eq0.true
 
 pub returns-then-x-y-2 : goal.returns-then-x-y-2
 returns-then-x-y-2 c =
     let stops : let a = c.args in c.service_on-behind.result.at - 1 ≡ c.loop-y.scan.at + length (component a.y (part c.loop-y.scan.at a.limit a.d.now) 0 0) =
-        sought_stop _ _ _ _ c.requires.1 _ c.service_on-behind.ensures _ refl c.if-limit-stop.false c.if-x-y.false in
+    sought_stop _ _ _ _ c.requires.1 _ c.service_on-behind.ensures _ refl c.if-limit-stop.false c.if-x-y.false in
     λ h.
     ap (λ (q : Quick). q.span) c.told-then-x-y-2.ensures
     ∙ count-last _ _ _ _ _ _ _ _ _ c.loop-y.invariant.0 _ (stops) c.if-limit-stop.false c.if-e-eq0.true c.if-c-eq0.false
@@ -65,7 +65,7 @@ overflow_sub-c c = omega (arith, c.if-c-eq0.false)
 pub returns-then-x-y-3 : goal.returns-then-x-y-3
 returns-then-x-y-3 c =
     let stops : let a = c.args in c.service_on-behind.result.at - 1 ≡ c.loop-y.scan.at + length (component a.y (part c.loop-y.scan.at a.limit a.d.now) 0 0) =
-        sought_stop _ _ _ _ c.requires.1 _ c.service_on-behind.ensures _ refl c.if-limit-stop.false c.if-x-y.false in
+    sought_stop _ _ _ _ c.requires.1 _ c.service_on-behind.ensures _ refl c.if-limit-stop.false c.if-x-y.false in
     λ h.
     ap (λ (q : Quick). q.span) c.told-then-x-y-3.ensures ∙ count_out _ _ _ _ _ _ _ _ _ c.loop-y.invariant.0 _ (stops) c.if-limit-stop.false c.if-e-eq0.false c.if-x-y-3.true
 
@@ -79,14 +79,13 @@ loop-y-smaller-else-x-y-2 c =
 pub loop-y-preserved-else-x-y-2 : goal.loop-y-preserved-else-x-y-2
 loop-y-preserved-else-x-y-2 c =
     let stops : let a = c.args in c.service_on-behind.result.at - 1 ≡ c.loop-y.scan.at + length (component a.y (part c.loop-y.scan.at a.limit a.d.now) 0 0) =
-        sought_stop _ _ _ _ c.requires.1 _ c.service_on-behind.ensures _ refl c.if-limit-stop.false c.if-x-y.false in
+    sought_stop _ _ _ _ c.requires.1 _ c.service_on-behind.ensures _ refl c.if-limit-stop.false c.if-x-y.false in
     let behind : c.service_on-behind.result.at ≡ c.service_on-behind.result.at - 1 + 1 =
-        omega (arith, c.service_on-behind.ensures.onward) in
-    (
-  count-component _ _ _ _ _ _ _ _ _ c.loop-y.invariant.0 _ (stops) c.if-limit-stop.false c.if-e-eq0.true c.if-c-eq0.false
-      (sym c.has_usual_services.ensures ∙ c.if-not-has_usual_services.false) c.if-x-y-2.false _ _ refl (behind),
-  c.service_on-behind.ensures.scanned,
-)
+    omega (arith, c.service_on-behind.ensures.onward) in (
+      count-component _ _ _ _ _ _ _ _ _ c.loop-y.invariant.0 _ (stops) c.if-limit-stop.false c.if-e-eq0.true c.if-c-eq0.false
+          (sym c.has_usual_services.ensures ∙ c.if-not-has_usual_services.false) c.if-x-y-2.false _ _ refl (behind),
+      c.service_on-behind.ensures.scanned,
+    )
 
 pub loop-y-smaller-then-x-y-4 : goal.loop-y-smaller-then-x-y-4
 loop-y-smaller-then-x-y-4 c =
@@ -95,13 +94,12 @@ loop-y-smaller-then-x-y-4 c =
 pub loop-y-preserved-then-x-y-4 : goal.loop-y-preserved-then-x-y-4
 loop-y-preserved-then-x-y-4 c =
     let stops : let a = c.args in c.service_on-behind.result.at - 1 ≡ c.loop-y.scan.at + length (component a.y (part c.loop-y.scan.at a.limit a.d.now) 0 0) =
-        sought_stop _ _ _ _ c.requires.1 _ c.service_on-behind.ensures _ refl c.if-limit-stop.false c.if-x-y.false in
+    sought_stop _ _ _ _ c.requires.1 _ c.service_on-behind.ensures _ refl c.if-limit-stop.false c.if-x-y.false in
     let behind : c.service_on-behind.result.at ≡ c.service_on-behind.result.at - 1 + 1 =
-        omega (arith, c.service_on-behind.ensures.onward) in
-    (
-  count-element _ _ _ _ _ _ _ _ _ c.loop-y.invariant.0 _ (stops) c.if-limit-stop.false c.if-e-eq0.false c.if-x-y-3.false c.if-x-y-4.true _ _ refl (behind),
-  c.service_on-behind.ensures.scanned,
-)
+    omega (arith, c.service_on-behind.ensures.onward) in (
+      count-element _ _ _ _ _ _ _ _ _ c.loop-y.invariant.0 _ (stops) c.if-limit-stop.false c.if-e-eq0.false c.if-x-y-3.false c.if-x-y-4.true _ _ refl (behind),
+      c.service_on-behind.ensures.scanned,
+    )
 
 pub loop-y-smaller : goal.loop-y-smaller
 loop-y-smaller c =
@@ -110,10 +108,9 @@ loop-y-smaller c =
 pub loop-y-preserved : goal.loop-y-preserved
 loop-y-preserved c =
     let stops : let a = c.args in c.service_on-behind.result.at - 1 ≡ c.loop-y.scan.at + length (component a.y (part c.loop-y.scan.at a.limit a.d.now) 0 0) =
-        sought_stop _ _ _ _ c.requires.1 _ c.service_on-behind.ensures _ refl c.if-limit-stop.false c.if-x-y.false in
+    sought_stop _ _ _ _ c.requires.1 _ c.service_on-behind.ensures _ refl c.if-limit-stop.false c.if-x-y.false in
     let behind : c.service_on-behind.result.at ≡ c.service_on-behind.result.at - 1 + 1 =
-        omega (arith, c.service_on-behind.ensures.onward) in
-    (
-  count_on _ _ _ _ _ _ _ _ _ c.loop-y.invariant.0 _ (stops) c.if-limit-stop.false c.if-e-eq0.false c.if-x-y-3.false c.if-x-y-4.false _ (behind),
-  c.service_on-behind.ensures.scanned,
-)
+    omega (arith, c.service_on-behind.ensures.onward) in (
+      count_on _ _ _ _ _ _ _ _ _ c.loop-y.invariant.0 _ (stops) c.if-limit-stop.false c.if-e-eq0.false c.if-x-y-3.false c.if-x-y-4.false _ (behind),
+      c.service_on-behind.ensures.scanned,
+    )

@@ -20,24 +20,24 @@ returns-then-last-i c = service-on _ _ _ _ c.loop-i.invariant _ _ c.rest_service
 pub overflow_add-result : goal.overflow_add-result
 overflow_add-result c =
     let flagged : c.services_in-m.result ≡ flags (λ k. is_service c.args.y (on_from c.args.d.now c.loop-i.i k)) =
-        flagged_there c.args.d.now c.loop-i.i _ (is_service c.args.y) _ (omega arith)
-        (λ k. omega (arith, c.shared_slice_known-1.given k)) c.eight_at.ensures c.services_in-m.ensures in
+    flagged_there c.args.d.now c.loop-i.i _ (is_service c.args.y) _ (omega arith)
+    (λ k. omega (arith, c.shared_slice_known-1.given k)) c.eight_at.ensures c.services_in-m.ensures in
     let f = first_of _ _ _ (flagged) c.if-m-ne0.true c.first_of.ensures in
     omega (arith, f.within)
 
 pub returns-then-m-ne0 : goal.returns-then-m-ne0
 returns-then-m-ne0 c =
     let flagged : c.services_in-m.result ≡ flags (λ k. is_service c.args.y (on_from c.args.d.now c.loop-i.i k)) =
-        flagged_there c.args.d.now c.loop-i.i _ (is_service c.args.y) _ (omega arith)
-        (λ k. omega (arith, c.shared_slice_known-1.given k)) c.eight_at.ensures c.services_in-m.ensures in
+    flagged_there c.args.d.now c.loop-i.i _ (is_service c.args.y) _ (omega arith)
+    (λ k. omega (arith, c.shared_slice_known-1.given k)) c.eight_at.ensures c.services_in-m.ensures in
     service-eight _ _ _ _ c.loop-i.invariant _ (flagged) _ _
     (first_of _ _ _ (flagged) c.if-m-ne0.true c.first_of.ensures)
 
 pub loop-i-preserved : goal.loop-i-preserved
 loop-i-preserved c =
     let flagged : c.services_in-m.result ≡ flags (λ k. is_service c.args.y (on_from c.args.d.now c.loop-i.i k)) =
-        flagged_there c.args.d.now c.loop-i.i _ (is_service c.args.y) _ (omega arith)
-        (λ k. omega (arith, c.shared_slice_known-1.given k)) c.eight_at.ensures c.services_in-m.ensures in
+    flagged_there c.args.d.now c.loop-i.i _ (is_service c.args.y) _ (omega arith)
+    (λ k. omega (arith, c.shared_slice_known-1.given k)) c.eight_at.ensures c.services_in-m.ensures in
     passed-eight _ _ _ _ c.loop-i.invariant _ (flagged) c.if-m-ne0.false
 
 pub returns : goal.returns

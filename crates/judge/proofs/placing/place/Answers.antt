@@ -28,35 +28,35 @@ returns-then-n-eq0 c =
 pub limit_of-requires : goal.limit_of-requires
 limit_of-requires c =
     let inside : c.node_for-n.result < length (guide_of c.args.edition) =
-        let a = c.args in
-        found_inside a.edition (view_of a.y (part a.start a.end a.d.now)) a.last _ c.node_for-n.ensures c.if-n-eq0.false in
+    let a = c.args in
+    found_inside a.edition (view_of a.y (part a.start a.end a.d.now)) a.last _ c.node_for-n.ensures c.if-n-eq0.false in
     inside
 
 pub offset_bounds-counts-n : goal.offset_bounds-counts-n
 offset_bounds-counts-n c =
     let inside : c.node_for-n.result < length (guide_of c.args.edition) =
-        let a = c.args in
-        found_inside a.edition (view_of a.y (part a.start a.end a.d.now)) a.last _ c.node_for-n.ensures c.if-n-eq0.false in
+    let a = c.args in
+    found_inside a.edition (view_of a.y (part a.start a.end a.d.now)) a.last _ c.node_for-n.ensures c.if-n-eq0.false in
     omega (arith, inside, table_fits c.args.edition)
 
 pub bounds-counts-n : goal.bounds-counts-n
 bounds-counts-n c =
     let inside : c.node_for-n.result < length (guide_of c.args.edition) =
-        let a = c.args in
-        found_inside a.edition (view_of a.y (part a.start a.end a.d.now)) a.last _ c.node_for-n.ensures c.if-n-eq0.false in
+    let a = c.args in
+    found_inside a.edition (view_of a.y (part a.start a.end a.d.now)) a.last _ c.node_for-n.ensures c.if-n-eq0.false in
     omega (arith, inside, table_fits c.args.edition)
 
 pub missing_node-m-requires : goal.missing_node-m-requires
 missing_node-m-requires c =
     let inside : c.node_for-n.result < length (guide_of c.args.edition) =
-        let a = c.args in
-        found_inside a.edition (view_of a.y (part a.start a.end a.d.now)) a.last _ c.node_for-n.ensures c.if-n-eq0.false in
+    let a = c.args in
+    found_inside a.edition (view_of a.y (part a.start a.end a.d.now)) a.last _ c.node_for-n.ensures c.if-n-eq0.false in
     let before-inside : c.args.last < length (guide_of c.args.edition) =
-        let a = c.args in
-        last-inside a.edition (view_of a.y (part a.start a.end a.d.now)) a.last _ c.node_for-n.ensures c.if-n-eq0.false in
+    let a = c.args in
+    last-inside a.edition (view_of a.y (part a.start a.end a.d.now)) a.last _ c.node_for-n.ensures c.if-n-eq0.false in
     let follows : some_level (follows_in (guide_of c.args.edition) c.node_for-n.result) (levels (guide_of c.args.edition) (suc c.args.last) c.args.last 0) ≡ true =
-        let a = c.args in
-        found-follows a.edition (view_of a.y (part a.start a.end a.d.now)) a.last _ c.node_for-n.ensures c.if-n-eq0.false in
+    let a = c.args in
+    found-follows a.edition (view_of a.y (part a.start a.end a.d.now)) a.last _ c.node_for-n.ensures c.if-n-eq0.false in
     record {
       n_in_bounds = (inside, before-inside);
       last_value = follows;
@@ -89,8 +89,8 @@ returns-then-m-ne0 c =
 pub enter-requires : goal.enter-requires
 enter-requires c =
     let inside : c.node_for-n.result < length (guide_of c.args.edition) =
-        let a = c.args in
-        found_inside a.edition (view_of a.y (part a.start a.end a.d.now)) a.last _ c.node_for-n.ensures c.if-n-eq0.false in
+    let a = c.args in
+    found_inside a.edition (view_of a.y (part a.start a.end a.d.now)) a.last _ c.node_for-n.ensures c.if-n-eq0.false in
     let count = get_or c.args.counts.now c.node_for-n.result 0 in
     record {
       n_nonzero = (omega (arith, c.if-n-eq0.false), inside);

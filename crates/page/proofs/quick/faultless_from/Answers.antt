@@ -29,7 +29,7 @@ returns-then-not-is_begun c = λ page f h. absurd (h c.untold.ensures)
 pub overflow_add-start : goal.overflow_add-start
 overflow_add-start c =
     let begun : let a = c.args in Begun a.y a.d.now a.start =
-        c.is_begun.ensures c.if-not-is_begun.false in
+    c.is_begun.ensures c.if-not-is_begun.false in
     let b : c.args.start + 3 < length c.args.d.now = begun-room c.args.y c.args.d.now c.args.start (begun) in
     let good = c.well_formed in
     omega arith
@@ -37,7 +37,7 @@ overflow_add-start c =
 pub loop-y-init : goal.loop-y-init
 loop-y-init c =
     let begun : let a = c.args in Begun a.y a.d.now a.start =
-        c.is_begun.ensures c.if-not-is_begun.false in
+    c.is_begun.ensures c.if-not-is_begun.false in
     let b = begun in
     (b, walk_begins _ _ _ b _ c.untested-scan.ensures, pages_begin _ _ _ b _ _ c.nowhere-places.ensures _ (ap (λ (k : Scan). k.at) c.untested-scan.ensures))
 
@@ -47,7 +47,7 @@ returns-then-end-eq0 c = λ page f h. absurd (h c.untold-then-end-eq0.ensures)
 pub is_right-requires : goal.is_right-requires
 is_right-requires c =
     let told : let a = c.args in CleanAhead a.y a.d.now c.loop-y.scan.at c.clean_on-p.result =
-        c.clean_on-p.ensures c.if-end-eq0.false in
+    c.clean_on-p.ensures c.if-end-eq0.false in
     let k = told in
     let n = k.inside in
     (k.ahead, omega (arith, n), c.if-p-gt0.true)
@@ -58,13 +58,13 @@ returns-then-not-is_right c = λ page f h. absurd (h c.untold-then-not-is_right.
 pub bounds-d-end : goal.bounds-d-end
 bounds-d-end c =
     let told : let a = c.args in CleanAhead a.y a.d.now c.loop-y.scan.at c.clean_on-p.result =
-        c.clean_on-p.ensures c.if-end-eq0.false in
+    c.clean_on-p.ensures c.if-end-eq0.false in
     (told).inside
 
 pub overflow_add-result : goal.overflow_add-result
 overflow_add-result c =
     let told : let a = c.args in CleanAhead a.y a.d.now c.loop-y.scan.at c.clean_on-p.result =
-        c.clean_on-p.ensures c.if-end-eq0.false in
+    c.clean_on-p.ensures c.if-end-eq0.false in
     let k = (told).inside in
     let good = c.well_formed in
     omega arith
@@ -73,16 +73,16 @@ pub returns-then-may_end : goal.returns-then-may_end
 returns-then-may_end c =
     -- a component that is not empty has no fault on its row
     let checked
-        : c.clean_on-p.result.length ≡ length (decoded c.args.y c.loop-y.scan.at c.clean_on-p.result.end c.args.d.now)
-        → 0 < c.clean_on-p.result.length
-        → text_fault c.args.y false (free_row (c.cell-w.result / 0x4_0000_0000))
-        (decoded c.args.y c.loop-y.scan.at c.clean_on-p.result.end c.args.d.now) ≡ 0 =
-        λ n h. elim c.if-p-gt0.branch [
-          then-p-gt0+else-not-is_right w ↦ w.is_right.ensures w.if-not-is_right.false n
-        | else-p-gt0 w ↦ absurd (omega arith)
-        ] in
+    : c.clean_on-p.result.length ≡ length (decoded c.args.y c.loop-y.scan.at c.clean_on-p.result.end c.args.d.now)
+    → 0 < c.clean_on-p.result.length
+    → text_fault c.args.y false (free_row (c.cell-w.result / 0x4_0000_0000))
+    (decoded c.args.y c.loop-y.scan.at c.clean_on-p.result.end c.args.d.now) ≡ 0 =
+    λ n h. elim c.if-p-gt0.branch [
+      | then-p-gt0+else-not-is_right w ↦ w.is_right.ensures w.if-not-is_right.false n
+      | else-p-gt0 w ↦ absurd (omega arith)
+    ] in
     let told : let a = c.args in CleanAhead a.y a.d.now c.loop-y.scan.at c.clean_on-p.result =
-        c.clean_on-p.ensures c.if-end-eq0.false in
+    c.clean_on-p.ensures c.if-end-eq0.false in
     λ page f h.
     let l = c.loop-y in
     let e = service-last _ _ c.if-x-y.true in
@@ -99,7 +99,7 @@ returns-then-s-eq0 c = λ page f h. absurd (h c.untold-then-s-eq0.ensures)
 pub loop-y-smaller : goal.loop-y-smaller
 loop-y-smaller c =
     let told : let a = c.args in CleanAhead a.y a.d.now c.loop-y.scan.at c.clean_on-p.result =
-        c.clean_on-p.ensures c.if-end-eq0.false in
+    c.clean_on-p.ensures c.if-end-eq0.false in
     let k = told in
     omega (arith, k.ahead, k.inside, k.onward)
 
@@ -107,16 +107,16 @@ pub loop-y-preserved : goal.loop-y-preserved
 loop-y-preserved c =
     -- a component that is not empty has no fault on its row
     let checked
-        : c.clean_on-p.result.length ≡ length (decoded c.args.y c.loop-y.scan.at c.clean_on-p.result.end c.args.d.now)
-        → 0 < c.clean_on-p.result.length
-        → text_fault c.args.y false (free_row (c.cell-w.result / 0x4_0000_0000))
-        (decoded c.args.y c.loop-y.scan.at c.clean_on-p.result.end c.args.d.now) ≡ 0 =
-        λ n h. elim c.if-p-gt0.branch [
-          then-p-gt0+else-not-is_right w ↦ w.is_right.ensures w.if-not-is_right.false n
-        | else-p-gt0 w ↦ absurd (omega arith)
-        ] in
+    : c.clean_on-p.result.length ≡ length (decoded c.args.y c.loop-y.scan.at c.clean_on-p.result.end c.args.d.now)
+    → 0 < c.clean_on-p.result.length
+    → text_fault c.args.y false (free_row (c.cell-w.result / 0x4_0000_0000))
+    (decoded c.args.y c.loop-y.scan.at c.clean_on-p.result.end c.args.d.now) ≡ 0 =
+    λ n h. elim c.if-p-gt0.branch [
+      | then-p-gt0+else-not-is_right w ↦ w.is_right.ensures w.if-not-is_right.false n
+      | else-p-gt0 w ↦ absurd (omega arith)
+    ] in
     let told : let a = c.args in CleanAhead a.y a.d.now c.loop-y.scan.at c.clean_on-p.result =
-        c.clean_on-p.ensures c.if-end-eq0.false in
+    c.clean_on-p.ensures c.if-end-eq0.false in
     let l = c.loop-y in
     let a = c.args in
     let x = get_or a.d.now c.clean_on-p.result.end 0 in

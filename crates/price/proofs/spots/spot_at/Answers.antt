@@ -11,12 +11,12 @@ returns-in_default c = spot-none _ _ _ (sym c.segment_at-c.ensures ∙ c.in_defa
 pub kind_of-requires : goal.kind_of-requires
 kind_of-requires c =
     let took : CutAhead c.args.y c.args.d.now c.args.at c.in-Segment.start c.in-Segment.end c.in-Segment.piece =
-        cut_ahead _ _ _ _ _ _ (sym c.segment_at-c.ensures ∙ c.in-Segment.is) in
+    cut_ahead _ _ _ _ _ _ (sym c.segment_at-c.ensures ∙ c.in-Segment.is) in
     let q = took in
     search rules
 
 pub returns : goal.returns
 returns c =
     let took : CutAhead c.args.y c.args.d.now c.args.at c.in-Segment.start c.in-Segment.end c.in-Segment.piece =
-        cut_ahead _ _ _ _ _ _ (sym c.segment_at-c.ensures ∙ c.in-Segment.is) in
+    cut_ahead _ _ _ _ _ _ (sym c.segment_at-c.ensures ∙ c.in-Segment.is) in
     spot-here _ _ _ _ _ _ _ (took) c.kind_of.ensures

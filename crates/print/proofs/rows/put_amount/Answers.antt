@@ -14,19 +14,19 @@ use Rattle.print.proofs.rows.put_amount.Goals as goal
 pub slice_bounds-put_from-end : goal.slice_bounds-put_from-end
 slice_bounds-put_from-end c =
     let few : length (text_of (to_z w64 (of_z w64 c.args.z))) ≤ 20 =
-        rw (to_z-of_z c.ranges.z) (text-fits _ c.ranges.z) in
+    rw (to_z-of_z c.ranges.z) (text-fits _ c.ranges.z) in
     sym (text-length _ _ _ _ (few) c.decimal_text-size.ensures.value c.decimal_text-size.ensures.out_after refl)
 
 pub overflow_sub-size : goal.overflow_sub-size
 overflow_sub-size c =
     let few : length (text_of (to_z w64 (of_z w64 c.args.z))) ≤ 20 =
-        rw (to_z-of_z c.ranges.z) (text-fits _ c.ranges.z) in
+    rw (to_z-of_z c.ranges.z) (text-fits _ c.ranges.z) in
     text-within _ _ _ _ (few) c.decimal_text-size.ensures.value c.decimal_text-size.ensures.out_after refl
 
 pub put_from-requires : goal.put_from-requires
 put_from-requires c =
     let few : length (text_of (to_z w64 (of_z w64 c.args.z))) ≤ 20 =
-        rw (to_z-of_z c.ranges.z) (text-fits _ c.ranges.z) in
+    rw (to_z-of_z c.ranges.z) (text-fits _ c.ranges.z) in
     let w = text-within _ _ _ _ (few) c.decimal_text-size.ensures.value c.decimal_text-size.ensures.out_after refl in
     let l = text-length _ _ _ _ (few) c.decimal_text-size.ensures.value c.decimal_text-size.ensures.out_after refl in
     (omega arith, simp length-set (omega arith))
@@ -38,8 +38,9 @@ shape_of-out c =
 pub returns : goal.returns
 returns c =
     let few : length (text_of (to_z w64 (of_z w64 c.args.z))) ≤ 20 =
-        rw (to_z-of_z c.ranges.z) (text-fits _ c.ranges.z) in
-    word-put _ _ _ _ _ _ _ (ap text_of (to_z-of_z c.ranges.z))
+    rw (to_z-of_z c.ranges.z) (text-fits _ c.ranges.z) in
+    let each = word-put _ _ _ _ _ _ _ (ap text_of (to_z-of_z c.ranges.z))
     (few)
     (text_end _ _ _ _ (few) c.decimal_text-size.ensures.value c.decimal_text-size.ensures.out_after refl)
-    c.put_from.ensures.value c.put_from.ensures.out_after
+    c.put_from.ensures.value c.put_from.ensures.out_after in
+    record { value = each.0; out_after = each.1 }

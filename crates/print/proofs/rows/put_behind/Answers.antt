@@ -12,7 +12,8 @@ shape_of-out c =
 
 pub returns : goal.returns
 returns c =
-    behind-put _ _ _ _ _ _ _ _ _ _ (to_z-of_z c.ranges.amount) (to_z-of_z c.ranges.decimals)
+    let each = behind-put _ _ _ _ _ _ _ _ _ _ (to_z-of_z c.ranges.amount) (to_z-of_z c.ranges.decimals)
     c.put_amount-m.ensures.value
     c.put_amount-m.ensures.out_after
-    c.put_amount-n.ensures.value c.put_amount-n.ensures.out_after
+    c.put_amount-n.ensures.value c.put_amount-n.ensures.out_after in
+    record { value = each.0; out_after = each.1 }

@@ -41,4 +41,6 @@ pub shape_of-out : goal.shape_of-out
 shape_of-out c = c.loop-i.invariant.2
 
 pub returns : goal.returns
-returns c = byte_last _ _ _ _ _ _ c.loop-i.invariant.0 c.loop-i-test.false
+returns c =
+    let each = byte_last _ _ _ _ _ _ c.loop-i.invariant.0 c.loop-i-test.false in
+    record { value = each.0; out_after = each.1 }

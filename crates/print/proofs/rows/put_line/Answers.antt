@@ -7,4 +7,6 @@ pub put_line_at-requires : goal.put_line_at-requires
 put_line_at-requires c = omega arith
 
 pub returns : goal.returns
-returns c = front-put _ _ _ _ _ _ (c.put_line_at.ensures.value, c.put_line_at.ensures.out_after)
+returns c =
+    let each = front-put _ _ _ _ _ _ (c.put_line_at.ensures.value, c.put_line_at.ensures.out_after) in
+    record { value = each.0; out_after = each.1 }

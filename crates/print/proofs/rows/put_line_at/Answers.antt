@@ -20,4 +20,6 @@ shape_of-out c =
     ∙ length-set c.args.out.now c.args.at c.args.letter
 
 pub returns : goal.returns
-returns c = line-put _ _ _ _ _ _ _ c.put_words-n.ensures.value c.put_words-n.ensures.out_after
+returns c =
+    let each = line-put _ _ _ _ _ _ _ c.put_words-n.ensures.value c.put_words-n.ensures.out_after in
+    record { value = each.0; out_after = each.1 }

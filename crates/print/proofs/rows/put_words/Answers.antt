@@ -41,4 +41,5 @@ shape_of-out c = c.loop-i.invariant.3
 pub returns : goal.returns
 returns c =
     let inv = c.loop-i.invariant in
-    words_last _ _ _ _ _ _ inv.0 c.loop-i-test.false _ _ inv.1 inv.2 refl
+    let each = words_last _ _ _ _ _ _ inv.0 c.loop-i-test.false _ _ inv.1 inv.2 refl in
+    record { value = each.0; out_after = each.1 }

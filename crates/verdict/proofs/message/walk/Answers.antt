@@ -52,7 +52,7 @@ overflow_add-n-then-place-stop c =
 pub returns-then-place-stop : goal.returns-then-place-stop
 returns-then-place-stop c =
     let took : Upcoming c.args.y c.args.d.now c.loop-place.at c.loop-place.first c.in-Inside.place c.in-Inside.last =
-        upcoming _ _ _ _ _ _ (sym c.head_at-s.ensures ∙ c.in-Inside.is) in
+    upcoming _ _ _ _ _ _ (sym c.head_at-s.ensures ∙ c.in-Inside.is) in
     let q = took in
     let each = passed_stopped _ _ _ _ _ _ _ _ _ _ _ c.loop-place.invariant _ _ _ q.cuts q.later (rest c.args.y c.args.d.now c.in-Inside.last) q.list _
     c.segment_answer-answer.ensures.value _ _ c.in-Fits.is c.if-place-stop.true _
@@ -76,7 +76,7 @@ overflow_add-n-in-Refused c =
 pub returns-in-Refused : goal.returns-in-Refused
 returns-in-Refused c =
     let took : Upcoming c.args.y c.args.d.now c.loop-place.at c.loop-place.first c.in-Inside.place c.in-Inside.last =
-        upcoming _ _ _ _ _ _ (sym c.head_at-s.ensures ∙ c.in-Inside.is) in
+    upcoming _ _ _ _ _ _ (sym c.head_at-s.ensures ∙ c.in-Inside.is) in
     let q = took in
     let each = passed_refused _ _ _ _ _ _ _ _ _ _ _ c.loop-place.invariant _ _ _ q.cuts q.later (rest c.args.y c.args.d.now c.in-Inside.last) q.list _
     c.segment_answer-answer.ensures.value _ _ _ c.in-Refused.is _
@@ -93,12 +93,12 @@ overflow_add-n-in-loop-place c =
 pub returns-then-last : goal.returns-then-last
 returns-then-last c =
     let took : Upcoming c.args.y c.args.d.now c.loop-place.at c.loop-place.first c.in-Inside.place c.in-Inside.last =
-        upcoming _ _ _ _ _ _ (sym c.head_at-s.ensures ∙ c.in-Inside.is) in
+    upcoming _ _ _ _ _ _ (sym c.head_at-s.ensures ∙ c.in-Inside.is) in
     let on : Passed c.args.edition c.args.y c.args.d.now c.args.start c.args.stop (rest c.args.y c.args.d.now c.in-Inside.last c.in-Fits.end) c.segment_answer-answer.new.counts c.keep-kept.new.came c.keep-kept.result c.in-Fits.end (c.loop-place.n + 1) × (c.loop-place.at < c.in-Fits.end) × (c.in-Fits.end ≤ length c.args.d.now) =
-        let q = took in
-        passed_on _ _ _ _ _ _ _ _ _ _ _ c.loop-place.invariant _ _ _ q.cuts q.later (rest c.args.y c.args.d.now c.in-Inside.last) q.list _
-        c.segment_answer-answer.ensures.value _ _ c.in-Fits.is _ _ _
-        c.keep-kept.ensures.value c.keep-kept.ensures.undoubted_by c.segment_answer-answer.ensures.counted_on c.if-place-stop.false in
+    let q = took in
+    passed_on _ _ _ _ _ _ _ _ _ _ _ c.loop-place.invariant _ _ _ q.cuts q.later (rest c.args.y c.args.d.now c.in-Inside.last) q.list _
+    c.segment_answer-answer.ensures.value _ _ c.in-Fits.is _ _ _
+    c.keep-kept.ensures.value c.keep-kept.ensures.undoubted_by c.segment_answer-answer.ensures.counted_on c.if-place-stop.false in
     let good = c.well_formed in
     let p = (on).0 in
     let s = p.short in
@@ -108,12 +108,12 @@ returns-then-last c =
 pub loop-place-smaller : goal.loop-place-smaller
 loop-place-smaller c =
     let took : Upcoming c.args.y c.args.d.now c.loop-place.at c.loop-place.first c.in-Inside.place c.in-Inside.last =
-        upcoming _ _ _ _ _ _ (sym c.head_at-s.ensures ∙ c.in-Inside.is) in
+    upcoming _ _ _ _ _ _ (sym c.head_at-s.ensures ∙ c.in-Inside.is) in
     let on : Passed c.args.edition c.args.y c.args.d.now c.args.start c.args.stop (rest c.args.y c.args.d.now c.in-Inside.last c.in-Fits.end) c.segment_answer-answer.new.counts c.keep-kept.new.came c.keep-kept.result c.in-Fits.end (c.loop-place.n + 1) × (c.loop-place.at < c.in-Fits.end) × (c.in-Fits.end ≤ length c.args.d.now) =
-        let q = took in
-        passed_on _ _ _ _ _ _ _ _ _ _ _ c.loop-place.invariant _ _ _ q.cuts q.later (rest c.args.y c.args.d.now c.in-Inside.last) q.list _
-        c.segment_answer-answer.ensures.value _ _ c.in-Fits.is _ _ _
-        c.keep-kept.ensures.value c.keep-kept.ensures.undoubted_by c.segment_answer-answer.ensures.counted_on c.if-place-stop.false in
+    let q = took in
+    passed_on _ _ _ _ _ _ _ _ _ _ _ c.loop-place.invariant _ _ _ q.cuts q.later (rest c.args.y c.args.d.now c.in-Inside.last) q.list _
+    c.segment_answer-answer.ensures.value _ _ c.in-Fits.is _ _ _
+    c.keep-kept.ensures.value c.keep-kept.ensures.undoubted_by c.segment_answer-answer.ensures.counted_on c.if-place-stop.false in
     let p = on in
     let far = p.1 in
     let within = p.2 in
@@ -122,10 +122,10 @@ loop-place-smaller c =
 pub loop-place-preserved : goal.loop-place-preserved
 loop-place-preserved c =
     let took : Upcoming c.args.y c.args.d.now c.loop-place.at c.loop-place.first c.in-Inside.place c.in-Inside.last =
-        upcoming _ _ _ _ _ _ (sym c.head_at-s.ensures ∙ c.in-Inside.is) in
+    upcoming _ _ _ _ _ _ (sym c.head_at-s.ensures ∙ c.in-Inside.is) in
     let on : Passed c.args.edition c.args.y c.args.d.now c.args.start c.args.stop (rest c.args.y c.args.d.now c.in-Inside.last c.in-Fits.end) c.segment_answer-answer.new.counts c.keep-kept.new.came c.keep-kept.result c.in-Fits.end (c.loop-place.n + 1) × (c.loop-place.at < c.in-Fits.end) × (c.in-Fits.end ≤ length c.args.d.now) =
-        let q = took in
-        passed_on _ _ _ _ _ _ _ _ _ _ _ c.loop-place.invariant _ _ _ q.cuts q.later (rest c.args.y c.args.d.now c.in-Inside.last) q.list _
-        c.segment_answer-answer.ensures.value _ _ c.in-Fits.is _ _ _
-        c.keep-kept.ensures.value c.keep-kept.ensures.undoubted_by c.segment_answer-answer.ensures.counted_on c.if-place-stop.false in
+    let q = took in
+    passed_on _ _ _ _ _ _ _ _ _ _ _ c.loop-place.invariant _ _ _ q.cuts q.later (rest c.args.y c.args.d.now c.in-Inside.last) q.list _
+    c.segment_answer-answer.ensures.value _ _ c.in-Fits.is _ _ _
+    c.keep-kept.ensures.value c.keep-kept.ensures.undoubted_by c.segment_answer-answer.ensures.counted_on c.if-place-stop.false in
     passed_more _ _ _ _ _ _ _ _ _ _ _ _ (on).0 c.if-last.false
