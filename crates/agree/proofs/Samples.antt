@@ -1,6 +1,5 @@
 -- The definitions of rule 23 on segments worked out by hand; by computation.
 use Prim.Native.String.{String}
-use mathlib.Core.Bool.{false}
 use mathlib.Core.Path.{◌≡◌, refl}
 use Rattle.cut.specs.Base.{edifact}
 use Rattle.bytewise.specs.Bytes.{bytes_of, begins}

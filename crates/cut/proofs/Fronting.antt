@@ -8,13 +8,13 @@ use native.Mathlib.Omega.{arith}
 use lib.ListN.{length, get_or, drop, length-append, length-drop}
 use lib.Seq.{get_or-append-add, drop-append-le}
 use lib.Dec.{eqb, leb, ltb, lit<, lit≤}
-use borrow.Author.Tests.{eqb-true, eqb-false, ne_eqb, ltb-false, le-ltb, leb-true, leb-false}
+use borrow.Author.Tests.{eqb-false, ne_eqb, ltb-false, le-ltb, leb-true, leb-false}
 use Rattle.cut.specs.declared.service.Syntax.{Syntax}
 use Rattle.bytewise.specs.Bytes.{begins}
 use Rattle.cut.specs.Segments.{is_break, past, past_at}
 use Rattle.cut.specs.Admission.{limit, UNA, nine, admits, opens, unbroken, admission_of, opening_of}
 use Rattle.bytewise.proofs.Booleans.{and_both, or_neither}
-use Rattle.bytewise.proofs.Words.{begins-front, begins_more, begins-at, begins-length}
+use Rattle.bytewise.proofs.Words.{begins-front, begins_more, begins-at}
 use Rattle.cut.specs.Fronts.{UNH, Tail}
 use Rattle.cut.specs.Characters.{between, allowed_byte, may_serve, service, has, all_serve, distinct, valid}
 use Rattle.cut.proofs.Ahead.{pasts}

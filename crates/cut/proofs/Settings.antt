@@ -1,7 +1,7 @@
 -- The strict reading is document 01's to the byte, and a delivery without CR and LF is read alike by both.
 use Prim.Native.Nat.{ℕ, zero, suc, ◌+◌, ◌<◌}
 use mathlib.Core.Path.{◌≡◌, refl, sym, ◌∙◌, ap, ap₂}
-use mathlib.Core.Bool.{Bool, true, false, not, ◌&&◌, ◌||◌, and-false}
+use mathlib.Core.Bool.{Bool, true, false, not, ◌&&◌, and-false}
 use mathlib.Core.List.{List, [], ◌∷◌, ◌++◌}
 use native.Mathlib.Nat.{zero-add}
 use native.Mathlib.Omega.{arith}
@@ -11,8 +11,8 @@ use borrow.Author.Tests.{ne_eqb, eqb-false, not-true}
 use Rattle.cut.specs.declared.service.Syntax.{Syntax}
 use Rattle.bytewise.proofs.Booleans.{and_both, both-and, or_neither}
 use Rattle.cut.specs.Base.{strictly}
-use Rattle.cut.specs.Segments.{Segment, end_of, ends, frees, join, segments_from, is_break, trim, trimmed, segments_of, segments_at, past, past_at, joined}
-use Rattle.cut.specs.Admission.{admits, opens, unbroken, admission_of, opening_of, only_if, segments}
+use Rattle.cut.specs.Segments.{Segment, end_of, ends, frees, join, segments_from, is_break, trim, trimmed, segments_of, segments_at, past, joined}
+use Rattle.cut.specs.Admission.{admits, opens, admission_of, opening_of, only_if, segments}
 use Rattle.cut.specs.Characters.{has, valid}
 use Rattle.cut.proofs.Appended.{segments-joined}
 use Rattle.cut.proofs.Skips.{trim-kept, segments_are}

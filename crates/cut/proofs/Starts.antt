@@ -1,14 +1,11 @@
 -- Where segments begin: the places rise, and lie within the bytes.
-use Prim.Native.Nat.{ℕ, suc, ◌+◌, ◌≤◌, ◌<◌}
+use Prim.Native.Nat.{ℕ, suc, ◌≤◌, ◌<◌}
 use mathlib.Core.Path.{◌≡◌, refl}
-use mathlib.Core.Bool.{Bool, true, false}
+use mathlib.Core.Bool.{false}
 use mathlib.Core.List.{List, [], ◌∷◌, ◌++◌}
-use native.Mathlib.Nat.{le_refl}
 use native.Mathlib.Omega.{arith}
-use lib.ListN.{length}
 use borrow.Author.Tests.{ne_eqb, le-leb, lt-leb}
-use Rattle.cut.specs.declared.service.Syntax.{Syntax}
-use Rattle.cut.specs.Segments.{Segment, ends, frees, join, segments_from, begins_in}
+use Rattle.cut.specs.Segments.{Segment, begins_in}
 use Rattle.cut.specs.Since.{since}
 
 -- each begins at q or later, and after the one before it

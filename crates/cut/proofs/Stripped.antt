@@ -2,16 +2,15 @@
 use Prim.Native.Nat.{ℕ, ◌+◌, ◌≤◌}
 use mathlib.Core.Path.{◌≡◌, refl, sym, ◌∙◌, ap, ap₂}
 use mathlib.Core.Bool.{Bool, true, false, cond, not, ◌&&◌, and-false, true≢false}
-use mathlib.Core.List.{List, [], ◌∷◌, ◌++◌, map, append-nil, head-eq_of_cons-eq, tail-eq_of_cons-eq, nil≢cons}
+use mathlib.Core.List.{List, [], ◌∷◌, ◌++◌, map, head-eq_of_cons-eq, tail-eq_of_cons-eq, nil≢cons}
 use native.Mathlib.Nat.{add-zero}
-use native.Mathlib.Omega.{arith}
 use lib.ListN.{length, drop}
 use lib.Dec.{eqb}
 use borrow.Author.Tests.{eq-eqb, le-ltb}
 use Rattle.cut.specs.declared.service.Syntax.{Syntax}
 use Rattle.bytewise.specs.Bytes.{begins}
 use Rattle.cut.specs.Base.{strictly}
-use Rattle.cut.specs.Segments.{Segment, end_of, segments_from, trimmed, segments_of, segments_at, joined}
+use Rattle.cut.specs.Segments.{Segment, end_of, segments_from, segments_of, segments_at, joined}
 use Rattle.cut.specs.Admission.{limit, UNA, nine, admits, opens, only_if, opening_of, segments}
 use Rattle.cut.specs.Fronts.{moved, whole, after, glued, meet}
 use Rattle.cut.proofs.Appended.{segments-append, cuts_moved}

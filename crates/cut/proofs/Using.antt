@@ -2,7 +2,7 @@
 use Prim.Native.Nat.{ℕ, zero, suc, ◌-◌, ◌≤◌, ◌<◌}
 use mathlib.Core.Path.{◌≡◌, refl, sym, ◌∙◌, ap}
 use mathlib.Core.Bool.{Bool, true, false, cond, not, ◌&&◌, ◌||◌, and-false, true≢false, false≢true}
-use mathlib.Core.List.{List, [], ◌∷◌, ◌++◌}
+use mathlib.Core.List.{List, [], ◌∷◌}
 use mathlib.Core.Logic.{◌↔◌}
 use native.Mathlib.Omega.{arith}
 use lib.ListN.{length, get_or, drop, take-append-drop}
@@ -12,7 +12,7 @@ use Rattle.cut.specs.declared.service.Syntax.{Syntax}
 use Rattle.bytewise.specs.Bytes.{part, begins}
 use Rattle.bytewise.proofs.Words.{begins-at, begins-length}
 use Rattle.cut.specs.Characters.{between, allowed_byte, may_serve, service, has, valid}
-use Rattle.cut.specs.Segments.{is_break, past, past_at, breaks}
+use Rattle.cut.specs.Segments.{is_break, past, past_at}
 use Rattle.cut.specs.Admission.{limit, UNA, nine, admits, unbroken, admission_of}
 use Rattle.cut.specs.Used.{named, plainly, una_place, characters_of}
 use Rattle.cut.specs.Readable.{HasUNA, Unreadable, short_UNA, reserved, of_UNA, handed_in}
@@ -20,7 +20,6 @@ use Rattle.cut.specs.Fronts.{UNH}
 use Rattle.cut.proofs.Ahead.{pasts}
 use Rattle.cut.proofs.Fronting.{has-not, no_letter, U_kept, unh_una, unh_unbroken}
 use Rattle.cut.proofs.Empty.{unbroken-behind}
-use Rattle.cut.proofs.cutting.Breaking.{break_high, break_strict}
 
 module _ (y : Syntax) (d : List ℕ) where
   -- a delivery's own characters, handed in for it

@@ -2,7 +2,6 @@
 use Rattle.std.specs.Prelude.{ℕ, cond, List, get_or}
 use Rattle.cut.specs.declared.service.Syntax.{Syntax}
 use Rattle.bytewise.specs.Bytes.{begins}
-use Rattle.cut.specs.Base.{edifact}
 use Rattle.cut.specs.Admission.{UNA, unbroken}
 
 -- "Honour the nine bytes as ISO 9735 orders them": the five that bytes which begin UNA name; 0 where there is no byte

@@ -5,7 +5,7 @@ use mathlib.Core.List.{[], ◌∷◌}
 use Rattle.cut.specs.Segments.{frees}
 use Rattle.cut.specs.Base.{edifact}
 use Rattle.clean.specs.Clean.{between, allowed_byte, capital, ends_tag, lettered, tagged_bytes}
-use Rattle.element.specs.Elements.{ending_of, stays, releases, before, split_from, elements, component}
+use Rattle.element.specs.Elements.{ending_of, stays, releases, before, split_from, elements}
 use Rattle.element.specs.Components.{in_element, in_elements, width, components, span_in}
 
 -- bytes 31 and 127 to 159 are not allowed, those beside them are

@@ -28,7 +28,7 @@ use Rattle.guide.specs.Refusal.{FaultAfter, piece, byte, tag, place, content, Fa
 use Rattle.guide.specs.Pricat.{pricat20d, pricat20c}
 use Rattle.guide.specs.Editions.{guide_of}
 use Rattle.guide.specs.workers.Checks.{every, implies}
-use Rattle.guide.proofs.Basics.{T_true, and_right, implied, eq-T, every-at}
+use Rattle.guide.proofs.Basics.{T_true, and_right, implied, every-at}
 use Rattle.guide.proofs.tables.Tables.{in_table, takes-limit}
 
 -- the bytes of a segment, at least

@@ -1,5 +1,5 @@
 -- Document 01, 'Sheets on both sides of each rule': rows a to l, structure only; and sheets of request 2.
-use Rattle.std.specs.Prelude.{ℕ, ◌≡◌, Bool, true, false, ◌&&◌, cond, List, [], ◌∷◌, ◌++◌, map, eqb}
+use Rattle.std.specs.Prelude.{ℕ, ◌≡◌, ◌&&◌, cond, List, [], ◌∷◌, ◌++◌, map, eqb}
 use Prim.Native.String.{String}
 use Rattle.guide.specs.Nodes.{View, Guide, number_of}
 use Rattle.bytewise.specs.Bytes.{bytes_of}

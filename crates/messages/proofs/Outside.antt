@@ -1,5 +1,5 @@
 -- What stands outside, in one walk: the state is whether a message is open.
-use Prim.Native.Nat.{ℕ, suc, ◌+◌, ◌≤◌, ◌<◌}
+use Prim.Native.Nat.{ℕ, suc, ◌≤◌, ◌<◌}
 use mathlib.Core.Path.{◌≡◌, refl, ◌∙◌, ap}
 use mathlib.Core.Bool.{Bool, true, false}
 use mathlib.Core.List.{List, [], ◌∷◌, ◌++◌}
@@ -8,9 +8,9 @@ use native.Mathlib.Omega.{arith}
 use borrow.Author.Tests.{eq-eqb, ne_eqb}
 use Rattle.messages.specs.declared.tags.Tag.{Tag}
 use Rattle.messages.specs.declared.tags.Tag.TheVariants.{Unh, Unt, Unz, Other}
-use Rattle.cut.specs.Segments.{Segment, begins_in, keep_if}
+use Rattle.cut.specs.Segments.{Segment, begins_in}
 use Rattle.messages.specs.Messages.{Message, tag_of, follow, body, begin, messages_in, inside, others, outside_in}
-use Rattle.messages.specs.workers.Walks.{out_by, open_by, left_over}
+use Rattle.messages.specs.workers.Walks.{left_over}
 use Rattle.cut.proofs.Starts.{Rising}
 
 -- each begins at q or later

@@ -8,7 +8,7 @@ use Rattle.cut.specs.declared.service.Syntax.{Syntax}
 use Rattle.cut.specs.Base.{strictly}
 use Rattle.cut.specs.Admission.{limit, segments}
 use Rattle.cut.specs.Characters.{has}
-use Rattle.cut.proofs.Stripped.{placeless, stripped, delivery_is_strict}
+use Rattle.cut.proofs.Stripped.{stripped, delivery_is_strict}
 use Rattle.cut.proofs.Settings.{without_breaks}
 use Rattle.messages.specs.Messages.{Message, messages_in, messages}
 use Rattle.messages.proofs.walks.Grouping.{restarted_message, messages_restarted}

@@ -96,5 +96,5 @@ ended_both y d row row₁ row' first c letter ns v n s k put l behind room =
     ∙ ap (λ (i : ℕ). put_at i (line_of letter ns) (put_at 0 first row)) (sym z)
     ∙ sym (put-append 0 first (line_of letter ns) row) in
     let some = line-some letter ns in
-    wrote d (first ++ line_of letter ns) row row' (first ++ line_of letter ns) n _ all (omega (arith, k.0, l.0, e, a)) (omega (arith, k.1, l.0, l.1, e, a, k.0))
-    (omega (arith, a)) (sym (append-nil (first ++ line_of letter ns))) s
+    wrote d (first ++ line_of letter ns) row row' (first ++ line_of letter ns) n _ all (omega (arith, k.0, l.0, e, a))
+    (omega (arith, k.1, l.0, l.1, e, a, k.0)) (omega (arith, a)) (sym (append-nil (first ++ line_of letter ns))) s

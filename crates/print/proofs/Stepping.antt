@@ -1,7 +1,7 @@
 -- A step, by the printer's stage.
 use Prim.Native.Nat.{ℕ, ◌<◌}
-use mathlib.Core.Path.{◌≡◌, refl, sym, subst}
-use mathlib.Core.Bool.{Bool, true, false, not, true≢false, false≢true}
+use mathlib.Core.Path.{◌≡◌, refl, sym, ◌∙◌, subst}
+use mathlib.Core.Bool.{Bool, true, false}
 use mathlib.Core.List.{List, [], ◌∷◌}
 use lib.ListN.{length}
 use Rattle.price.specs.declared.cursor.Cursor.{Cursor}
@@ -13,19 +13,17 @@ use Rattle.print.specs.declared.state.Printed.TheVariants as printed
 use Rattle.print.specs.Report.{line_of}
 use Rattle.print.specs.Printing.{left_from, left_among, left_within, left_in, left_to, sound, least, Wrote, Stepped}
 
-pub is-sound : (b t : Bool) → b ≡ t → not b ≡ false → t ≡ true
-is-sound true t e h = sym e
-is-sound false t e h = absurd (true≢false h)
+pub is-sound : (b t : Bool) → b ≡ t → b ≡ true → t ≡ true
+is-sound b t e h = sym e ∙ h
 
 module _ (d : List ℕ) (p : Printer) (row : List ℕ) where
   pub stepped-short : length row < least → Stepped d p row row printed.Short
   unfolding Stepped
   stepped-short h = (h, refl)
 
-  pub stepped_foreign : (b : Bool) → b ≡ sound p.counts → not b ≡ true → Stepped d p row row printed.Foreign
+  pub stepped_foreign : (b : Bool) → b ≡ sound p.counts → b ≡ false → Stepped d p row row printed.Foreign
   unfolding Stepped
-  stepped_foreign true e h = absurd (false≢true h)
-  stepped_foreign false e h = (sym e, refl)
+  stepped_foreign b e h = (sym e ∙ h, refl)
 
   pub stepped_ended : p.stage ≡ stage.Ended → Stepped d p row row printed.Ended
   unfolding Stepped left_to left_in

@@ -104,7 +104,9 @@ pub last_wrote
     (record { length = n; next = record { syntax = y; counts = c; stage = stage.Ended } })
 unfolding last_lines envelope_line
 last_wrote y d row row₁ row' c x v n s e k l room =
-    let k' = subst (λ (z : Enveloped). ((v ≡ length (line_of 86 (envelope_numbers z))) × (v ≤ 44)) × (row₁ ≡ put_at 0 (line_of 86 (envelope_numbers z)) row)) e k in
+    let P : Enveloped → Type 0 =
+    λ z. ((v ≡ length (line_of 86 (envelope_numbers z))) × (v ≤ 44)) × (row₁ ≡ put_at 0 (line_of 86 (envelope_numbers z)) row) in
+    let k' = subst P e k in
     ended_both y d row row₁ row' (line_of 86 (envelope_numbers (envelope_of y d))) c 69 (c.messages ∷ c.accepted ∷ c.outside ∷ []) v n s k'.0 k'.1
     l.0 l.1 (omega (arith, room))
 

@@ -9,22 +9,10 @@ use Rattle.cut.specs.declared.service.Syntax.{Syntax}
 use Rattle.messages.specs.Messages.{Message, start_of, close_of}
 use Rattle.element.specs.declared.components.Span.{Span}
 use Rattle.guide.specs.Choices.{pickℕ}
-use Rattle.price.specs.Calls.{prices_in, first_article, article_at as article_in}
+use Rattle.price.specs.Calls.{first_article, article_at as article_in}
 use Rattle.price.specs.Numbers.{Listed}
 use Rattle.price.proofs.inside.Parted.{article-in}
-use Rattle.schaumtruhe.specs.Calls.{
-  Sheet,
-  stands,
-  missing,
-  sheet_at,
-  listed,
-  article_refusal_by,
-  article_refusal,
-  at_start,
-  article_unless,
-  article_by,
-  article_at,
-}
+use Rattle.schaumtruhe.specs.Calls.{Sheet, stands, missing, sheet_at, article_refusal, at_start, article_unless, article_by, article_at}
 use Rattle.schaumtruhe.specs.workers.Answers.{standing_of, refusal_by}
 use Rattle.schaumtruhe.specs.declared.sheets.Standing.{Standing}
 use Rattle.schaumtruhe.specs.declared.sheets.Standing.TheVariants.{Accepted, Refused}

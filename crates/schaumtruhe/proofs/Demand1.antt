@@ -1,6 +1,6 @@
 -- Demand 1 over a delivery and a place: "A refusal is one of the numbers in document 01 .., given exactly when its row and the order laid down
 -- with it say, and it writes nothing into lent memory." For each call.
-use Prim.Native.Nat.{ℕ, zero, suc, ◌≤◌}
+use Prim.Native.Nat.{ℕ, suc, ◌≤◌}
 use mathlib.Core.Path.{◌≡◌, refl, sym, ◌∙◌, ap, subst}
 use mathlib.Core.Bool.{Bool, true, false}
 use mathlib.Core.Logic.{◌↔◌, ◌⊎◌, inl, inr}
@@ -11,7 +11,6 @@ use lib.IntN.{ℤ}
 use lib.ListN.{length}
 use borrow.Author.Tests.{ltb-false, le-ltb}
 use Rattle.cut.specs.declared.service.Syntax.{Syntax}
-use Rattle.cut.specs.Admission.{admission_of}
 use Rattle.messages.specs.Messages.{Message, start_of, close_of}
 use Rattle.guide.specs.Accepted.{segments_of, Accepted}
 use Rattle.guide.specs.Choices.{pickℕ}
@@ -24,40 +23,9 @@ use Rattle.price.specs.Sheet.{prices_in_tree}
 use Rattle.price.proofs.Face.{prices-tree}
 use Rattle.verdict.specs.Named.{edition_of, guide_named, pages_named}
 use Rattle.schaumtruhe.proofs.pricing.Named.{named-priced}
-use Rattle.schaumtruhe.specs.Calls.{
-  nowhere,
-  verdict_at,
-  judged,
-  Sheet,
-  stands,
-  missing,
-  sheet_by,
-  sheet_at,
-  listed,
-  survey_unless,
-  survey_of,
-  priced_by,
-  priced_at,
-  row_at,
-  article_refusal,
-}
-use Rattle.schaumtruhe.specs.Demands.{
-  DeliveryRefused,
-  Begins,
-  NoMessage,
-  VerdictRefused,
-  no_message,
-  of_message,
-  Stands,
-  VerdictAccepted,
-  PricesRefused,
-  not_accepted,
-  ArticleRefused,
-  no_prices,
-  no_price,
-}
+use Rattle.schaumtruhe.specs.Calls.{nowhere, verdict_at, judged, Sheet, stands, missing, sheet_by, sheet_at, listed, survey_of, priced_by, priced_at, row_at, article_refusal}
+use Rattle.schaumtruhe.specs.Demands.{DeliveryRefused, VerdictRefused, no_message, of_message, Stands, VerdictAccepted, PricesRefused, not_accepted, ArticleRefused, no_prices, no_price}
 use Rattle.schaumtruhe.specs.declared.pricing.Priced.TheVariants as priced
-use Rattle.schaumtruhe.specs.declared.surveys.Surveyed.{Surveyed}
 use Rattle.schaumtruhe.specs.declared.surveys.Surveyed.TheVariants as surveyed
 use Rattle.schaumtruhe.proofs.places.Asked.{
   Admission,

@@ -1,7 +1,7 @@
 -- Demand 2 over a delivery and a place: `judge-accepts` and `judge-refuses` (proofs/Demand1) say when a message is accepted and what a refusal
 -- gives; here "Prices of an accepted message are exact, complete and in message order".
 use Prim.Native.Nat.{ℕ, ◌-◌, ◌/◌, ◌<◌, min}
-use mathlib.Core.Path.{◌≡◌, sym, ◌∙◌, ap, subst}
+use mathlib.Core.Path.{◌≡◌, ◌∙◌, ap, subst}
 use mathlib.Core.List.{List, ◌∷◌}
 use native.Mathlib.Omega.{arith}
 use lib.IntN.{ℤ}

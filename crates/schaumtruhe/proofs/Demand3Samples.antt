@@ -1,7 +1,7 @@
 -- Demand 3 at the service characters `:+.?'`: fronts that meet what it asks, by computation, and what it then says in numbers.
 use Prim.Native.Nat.{ℕ, ◌+◌}
 use mathlib.Core.Path.{◌≡◌, refl, sym, ◌∙◌, ap, subst}
-use mathlib.Core.Bool.{true, false}
+use mathlib.Core.Bool.{false}
 use mathlib.Core.List.{List, [], ◌∷◌, ◌++◌, Memᴰ}
 use lib.ListN.{length, drop}
 use Rattle.cut.specs.Admission.{segments, nine}

@@ -1,7 +1,7 @@
 -- A refusal is unique: document 01's rows and their order give one number for each call, one segment, place and node, and none where the call is
 -- answered. For the whole delivery: `one-refusal` and `none-admitted` (proofs/places/Asked).
 use Prim.Native.Nat.{ℕ, ◌≤◌, ◌<◌}
-use mathlib.Core.Path.{◌≡◌, sym, ◌∙◌, ap, subst}
+use mathlib.Core.Path.{◌≡◌, sym, ◌∙◌, ap}
 use mathlib.Core.List.{List}
 use native.Mathlib.Omega.{arith}
 use lib.ListN.{length}
@@ -9,7 +9,6 @@ use Rattle.cut.specs.declared.service.Syntax.{Syntax}
 use Rattle.messages.specs.Messages.{Message}
 use Rattle.guide.specs.Answers.{refuses}
 use Rattle.guide.proofs.judging.Verdicts.{accepts_refuses}
-use Rattle.price.specs.Numbers.{Listed}
 use Rattle.price.specs.Sheet.{prices_in_tree}
 use Rattle.verdict.specs.Named.{guide_named}
 use Rattle.schaumtruhe.specs.Calls.{stands, missing, listed}

@@ -1,5 +1,5 @@
 -- What each public call answers, for every delivery, place and number, in document 01's order of refusals: 1, 2, 31, 30, 32.
-use Rattle.std.specs.Prelude.{ℕ, zero, suc, Bool, true, false, cond, List, [], ◌∷◌, ◌++◌, eqb, ltb, ℤ, length, drop}
+use Rattle.std.specs.Prelude.{ℕ, zero, suc, cond, List, [], ◌∷◌, ◌++◌, eqb, ltb, ℤ, length, drop}
 use Rattle.std.specs.Borrow.{Bor}
 use Rattle.cut.specs.declared.service.Syntax.{Syntax}
 use Rattle.cut.specs.Admission.{admission_of}

@@ -1,6 +1,6 @@
 -- Demands 1 and 2 over a delivery and a place, in the words of document 01's table of refusals. Declarative: it cites what a message is, when
 -- it is accepted and when refused by the guide named in its UNH, and nothing that searches or judges.
-use Rattle.std.specs.Prelude.{ℕ, suc, ◌≤◌, ◌<◌, ◌≡◌, true, false, length}
+use Rattle.std.specs.Prelude.{ℕ, ◌≤◌, ◌<◌, ◌≡◌, true, false, length}
 use mathlib.Core.List.{List, ◌++◌, Memᴰ}
 use Rattle.cut.specs.declared.service.Syntax.{Syntax}
 use Rattle.bytewise.specs.Bytes.{begins}

@@ -1,5 +1,5 @@
 -- Counts. Document 01, 'Message rules': "Counts and position numbers are digits alone, without leading zeros".
-use Rattle.std.specs.Prelude.{ℕ, Bool, true, false, not, ◌&&◌, cond, List, [], ◌∷◌, length, leb, eqb}
+use Rattle.std.specs.Prelude.{ℕ, Bool, false, not, ◌&&◌, cond, List, [], ◌∷◌, length, leb, eqb}
 use Rattle.value.specs.declared.counts.Count.{Count}
 use Rattle.value.specs.declared.counts.Count.TheVariants.{Is, Nothing}
 use Rattle.value.specs.Numeral.{some, none, behind_digits, decimal}

@@ -1,6 +1,6 @@
 -- Whether a byte is a line break, told by its tests.
 use Prim.Native.Nat.{ℕ, ◌<◌}
-use mathlib.Core.Path.{◌≡◌, refl, sym, ◌∙◌}
+use mathlib.Core.Path.{◌≡◌, refl, ◌∙◌}
 use mathlib.Core.Bool.{Bool, true, false, not, ◌&&◌, ◌||◌, and-false, or-true}
 use native.Mathlib.Omega.{arith}
 use lib.Dec.{eqb}

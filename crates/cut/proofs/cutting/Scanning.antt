@@ -11,7 +11,6 @@ use lib.Seq.{drop-cons}
 use lib.Dec.{eqb}
 use borrow.Author.Tests.{eq-eqb, ne_eqb, eqb-true}
 use Rattle.cut.specs.declared.service.Syntax.{Syntax}
-use Rattle.cut.specs.declared.scan.Cut.{Cut}
 use Rattle.cut.specs.declared.scan.Cut.TheVariants as cut
 use Rattle.cut.specs.Segments.{Segment, ends, frees, join, segments_from}
 use Rattle.cut.specs.Calls.{head_cut, cut_from}

@@ -1,7 +1,6 @@
 -- The first LIN that agrees with an earlier one is one: of two splits of a list neither front reaches over the other's element.
-use Prim.Native.Nat.{ℕ, suc, ◌+◌, ◌≤◌, ◌<◌}
+use Prim.Native.Nat.{ℕ, ◌≤◌, ◌<◌}
 use mathlib.Core.Path.{◌≡◌, sym, ap, ◌∙◌, subst}
-use mathlib.Core.Bool.{true}
 use mathlib.Core.Logic.{◌⊎◌, inl, inr}
 use mathlib.Core.List.Memᴰ
 use mathlib.Core.List.{
@@ -20,8 +19,8 @@ use Rattle.cut.specs.declared.service.Syntax.{Syntax}
 use Rattle.bytewise.specs.Bytes.{bytes_of}
 use Rattle.cut.specs.Segments.{Segment}
 use Rattle.guide.specs.Nodes.{Guide}
-use Rattle.guide.specs.Tree.{Kids, Given, giving, assigned}
-use Rattle.guide.specs.Sheet.{Position, is_tag, with_tag, positions_in}
+use Rattle.guide.specs.Tree.{Kids, Given, giving}
+use Rattle.guide.specs.Sheet.{Position, is_tag, with_tag}
 use Rattle.guide.specs.Accepted.{Each, Agree, Distinct}
 use Rattle.guide.specs.Refusal.{Repeated}
 use Rattle.guide.proofs.Basics.{true-T}

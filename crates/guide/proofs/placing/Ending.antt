@@ -8,7 +8,7 @@ use native.Mathlib.Omega.{arith}
 use lib.ListN.{length}
 use lib.Dec.{T, eqb}
 use borrow.Author.Tests.{eqb-true, eqb-false}
-use Rattle.guide.specs.Nodes.{View, Guide, node, takes, required}
+use Rattle.guide.specs.Nodes.{View, Guide, node, required}
 use Rattle.guide.specs.Tree.{Kids, none, then, one, count, top, Complete, Next, Closed, Open, Whole, Beginning}
 use Rattle.guide.specs.workers.Placing.{start, run}
 use Rattle.guide.specs.workers.Runs.{GoesTo}

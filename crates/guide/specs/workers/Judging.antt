@@ -1,7 +1,7 @@
 -- The verdict of a message, agreeing positions aside, by placing one segment after the other. Document 01, 'Refusal numbers': "In a message the first
 -- segment with a fault decides; within it 12, 10, 11, 13, 15 or 16, 14, then components left to right (18, 17, 19, 20 at each), then 21 or 22", and
 -- request 2's 25 "after 15 and 16"; item 10: "16 ends".
-use Rattle.std.specs.Prelude.{ℕ, zero, suc, ◌+◌, Bool, true, false, not, ◌&&◌, cond, List, [], ◌∷◌, eqb}
+use Rattle.std.specs.Prelude.{ℕ, zero, suc, ◌+◌, Bool, false, not, ◌&&◌, cond, List, [], ◌∷◌, eqb}
 use Rattle.cut.specs.declared.service.Syntax.{Syntax}
 use Rattle.bytewise.specs.Bytes.{bytes_of}
 use Rattle.cut.specs.Segments.{Segment, end_of}

@@ -1,5 +1,5 @@
 -- The first fault of a segment against its page. Document 01, 'Refusal numbers': "components left to right (18, 17, 19, 20 at each)".
-use Rattle.std.specs.Prelude.{ℕ, Bool, true, false, not, ◌&&◌, ◌||◌, List, [], ◌∷◌, drop}
+use Rattle.std.specs.Prelude.{ℕ, Bool, false, not, ◌&&◌, ◌||◌, List, [], ◌∷◌, drop}
 use Rattle.cut.specs.declared.service.Syntax.{Syntax}
 use Rattle.element.specs.Elements.{elements}
 use Rattle.plain.specs.Plain.{plain}

@@ -1,6 +1,6 @@
 -- Placing one segment after another: the first fault in the order 13, 15, 25 (request 2), 14. The state is the last node and how often each
 -- node has come in the open instance of its parent; no tree is kept.
-use Rattle.std.specs.Prelude.{ℕ, zero, suc, ◌-◌, Bool, true, false, not, ◌&&◌, ◌||◌, cond, List, [], ◌∷◌, length, get_or, replicate, eqb, ltb, leb}
+use Rattle.std.specs.Prelude.{ℕ, zero, suc, ◌-◌, Bool, not, ◌&&◌, ◌||◌, cond, List, [], ◌∷◌, length, get_or, replicate, eqb, ltb, leb}
 use Rattle.guide.specs.Choices.{pickℕ, or_else}
 use Rattle.guide.specs.Answers.{Answer, placed, refused}
 use Rattle.guide.specs.Nodes.{View, Guide, node, matches, required, over}

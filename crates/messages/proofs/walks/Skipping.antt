@@ -5,7 +5,7 @@ use mathlib.Core.Bool.{Bool, true, false, cond, not, ◌&&◌, true≢false}
 use mathlib.Core.List.{List, [], ◌∷◌, ◌++◌, append-nil}
 use native.Mathlib.Nat.{add-zero, le_refl}
 use native.Mathlib.Omega.{arith}
-use lib.ListN.{length, get_or, drop}
+use lib.ListN.{length, get_or}
 use lib.Dec.{eqb, ltb}
 use borrow.Author.Tests.{eq-eqb, ltb-true, ltb-false}
 use Rattle.cut.specs.declared.service.Syntax.{Syntax}
@@ -19,7 +19,7 @@ use Rattle.cut.proofs.Backing.{Back, backs}
 use Rattle.messages.specs.Messages.{tag_of, body}
 use Rattle.messages.specs.workers.Walks.{NoU, Skipped}
 use Rattle.bytewise.proofs.Booleans.{and_both}
-use Rattle.bytewise.proofs.Parts.{length_part, part_none, part-last, part-parts}
+use Rattle.bytewise.proofs.Parts.{part_none, part-last, part-parts}
 use Rattle.bytewise.proofs.Limits.{part_out}
 use Rattle.cut.proofs.Appended.{meet-whole}
 use Rattle.cut.proofs.Skips.{segments_of_none}

@@ -1,12 +1,11 @@
 -- A component is one of a row's codes exactly if its number is that of one.
 use Prim.Native.Nat.{ℕ, zero, suc, ◌+◌, ◌-◌, ◌/◌, ◌%◌, ◌≤◌, ◌<◌}
-use mathlib.Core.Bool.{Bool, true, false, ◌||◌, or-false, or_assoc}
-use mathlib.Core.Path.{◌≡◌, refl, sym, ◌∙◌}
+use mathlib.Core.Bool.{Bool, true, ◌||◌, or-false, or_assoc}
+use mathlib.Core.Path.{◌≡◌, refl, ◌∙◌}
 use mathlib.Core.List.{List, [], ◌∷◌}
 use native.Mathlib.Omega.{arith}
 use lib.ListN.{get_or}
 use lib.Dec.{T, eqb}
-use borrow.Author.Tests.{eq-eqb, ne_eqb}
 use Rattle.plain.specs.Words.{Bytes, packed, word_of}
 use Rattle.plain.proofs.Packing.{is_short, all_short, word_same}
 use Rattle.guide.specs.Nodes.{among, chosen}

@@ -16,7 +16,6 @@ use Rattle.cut.proofs.Skips.{segments_of_none}
 use Rattle.bytewise.proofs.Parts.{part-part, length_part}
 use Rattle.element.specs.Components.{component_at, span_in}
 use Rattle.element.specs.declared.components.Span.{Span}
-use Rattle.element.proofs.ComponentFace as face
 use Rattle.bytewise.proofs.Limits.{part_out, part-front}
 use Rattle.guide.specs.Accepted.{Each}
 use Rattle.price.specs.declared.spots.Held.{Held}

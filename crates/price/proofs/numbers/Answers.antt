@@ -28,7 +28,7 @@ use Rattle.price.specs.declared.spots.Spot.TheVariants.{At, Nothing}
 use Rattle.price.specs.declared.spots.Held.{Held}
 use Rattle.price.specs.Numbers.{article_in, article_place, article_length, price_in, amount_of, decimals_of, unit_rank, place_of_first, numbers_of}
 use Rattle.price.specs.Listing.{rng_by}
-use Rattle.price.specs.workers.Parts.{rng_in, listed_in, Within}
+use Rattle.price.specs.workers.Parts.{rng_in, listed_in}
 
 -- an article that stands, and one that is absent
 pub article-stands : (base : ℕ) (a : Span) (z : ℤ) → a.start < a.end → z ≡ pos (a.start - base) → z ≡ article_place base a

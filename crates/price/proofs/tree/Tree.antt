@@ -12,7 +12,7 @@ use Rattle.cut.specs.declared.service.Syntax.{Syntax}
 use Rattle.bytewise.specs.Bytes.{bytes_of}
 use Rattle.cut.specs.Segments.{Segment}
 use Rattle.plain.specs.Plain.{same}
-use Rattle.guide.specs.Nodes.{Guide, node, takes}
+use Rattle.guide.specs.Nodes.{Guide, node}
 use Rattle.guide.specs.Tree.{Kids, none, then, one, segs, Limits, Next, Closed, Whole}
 use Rattle.guide.specs.Sheet.{Price, Position, only_if, children_with, prices_of as prices_under, position, positions_in}
 use Rattle.guide.specs.Accepted.{seen}

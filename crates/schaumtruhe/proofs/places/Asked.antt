@@ -18,7 +18,7 @@ use Rattle.cut.proofs.Ahead.{pasts}
 use Rattle.cut.proofs.Fronting.{U_kept}
 use Rattle.cut.proofs.Empty.{unbroken-behind}
 use Rattle.messages.specs.Messages.{Message, start_of, messages}
-use Rattle.schaumtruhe.specs.Calls.{beginning_at, nowhere, verdict_at, judged, Sheet, missing, sheet_by, sheet_at}
+use Rattle.schaumtruhe.specs.Calls.{beginning_at, nowhere, verdict_at, judged, missing, sheet_by, sheet_at}
 use Rattle.schaumtruhe.proofs.places.Only.{only_here}
 use Rattle.schaumtruhe.specs.Demands.{TooLong, OtherUNA, Admitted, DeliveryRefused, too_long, unusable, other_UNA}
 use Rattle.schaumtruhe.specs.Demands.{Begins, NoMessage, whole_delivery, none_begins}

@@ -6,7 +6,7 @@ use mathlib.Core.List.{List, [], ◌∷◌, head-eq_of_cons-eq, nil≢cons}
 use native.Mathlib.Omega.{arith}
 use lib.Dec.{eqb, leb}
 use lib.ListN.{length}
-use borrow.Author.Tests.{eq-eqb, ne_eqb, eqb-true, leb-false}
+use borrow.Author.Tests.{eq-eqb, ne_eqb, leb-false}
 use Rattle.cut.specs.declared.service.Syntax.{Syntax}
 use Rattle.messages.specs.declared.found.Found.{Found}
 use Rattle.messages.specs.declared.found.Found.TheVariants as found
@@ -16,7 +16,7 @@ use Rattle.cut.specs.Segments.{segments_at}
 use Rattle.messages.specs.Messages.{Message, start_of, close_of, messages}
 use Rattle.messages.specs.Held.{held}
 use Rattle.messages.specs.Calls.{as_found, is_found, found_at, message_at}
-use Rattle.messages.proofs.Face.{keep_message, messages_from, Next, next-message, message-at}
+use Rattle.messages.proofs.Face.{keep_message, messages_from, next-message, message-at}
 use Rattle.guide.specs.Accepted.{segments_of}
 use Rattle.schaumtruhe.specs.Calls.{beginning_at}
 

@@ -12,9 +12,8 @@ use Rattle.price.specs.Calls.{prices_in, filled_of, row_after}
 use Rattle.price.specs.Listing.{prices_of}
 use Rattle.price.specs.Numbers.{Listed}
 use Rattle.price.specs.declared.filling.Filled.{Filled}
-use Rattle.schaumtruhe.specs.Calls.{Sheet, stands, missing, sheet_at, listed, written, priced_by, row_by, priced_at, row_at}
+use Rattle.schaumtruhe.specs.Calls.{Sheet, stands, missing, sheet_at, listed, written, priced_at, row_at}
 use Rattle.schaumtruhe.specs.workers.Answers.{standing_of, refusal_by}
-use Rattle.schaumtruhe.specs.declared.pricing.Priced.{Priced}
 use Rattle.schaumtruhe.specs.declared.pricing.Priced.TheVariants as priced
 use Rattle.schaumtruhe.specs.declared.sheets.Standing.{Standing}
 use Rattle.schaumtruhe.specs.declared.sheets.Standing.TheVariants.{Accepted, Refused}

@@ -18,7 +18,6 @@ use Rattle.messages.proofs.Outside.{outside-walk}
 use Rattle.messages.proofs.Passing.{Begun, begun, left, none_left}
 use Rattle.cut.proofs.Places.{admitted}
 use Rattle.cut.proofs.Ahead.{none-past}
-use Rattle.guide.specs.Answers.{accepts}
 use Rattle.verdict.specs.Answers.{declared, judged_as}
 use Rattle.verdict.specs.Verdicts.{verdict_named}
 use Rattle.verdict.specs.declared.answers.Judged.{Judged as JudgedAt}

@@ -1,6 +1,5 @@
 -- `agree::agreement::segments_agree` meets its contract. The loop's invariant: the walk from here on gives the answer.
 use mathlib.Core.Path.{sym, ◌∙◌}
-use borrow.Author.Tests.{not-true, not-false}
 use Rattle.agree.proofs.agreement.Walk.{walk_begins, walk_ended, walk-differs, walk_on, walk_less}
 use Rattle.agree.proofs.agreement.segments_agree.Goals as goal
 

@@ -1,5 +1,4 @@
 -- `agree::earlier::agrees_at` meets its contract.
-use borrow.Author.Tests.{not-true, not-false}
 use Rattle.agree.proofs.earlier.Search.{no-lin, lin-agrees}
 use Rattle.agree.proofs.earlier.agrees_at.Goals as goal
 

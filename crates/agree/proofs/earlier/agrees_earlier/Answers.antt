@@ -1,6 +1,5 @@
 -- `agree::earlier::agrees_earlier` meets its contract. The loop's invariant: the segments that are left give the answer.
 use mathlib.Core.Path.{refl, sym, ◌∙◌}
-use mathlib.Core.Bool.{false}
 use Rattle.cut.proofs.Ahead.{CutAhead, cut_ahead, none_ahead}
 use Rattle.agree.proofs.earlier.Search.{seeks_agree, any_none, any_found, any_on, any_out}
 use borrow.Author.Rules.{rules}

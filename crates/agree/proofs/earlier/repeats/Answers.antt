@@ -1,5 +1,4 @@
 -- `agree::earlier::repeats` meets its contract.
-use borrow.Author.Tests.{not-true, not-false}
 use Rattle.agree.proofs.earlier.Search.{no-lin, lin-agrees-any}
 use Rattle.agree.proofs.earlier.repeats.Goals as goal
 

@@ -1,5 +1,4 @@
 -- `agree::first::first_from` meets its contract. The loop's invariant: `Searched`.
-use Prim.Native.Nat.{◌-◌}
 use native.Mathlib.Omega.{arith}
 use Rattle.agree.proofs.earlier.Search.{search_first, search_end}
 use Rattle.agree.proofs.first.first_from.Goals as goal

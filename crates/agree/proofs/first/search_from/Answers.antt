@@ -1,6 +1,4 @@
 -- `agree::first::search_from` meets its contract. The loop's invariant: `Searched`.
-use Prim.Native.Nat.{◌-◌}
-use mathlib.Core.Bool.{false}
 use mathlib.Core.Path.{sym, ◌∙◌}
 use native.Mathlib.Omega.{arith}
 use Rattle.cut.proofs.Ahead.{CutAhead, cut_ahead, none_ahead}

@@ -1,5 +1,4 @@
 -- `agree::headings::heads_agree` meets its contract.
-use borrow.Author.Tests.{not-true, not-false}
 use Rattle.agree.proofs.headings.Heads.{lin-differs, pia-differs, imd_decides}
 use Rattle.agree.proofs.headings.heads_agree.Goals as goal
 

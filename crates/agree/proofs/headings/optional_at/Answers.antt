@@ -1,7 +1,5 @@
 -- `agree::headings::optional_at` meets its contract.
 use mathlib.Core.Path.{sym, ◌∙◌}
-use mathlib.Core.Bool.{false}
-use borrow.Author.Tests.{not-true}
 use Rattle.cut.proofs.Ahead.{CutAhead, cut_ahead}
 use Rattle.agree.proofs.headings.Heads.{optional-none, optional-here, optional-other, optional_unlike}
 use borrow.Author.Rules.{rules}

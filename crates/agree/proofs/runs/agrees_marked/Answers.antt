@@ -1,5 +1,4 @@
 -- `agree::runs::agrees_marked` meets its contract.
-use borrow.Author.Tests.{not-true}
 use Rattle.agree.proofs.Marked.{unmarked}
 use Rattle.agree.proofs.runs.agrees_marked.Goals as goal
 

@@ -1,6 +1,5 @@
 -- `agree::runs::join` meets its contract.
 use mathlib.Core.Path.{refl, sym, ◌∙◌}
-use borrow.Author.Tests.{not-true, not-false}
 use Rattle.agree.proofs.earlier.Search.{no-lin, lin-agrees-any}
 use Rattle.agree.proofs.runs.Running.{noted_other, noted-lin}
 use Rattle.agree.proofs.runs.join.Goals as goal

@@ -1,6 +1,5 @@
 -- `agree::runs::meets_run` meets its contract. The loop's invariant: the segments that are left give the answer.
 use mathlib.Core.Path.{refl, sym, ◌∙◌}
-use mathlib.Core.Bool.{false}
 use native.Mathlib.Omega.{arith}
 use Rattle.cut.proofs.Ahead.{CutAhead, cut_ahead, none_ahead}
 use Rattle.agree.proofs.earlier.Search.{seeks_meet, any_none, any_found, any_on, any_out}

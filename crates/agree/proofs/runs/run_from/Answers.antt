@@ -1,7 +1,5 @@
 -- `agree::runs::run_from` meets its contract. The loop's invariant: what is passed is such a run.
-use Prim.Native.Nat.{◌-◌}
 use mathlib.Core.Path.{sym, ◌∙◌}
-use mathlib.Core.Bool.{false}
 use native.Mathlib.Omega.{arith}
 use Rattle.cut.proofs.Ahead.{CutAhead, cut_ahead}
 use Rattle.agree.proofs.runs.Running.{run-begins, run-stops, run_on}

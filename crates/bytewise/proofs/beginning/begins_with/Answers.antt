@@ -1,5 +1,4 @@
 -- `bytewise::beginning::begins_with` meets its contract: what the whole answers, the bytes not compared yet answer.
-use Prim.Native.Nat.{◌-◌}
 use mathlib.Core.Path.{refl, sym, ◌∙◌}
 use borrow.Author.Rules.{rules}
 use Rattle.bytewise.proofs.Words.{begins-short, begins_on, begins-not, begins-all}

@@ -1,5 +1,4 @@
 -- `clean::clean::allowed` meets its contract. The loop's invariant: the test of what is left is the test of the whole part. Assumes nothing.
-use Prim.Native.Nat.{◌-◌}
 use mathlib.Core.Path.{sym, ap, ◌∙◌}
 use native.Mathlib.Omega.{arith}
 use Rattle.clean.specs.Clean.{allowed_bytes}

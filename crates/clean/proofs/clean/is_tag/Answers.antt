@@ -1,6 +1,5 @@
 -- `clean::clean::is_tag` meets its contract: each return by the tests that led there. Assumes nothing.
 use mathlib.Core.Path.{sym, ◌∙◌}
-use borrow.Author.Tests.{not-true, not-false}
 use Rattle.clean.proofs.clean.is_tag.Goals as goal
 
 pub returns-then-not-is_capital : goal.returns-then-not-is_capital

@@ -1,6 +1,5 @@
 -- `clean::clean::rest_allowed` meets its contract. The loop's invariant: what is told so far and the test of what is left make up the test of the
 -- whole part. Assumes nothing.
-use Prim.Native.Nat.{◌-◌}
 use mathlib.Core.Path.{refl, sym, ◌∙◌}
 use Rattle.clean.proofs.Laws.{allowed_end, allowed-next}
 use Rattle.clean.proofs.clean.rest_allowed.Goals as goal

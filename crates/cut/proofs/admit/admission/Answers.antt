@@ -1,6 +1,5 @@
 -- `cut::admit::admission` meets its contract.
 use mathlib.Core.Path.{sym, ◌∙◌}
-use borrow.Author.Tests.{not-true, not-false}
 use Rattle.cut.proofs.cutting.Admitting.{start_fits, admission_long, admission_unusable, admission_plain, admission_right, admission_wrong}
 use borrow.Author.Rules.{rules}
 use Rattle.cut.proofs.admit.admission.Goals as goal

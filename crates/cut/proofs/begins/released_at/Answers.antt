@@ -1,8 +1,6 @@
 -- `cut::begins::released_at` meets its contract: each release character passed turns the answer once.
-use mathlib.Core.Bool.{false}
 use mathlib.Core.Path.{refl, sym, ◌∙◌}
 use borrow.Author.Rules.{rules}
-use borrow.Author.Tests.{not-true, not-false}
 use Rattle.cut.proofs.cutting.Released.{turned, run_on, run-over, run_out}
 use Rattle.cut.proofs.begins.released_at.Goals as goal
 

@@ -1,7 +1,6 @@
 -- `cut::breaks::before_breaks` meets its contract.
 use mathlib.Core.Path.{sym, ◌∙◌, ap}
 use borrow.Author.Rules.{rules}
-use borrow.Author.Tests.{not-true, not-false}
 use Rattle.cut.specs.Calls.{back}
 use Rattle.cut.proofs.Backing.{back_on, back-here, back-first}
 use Rattle.cut.proofs.breaks.before_breaks.Goals as goal

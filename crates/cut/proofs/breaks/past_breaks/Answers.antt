@@ -1,7 +1,5 @@
 -- `cut::breaks::past_breaks` meets its contract.
-use Prim.Native.Nat.{◌-◌}
 use mathlib.Core.Path.{refl, sym, ◌∙◌}
-use borrow.Author.Tests.{not-true, not-false}
 use Rattle.cut.proofs.Ahead.{past_end, past-here, past_on}
 use Rattle.cut.proofs.breaks.past_breaks.Goals as goal
 

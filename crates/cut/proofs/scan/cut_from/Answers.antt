@@ -1,6 +1,4 @@
 -- `cut::scan::cut_from` meets its contract: the answer from the start is the answer for the open segment, seen from the byte that is read next.
-use Prim.Native.Nat.{◌-◌}
-use mathlib.Core.Bool.{false}
 use mathlib.Core.Path.{sym, ◌∙◌}
 use native.Mathlib.Omega.{arith}
 use Rattle.cut.proofs.cutting.Scanning.{cut_none, cut_open, open_end, open_out, open_marked}

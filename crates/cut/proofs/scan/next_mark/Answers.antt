@@ -1,6 +1,4 @@
 -- `cut::scan::next_mark` meets its contract. The loop's invariant: the bytes up to here are passed.
-use Prim.Native.Nat.{◌-◌}
-use mathlib.Core.Bool.{false}
 use mathlib.Core.Path.{◌≡◌, refl}
 use native.Mathlib.Omega.{arith}
 use Rattle.bytewise.specs.Eights.{on_from, flags}

@@ -1,5 +1,4 @@
 -- `cut::scan::past_released` meets its contract: nothing is released, or nothing is there, or the byte there is passed.
-use borrow.Author.Tests.{not-true, not-false}
 use Rattle.cut.proofs.cutting.Scanning.{onward-none, onward-past, onward_released}
 use Rattle.cut.proofs.scan.past_released.Goals as goal
 

@@ -1,6 +1,4 @@
 -- `cut::scan::rest_mark` meets its contract. The loop's invariant: the bytes up to here are passed.
-use Prim.Native.Nat.{◌-◌}
-use mathlib.Core.Bool.{false}
 use mathlib.Core.Path.{refl}
 use Rattle.cut.proofs.cutting.Scanning.{onward-none, onward-plain, marked_end, marked_release, marked_out}
 use Rattle.cut.proofs.scan.rest_mark.Goals as goal

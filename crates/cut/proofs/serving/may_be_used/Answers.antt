@@ -1,6 +1,5 @@
 -- `cut::serving::may_be_used` meets its contract.
 use mathlib.Core.Path.{sym, ◌∙◌}
-use borrow.Author.Tests.{not-true, not-false}
 use Rattle.cut.proofs.cutting.Serving.{component-not, element-not, decimal-not, release_not, terminator_not, all-serve}
 use Rattle.cut.proofs.serving.may_be_used.Goals as goal
 

@@ -1,6 +1,5 @@
 -- `cut::serving::may_serve` meets its contract.
 use mathlib.Core.Path.{sym, ◌∙◌}
-use borrow.Author.Tests.{not-true, not-false}
 use Rattle.cut.proofs.cutting.Serving.{not-allowed, a_capital, a_small, a_digit, a_blank, no_blank}
 use Rattle.cut.proofs.serving.may_serve.Goals as goal
 

@@ -1,9 +1,7 @@
 -- `element::components::each_at` meets its contract. The loop's invariant is `Walking`: the search among what is left gives the answer.
-use Prim.Native.Nat.{◌-◌, ◌≤◌, ◌<◌}
+use Prim.Native.Nat.{◌≤◌, ◌<◌}
 use mathlib.Core.Path.{refl, sym, ◌∙◌}
-use mathlib.Core.Logic.{⊎_elim}
 use native.Mathlib.Omega.{arith}
-use borrow.Author.Tests.{not-true, not-false}
 use Rattle.element.proofs.components.Walking.{walk_start, walk-found, walk_out, walk_inside, walk-element, walk-component}
 use Rattle.element.proofs.scan.Extents.{extent_end}
 use Rattle.element.proofs.components.each_at.Goals as goal

@@ -1,6 +1,5 @@
 -- `element::components::quick_at` meets its contract. The loop's invariant: what is left to count leads to the component (`Counting`), and what is tested.
 use Prim.Native.Nat.{◌-◌}
-use Rattle.element.specs.Elements.{component}
 use Rattle.element.specs.workers.Scans.{Scanned}
 use Rattle.element.proofs.components.Counting.{Counting}
 use Rattle.element.proofs.components.quick_at.Given as goal

@@ -1,5 +1,4 @@
 -- `element::scan::next_service` meets its contract. The loop's invariant: the bytes up to here are passed. Assumes nothing.
-use Prim.Native.Nat.{◌-◌}
 use mathlib.Core.Path.{◌≡◌}
 use native.Mathlib.Omega.{arith}
 use Rattle.bytewise.specs.Eights.{on_from, flags}

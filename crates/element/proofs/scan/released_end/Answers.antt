@@ -1,7 +1,5 @@
 -- `element::scan::released_end` meets its contract. The loop's invariant: the end seen from here is the end of the component. Assumes nothing.
-use Prim.Native.Nat.{◌-◌}
 use mathlib.Core.Path.{sym, ◌∙◌}
-use borrow.Author.Tests.{not-true, not-false}
 use Rattle.element.proofs.scan.Scanning.{end_whole, end_past, end_here, end_next}
 use Rattle.element.proofs.scan.released_end.Goals as goal
 

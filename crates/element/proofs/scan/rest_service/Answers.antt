@@ -1,7 +1,5 @@
 -- `element::scan::rest_service` meets its contract. The loop's invariant: the bytes up to here are passed. Assumes nothing.
-use Prim.Native.Nat.{◌-◌}
 use mathlib.Core.Path.{sym, ◌∙◌}
-use borrow.Author.Tests.{not-true, not-false}
 use Rattle.element.proofs.scan.Services.{passed_none, passed-next, service-past, service-here, service_end, service-mark, service-none}
 use Rattle.element.proofs.scan.rest_service.Goals as goal
 

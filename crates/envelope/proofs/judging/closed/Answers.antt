@@ -1,6 +1,5 @@
 -- `envelope::judging::closed` meets its contract: what the walk found, and the rows by it.
 use mathlib.Core.Path.{sym, ◌∙◌}
-use borrow.Author.Tests.{not-true, not-false}
 use Rattle.envelope.proofs.rows.Answers.{is-not-UNZ, is-matched}
 use Rattle.envelope.proofs.judging.closed.Goals as goal
 

@@ -1,6 +1,5 @@
 -- `envelope::judging::judged` meets its contract: one law for each return.
 use mathlib.Core.Path.{sym, ◌∙◌}
-use borrow.Author.Tests.{not-true, not-false}
 use Rattle.envelope.proofs.rows.Answers.{is_refused, is-empty, first_fits, is-not-UNB, is-UNB}
 use Rattle.envelope.proofs.judging.judged.Goals as goal
 

@@ -1,5 +1,4 @@
 -- `envelope::walking::stray_after` meets its contract.
-use borrow.Author.Tests.{not-true, not-false}
 use Rattle.envelope.proofs.walks.Steps.{stray-inside, stray-kept, stray_new}
 use Rattle.envelope.proofs.walking.stray_after.Goals as goal
 

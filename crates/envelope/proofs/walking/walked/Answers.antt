@@ -1,5 +1,4 @@
 -- `envelope::walking::walked` meets its contract. The loop's invariant: `Passing`.
-use Prim.Native.Nat.{◌-◌}
 use mathlib.Core.Path.{sym, ◌∙◌}
 use native.Mathlib.Omega.{arith}
 use borrow.Author.Rules.{rules}

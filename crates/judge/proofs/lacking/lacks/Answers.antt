@@ -1,5 +1,4 @@
 -- `judge::lacking::lacks` meets its contract: one law for each return. Assumes nothing.
-use borrow.Author.Tests.{not-true, not-false}
 use Rattle.guide.specs.Editions.{guide_of}
 use Rattle.judge.proofs.lacking.Gaps.{lacks-none, lacks-closed, lacks-earlier}
 use Rattle.judge.proofs.lacking.lacks.Goals as goal

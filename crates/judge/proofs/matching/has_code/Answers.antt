@@ -1,5 +1,4 @@
 -- `judge::matching::has_code` meets its contract. The loop's invariant: the search from here on gives the answer. Assumes nothing.
-use Prim.Native.Nat.{◌-◌}
 use mathlib.Core.Path.{sym, ◌∙◌}
 use native.Mathlib.Omega.{arith}
 use Rattle.guide.specs.Editions.{guide_of}

@@ -1,13 +1,6 @@
 -- `judge::seeking::found_by` meets its contract. The loop's invariant is `Sought`: the answer is found among the nodes that are left. Assumes nothing.
-use Prim.Native.Nat.{ℕ}
 use mathlib.Core.Path.{refl}
-use mathlib.Core.Bool.{Bool}
-use mathlib.Core.List.{map}
 use native.Mathlib.Omega.{arith}
-use Rattle.guide.specs.Nodes.{node}
-use Rattle.guide.specs.declared.edition.Edition.{Edition}
-use Rattle.guide.specs.Editions.{guide_of}
-use Rattle.judge.specs.workers.Words.{packed, picks}
 use Rattle.judge.specs.workers.Sets.{Nodes}
 use Rattle.judge.proofs.sets.Members.{rest_less}
 use Rattle.judge.proofs.sets.Sought.{sought_out, sought_inside, sought_found, sought_next}

@@ -2,7 +2,6 @@
 use Prim.Native.Nat.{◌+◌, ◌≤◌}
 use mathlib.Core.Path.{refl, sym, ◌∙◌}
 use native.Mathlib.Omega.{arith}
-use borrow.Author.Tests.{not-false}
 use Rattle.element.proofs.FrontKeys.{scale_some, scale_fits, front-key}
 use Rattle.element.proofs.UsualServices.{usual_are}
 use Rattle.guide.specs.Views.{view_of}

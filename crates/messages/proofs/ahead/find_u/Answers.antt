@@ -1,5 +1,4 @@
 -- `messages::ahead::find_u` meets its contract. The loop's invariant: up to here no byte is U.
-use Prim.Native.Nat.{◌-◌}
 use mathlib.Core.Path.{◌≡◌, sym, ◌∙◌}
 use native.Mathlib.Omega.{arith}
 use lib.Dec.{eqb}

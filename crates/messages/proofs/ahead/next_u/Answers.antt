@@ -1,5 +1,5 @@
 -- `messages::ahead::next_u` meets its contract. The loop's invariant: none of the segments up to here begins with U.
-use Prim.Native.Nat.{◌-◌, ◌≤◌}
+use Prim.Native.Nat.{◌≤◌}
 use native.Mathlib.Nat.{le_refl}
 use native.Mathlib.Omega.{arith}
 use borrow.Author.Rules.{rules}

@@ -1,6 +1,5 @@
 -- `messages::found::message_at` meets its contract.
 use mathlib.Core.Path.{sym, ◌∙◌}
-use borrow.Author.Tests.{not-true, not-false}
 use Rattle.messages.proofs.walks.Spots.{spotted}
 use Rattle.messages.proofs.Finding.{at-nowhere, at_none, at_here, at_other}
 use Rattle.messages.proofs.found.message_at.Goals as goal

@@ -1,6 +1,5 @@
 -- `messages::found::message_begins` meets its contract.
 use mathlib.Core.Path.{sym, ◌∙◌, ap}
-use borrow.Author.Tests.{not-true, not-false}
 use Rattle.messages.specs.Calls.{is_found}
 use Rattle.messages.proofs.walks.Spots.{spotted}
 use Rattle.messages.proofs.Finding.{at-nowhere, at_none, at-begins}

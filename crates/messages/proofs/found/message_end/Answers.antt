@@ -1,8 +1,5 @@
 -- `messages::found::message_end` meets its contract: the end seen from the message's first segment is the end seen from here.
-use Prim.Native.Nat.{◌-◌}
-use mathlib.Core.Bool.{false}
 use mathlib.Core.Path.{◌≡◌, refl, sym, ◌∙◌}
-use borrow.Author.Tests.{not-true, not-false}
 use native.Mathlib.Omega.{arith}
 use Rattle.cut.specs.Segments.{segments_at, last_end}
 use Rattle.messages.specs.Messages.{body}

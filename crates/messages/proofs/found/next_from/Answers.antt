@@ -1,6 +1,4 @@
 -- `messages::found::next_from` meets its contract: what is found from the start is found from here.
-use Prim.Native.Nat.{◌-◌}
-use mathlib.Core.Bool.{false}
 use mathlib.Core.Path.{refl, sym, ◌∙◌}
 use native.Mathlib.Omega.{arith}
 use Rattle.messages.proofs.walks.Spots.{spotted, found_none, found_on, found_Here}

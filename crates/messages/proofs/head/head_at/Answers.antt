@@ -1,6 +1,5 @@
 -- `messages::head::head_at` meets its contract.
 use mathlib.Core.Path.{sym, ◌∙◌}
-use borrow.Author.Tests.{not-true, not-false}
 use Rattle.messages.proofs.walks.Heads.{head-past, head-not, head-here}
 use Rattle.messages.proofs.head.head_at.Goals as goal
 

@@ -1,5 +1,4 @@
 -- `page::coded::has_code` meets its contract. The loop's invariant: what is found so far and the codes that are left decide.
-use Prim.Native.Nat.{◌-◌}
 use mathlib.Core.Path.{refl, sym, ◌∙◌}
 use native.Mathlib.Omega.{arith}
 use Rattle.page.proofs.coded.KeyCodes.{search_end, search_next}

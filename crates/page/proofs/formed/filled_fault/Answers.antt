@@ -1,5 +1,4 @@
 -- `page::formed::filled_fault` meets its contract: each return by its tests, in the order 18, 19, 20.
-use borrow.Author.Tests.{not-true, not-false}
 use Rattle.page.proofs.formed.Faults.{filled-unused, filled-format, filled-code, filled-right}
 use Rattle.page.proofs.formed.filled_fault.Goals as goal
 

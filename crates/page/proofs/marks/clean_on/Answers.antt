@@ -1,8 +1,7 @@
 -- `page::marks::clean_on` meets its contract. The loop's invariant: the component goes on behind the release marks that are passed.
-use Prim.Native.Nat.{◌+◌, ◌-◌}
+use Prim.Native.Nat.{◌+◌}
 use mathlib.Core.Path.{refl, sym, ap, ◌∙◌}
 use native.Mathlib.Omega.{arith}
-use borrow.Author.Tests.{not-false}
 use Rattle.page.specs.workers.Marks.{MarkSought}
 use Rattle.page.specs.declared.scan.Scan.{Scan}
 use Rattle.page.proofs.marks.Clean.{Clean, clean-first, clean_found, clean-mark}

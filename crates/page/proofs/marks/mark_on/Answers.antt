@@ -1,6 +1,5 @@
 -- `page::marks::mark_on` meets its contract. The loop's invariant: from where the bytes were tested up to the first
 -- word, they are tested up to the word that comes next.
-use Prim.Native.Nat.{◌-◌}
 use native.Mathlib.Omega.{arith}
 use mathlib.Core.Path.{refl, ap}
 use Rattle.bytewise.proofs.Bytewise.{FirstOf, flagged_there, first_of}

@@ -1,5 +1,4 @@
 -- `page::pages::pass` meets its contract. The loop's invariant: what is found from the next component on is the answer.
-use Prim.Native.Nat.{◌-◌}
 use mathlib.Core.Path.{◌≡◌, refl, ◌∙◌}
 use native.Mathlib.Omega.{arith}
 use lib.ListN.{length}

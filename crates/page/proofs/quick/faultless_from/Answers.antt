@@ -1,11 +1,9 @@
 -- `page::quick::faultless_from` meets its contract. The loop's invariant: the bytes before the component that comes next are passed, and against each page
 -- the pass stands before the spot of the state.
-use Prim.Native.Nat.{ℕ, ◌+◌, ◌-◌, ◌/◌, ◌<◌}
+use Prim.Native.Nat.{ℕ, ◌+◌, ◌/◌, ◌<◌}
 use mathlib.Core.Bool.{true, false}
 use mathlib.Core.Path.{◌≡◌, refl, sym, ap, subst, ◌∙◌}
-use mathlib.Core.Logic.{⊎_elim}
 use native.Mathlib.Omega.{arith}
-use borrow.Author.Tests.{not-false}
 use lib.ListN.{length, get_or}
 use Rattle.plain.specs.Plain.{decoded}
 use Rattle.guide.specs.workers.PageFault.{text_fault}

@@ -1,5 +1,4 @@
 -- `page::reads::bytes_fault` meets its contract: one law for each return.
-use borrow.Author.Tests.{not-true, not-false}
 use Rattle.page.proofs.reads.Faults.{piece-fault, byte-fault, tag-fault, no_bytes-fault}
 use Rattle.page.proofs.reads.bytes_fault.Goals as goal
 

@@ -1,5 +1,4 @@
 -- `page::right::is_right` meets its contract: a text that its row takes whatever it is, or bytes that stand for themselves.
-use borrow.Author.Tests.{not-false}
 use mathlib.Core.Bool.{false≢true}
 use mathlib.Core.Path.{sym, ◌∙◌}
 use native.Mathlib.Omega.{arith}

@@ -1,5 +1,5 @@
 -- `plain::plain::code_on` meets its contract. The loop's invariant: what is left of both is the same exactly if the whole is.
-use Rattle.std.proofs.Common.{◌-◌, sym, refl, ◌∙◌, arith, drop_of_length-le}
+use Rattle.std.proofs.Common.{sym, refl, ◌∙◌, arith, drop_of_length-le}
 use Rattle.plain.proofs.Sameness.{same_long, same_differ, same-agree, ended_word, drop-next}
 use Rattle.plain.proofs.LiteralPlaces.{literal-is}
 use Rattle.plain.proofs.plain.code_on.Goals as goal

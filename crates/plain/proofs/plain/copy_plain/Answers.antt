@@ -1,5 +1,5 @@
 -- `plain::plain::copy_plain` meets its contract. The loop's invariant is `Copying`: what is written, and what is left to write.
-use Rattle.std.proofs.Common.{◌-◌, sym, arith}
+use Rattle.std.proofs.Common.{sym, arith}
 use Rattle.plain.proofs.Decoding.{decoded_limited}
 use Rattle.plain.proofs.Copying.{copying_start, copying_length, copying_end, copying_full, copying_more}
 use Rattle.plain.proofs.LiteralPlaces.{literal-is}

@@ -1,5 +1,5 @@
 -- `plain::plain::is_code` meets its contract. The loop's invariant: what is left of both is the same exactly if the whole is.
-use Rattle.std.proofs.Common.{◌-◌, sym, refl, ◌∙◌, ap₂, arith, drop_of_length-le}
+use Rattle.std.proofs.Common.{sym, refl, ◌∙◌, ap₂, arith, drop_of_length-le}
 use Rattle.plain.specs.Plain.{same}
 use Rattle.plain.proofs.Decoding.{decoded_limited, decoded-none, decoded-byte}
 use Rattle.plain.proofs.Sameness.{same_long, same_differ, same-agree, ended_word, drop-next}

@@ -1,5 +1,5 @@
 -- `plain::plain::length_on` meets its contract. The loop's invariant: what is counted and what is left make up the whole.
-use Rattle.std.proofs.Common.{◌-◌, length, refl, ap, arith}
+use Rattle.std.proofs.Common.{length, refl, ap, arith}
 use Rattle.plain.proofs.Decoding.{count_more}
 use Rattle.plain.proofs.LiteralPlaces.{literal-is}
 use Rattle.plain.proofs.plain.length_on.Goals as goal

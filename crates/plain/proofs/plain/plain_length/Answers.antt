@@ -1,5 +1,5 @@
 -- `plain::plain::plain_length` meets its contract. The loop's invariant: the bytes that are passed and what is left make up the whole.
-use Rattle.std.proofs.Common.{◌-◌, length, sym, ap, ◌∙◌, arith}
+use Rattle.std.proofs.Common.{length, sym, ap, ◌∙◌, arith}
 use Rattle.plain.proofs.Decoding.{decoded_limited, decoded-none, decoded-byte, count-start, count-passed, count-all}
 use Rattle.plain.proofs.plain.plain_length.Goals as goal
 

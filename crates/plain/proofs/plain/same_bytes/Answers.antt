@@ -1,5 +1,5 @@
 -- `plain::plain::same_bytes` meets its contract. The loop's invariant: what is left of both is the same exactly if the whole is.
-use Rattle.std.proofs.Common.{◌-◌, sym, ◌∙◌, ap₂, arith}
+use Rattle.std.proofs.Common.{sym, ◌∙◌, ap₂, arith}
 use Rattle.plain.specs.Plain.{same}
 use Rattle.plain.proofs.Decoding.{decoded_limited}
 use Rattle.plain.proofs.Sameness.{same_long, same_differ, same-agree, ended_part}

@@ -1,5 +1,5 @@
 -- `plain::words::released_word` meets its contract. The loop's invariant: the word that is begun so goes on with what is left.
-use Rattle.std.proofs.Common.{◌-◌, sym, ◌∙◌, arith}
+use Rattle.std.proofs.Common.{sym, ◌∙◌, arith}
 use Rattle.plain.proofs.Summing.{begun-none, begun-small, begun-fits, begun_more, word-start, word_end, word_long, word_more}
 use Rattle.plain.proofs.LiteralPlaces.{literal-is}
 use Rattle.plain.proofs.words.released_word.Goals as goal

@@ -1,5 +1,4 @@
 -- `price::articles::lin_from` meets its contract. The loop's invariant: `Seeking`.
-use Prim.Native.Nat.{◌-◌}
 use native.Mathlib.Omega.{arith}
 use Rattle.price.proofs.articles.Seeking.{seeking_first, seeking_none, seeking_some, seeking_found, seeking_less, seeking_on}
 use Rattle.price.proofs.articles.lin_from.Goals as goal

@@ -1,5 +1,4 @@
 -- `price::cursor::next_from` meets its contract. The loop's invariant: the next price from here is the one from the start.
-use Prim.Native.Nat.{◌-◌}
 use native.Mathlib.Omega.{arith}
 use mathlib.Core.Path.{refl, sym, ◌∙◌}
 use Rattle.price.proofs.Cursors.{none_here, next-some, next-few, next_here, next_on}

@@ -1,5 +1,4 @@
 -- `price::filling::put_found` meets its contract.
-use borrow.Author.Tests.{not-true, not-false}
 use Rattle.price.proofs.filling.Puts.{put_other, put_early, put_full, put-here}
 use Rattle.price.proofs.filling.put_found.Goals as goal
 

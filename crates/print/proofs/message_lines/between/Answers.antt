@@ -1,5 +1,4 @@
 -- `print::message_lines::between` meets its contract.
-use Prim.Native.Nat.{◌-◌}
 use mathlib.Core.Path.{refl, sym, ap, ◌∙◌}
 use native.Mathlib.Omega.{arith}
 use lib.ListN.{length}
@@ -18,7 +17,7 @@ message-requires c =
     (omega (arith, l, c.requires.0), inv.2, h)
 
 pub shape_of-out-in-Message : goal.shape_of-out-in-Message
-shape_of-out-in-Message c = c.message.auto.1.1.1.0 ∙ ap length c.loop-out.invariant.0
+shape_of-out-in-Message c = c.message.auto.out ∙ ap length c.loop-out.invariant.0
 
 pub returns-in-Message : goal.returns-in-Message
 returns-in-Message c =
@@ -51,7 +50,7 @@ last-requires c =
     (omega (arith, l, c.requires.0), inv.2)
 
 pub shape_of-out-in-Nothing : goal.shape_of-out-in-Nothing
-shape_of-out-in-Nothing c = c.last.auto.1.1.1.0 ∙ ap length c.loop-out.invariant.0
+shape_of-out-in-Nothing c = c.last.auto.out ∙ ap length c.loop-out.invariant.0
 
 pub returns-in-Nothing : goal.returns-in-Nothing
 returns-in-Nothing c =

@@ -9,8 +9,8 @@ use Rattle.print.proofs.message_lines.between.Given as goal
 abbrev pub invariant-loop-out : goal.invariant-loop-out
 invariant-loop-out l =
     (l.out ≡ l.initial.out)
-    × (left_from l.y l.d (record { l.at = l.at; messages = l.c.messages; accepted = l.c.accepted; l.outside = l.outside }) ≡ left_from l.y l.d l.c)
-    × (sound (record { l.at = l.at; messages = l.c.messages; accepted = l.c.accepted; l.outside = l.outside }) ≡ true)
+    × (left_from l.y l.d (record { at = l.at; messages = l.c.messages; accepted = l.c.accepted; outside = l.outside }) ≡ left_from l.y l.d l.c)
+    × (sound (record { at = l.at; messages = l.c.messages; accepted = l.c.accepted; outside = l.outside }) ≡ true)
 
 abbrev pub decreases-loop-out : goal.decreases-loop-out
 decreases-loop-out l = length l.d - l.at

@@ -8,7 +8,7 @@ use Rattle.print.proofs.rows.put_behind.Goals as goal
 pub shape_of-out : goal.shape_of-out
 shape_of-out c =
     let second = c.put_amount-n in
-    length-set second.new.1.0 second.result 10 ∙ second.auto.1.0 ∙ c.put_amount-m.auto.1.0
+    length-set second.new.out second.result 10 ∙ second.auto.out ∙ c.put_amount-m.auto.out
 
 pub returns : goal.returns
 returns c =

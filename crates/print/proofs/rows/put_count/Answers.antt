@@ -30,7 +30,7 @@ put_from-requires c =
 
 pub shape_of-out : goal.shape_of-out
 shape_of-out c =
-    c.put_from.auto.1.1.0 ∙ length-set c.args.out.now c.args.at 32
+    c.put_from.auto.out ∙ length-set c.args.out.now c.args.at 32
 
 pub returns : goal.returns
 returns c =

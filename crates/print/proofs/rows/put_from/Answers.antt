@@ -1,5 +1,4 @@
 -- `print::rows::put_from` meets its contract. The loop's invariant: `Putting`.
-use Prim.Native.Nat.{◌-◌}
 use mathlib.Core.Path.{refl}
 use native.Mathlib.Omega.{arith}
 use lib.ListN.{length-set, length-drop}

@@ -10,13 +10,13 @@ put_words-n-requires c = simp length-set (omega arith)
 
 pub bounds-out-n : goal.bounds-out-n
 bounds-out-n c =
-    let k = c.put_words-n.auto.1.0 ∙ length-set c.args.out.now c.args.at c.args.letter in
+    let k = c.put_words-n.auto.out ∙ length-set c.args.out.now c.args.at c.args.letter in
     omega (arith, k, c.put_words-n.ensures.value.1, c.requires)
 
 pub shape_of-out : goal.shape_of-out
 shape_of-out c =
     length-set c.put_words-n.new.out c.put_words-n.result c.args.last
-    ∙ c.put_words-n.auto.1.0
+    ∙ c.put_words-n.auto.out
     ∙ length-set c.args.out.now c.args.at c.args.letter
 
 pub returns : goal.returns

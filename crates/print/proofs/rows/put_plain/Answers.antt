@@ -1,5 +1,4 @@
 -- `print::rows::put_plain` meets its contract. The loop's invariant: `Pouring`.
-use Prim.Native.Nat.{◌-◌}
 use native.Mathlib.Omega.{arith}
 use Rattle.print.proofs.Pouring.{pouring_first, pouring_length, pouring_onward, pouring_all, pouring_full, pouring_on}
 use Rattle.print.proofs.rows.put_plain.Goals as goal

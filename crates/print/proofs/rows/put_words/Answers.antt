@@ -1,5 +1,4 @@
 -- `print::rows::put_words` meets its contract. The loop's invariant: `Putting`.
-use Prim.Native.Nat.{◌-◌}
 use mathlib.Core.Path.{refl, ◌∙◌}
 use native.Mathlib.Omega.{arith}
 use Rattle.print.proofs.Putting.{putting_first, word_on, words_last}
@@ -29,10 +28,10 @@ pub loop-i-preserved : goal.loop-i-preserved
 loop-i-preserved c =
     let inv = c.loop-i.invariant in
     let put = c.put_count-place in (
-      word_on _ _ _ _ _ _ inv.0 c.loop-i-test.true _ _ put.ensures.0.0 put.ensures.1,
-      omega (arith, inv.1, put.ensures.0.1),
+      word_on _ _ _ _ _ _ inv.0 c.loop-i-test.true _ _ put.ensures.value.0 put.ensures.out_after,
+      omega (arith, inv.1, put.ensures.value.1),
       omega arith,
-      put.auto.1.0 ∙ inv.3,
+      put.auto.out ∙ inv.3,
     )
 
 pub shape_of-out : goal.shape_of-out

@@ -1,5 +1,4 @@
 -- `schaumtruhe::judging::verdict_at` meets its contract.
-use borrow.Author.Tests.{not-true, not-false}
 use Rattle.schaumtruhe.proofs.judging.Verdicts.{delivery_refused, place_refused, message-judged}
 use Rattle.schaumtruhe.proofs.judging.verdict_at.Goals as goal
 

@@ -1,5 +1,4 @@
 -- `schaumtruhe::sheets::sheet_at` meets its contract.
-use borrow.Author.Tests.{not-true, not-false}
 use Rattle.schaumtruhe.proofs.judging.Verdicts.{delivery_missing, place-missing, message-stands}
 use Rattle.schaumtruhe.proofs.sheets.sheet_at.Goals as goal
 

@@ -1,5 +1,4 @@
 -- `schaumtruhe::surveys::counted` meets its contract. The loop's invariant: `Passed`.
-use Prim.Native.Nat.{◌-◌}
 use mathlib.Core.Path.{sym, ◌∙◌}
 use native.Mathlib.Omega.{arith}
 use Rattle.schaumtruhe.proofs.surveys.Steps.{passed_first, passed_on, passed-all, survey_refused}

@@ -1,6 +1,5 @@
 -- `sieve::articles::print_article` meets its contract. The loop's invariant: the print of what is left, after that of what is passed, is the
 -- whole one.
-use Prim.Native.Nat.{◌-◌}
 use mathlib.Core.Path.{refl, sym, ◌∙◌}
 use native.Mathlib.Omega.{arith}
 use Rattle.sieve.proofs.articles.Words.{word_on, whole-article}

@@ -1,6 +1,4 @@
 -- `sieve::articles::print_rest` meets its contract. The loop's invariant: the print of what is left, behind what is gathered, is the whole one.
-use Prim.Native.Nat.{◌-◌}
-use mathlib.Core.Bool.{false}
 use mathlib.Core.Path.{refl, sym, ◌∙◌}
 use native.Mathlib.Omega.{arith}
 use borrow.Author.Rules.{rules}

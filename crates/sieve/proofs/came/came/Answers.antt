@@ -1,6 +1,5 @@
 -- `sieve::came::came` meets its contract.
 use mathlib.Core.Path.{sym, ◌∙◌}
-use borrow.Author.Tests.{not-true, not-false}
 use Rattle.sieve.specs.workers.Came.{came_in}
 use Rattle.sieve.proofs.came.came.Goals as goal
 

@@ -1,6 +1,5 @@
 -- `sieve::marks::is_marked` meets its contract.
 use mathlib.Core.Path.{sym, ◌∙◌}
-use borrow.Author.Tests.{not-true, not-false}
 use Rattle.sieve.specs.workers.Marks.{marked_in}
 use Rattle.sieve.proofs.marks.is_marked.Goals as goal
 

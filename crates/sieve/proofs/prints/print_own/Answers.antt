@@ -1,6 +1,4 @@
 -- `sieve::prints::print_own` meets its contract. The loop's invariant: the print of what is left, after that of what is passed, is the whole one.
-use Prim.Native.Nat.{◌-◌}
-use mathlib.Core.Bool.{false}
 use mathlib.Core.Path.{refl, ◌∙◌}
 use native.Mathlib.Omega.{arith}
 use Rattle.sieve.proofs.prints.Printing.{printing_on, printing_stops, printing_through}

@@ -1,5 +1,4 @@
 -- `sieve::prints::print_segment` meets its contract. The loop's invariant: what is left, printed after what is passed, gives the print.
-use Prim.Native.Nat.{◌-◌}
 use mathlib.Core.Path.{sym, ap, ◌∙◌}
 use native.Mathlib.Omega.{arith}
 use Rattle.sieve.specs.workers.Prints.{passing, print_behind}

@@ -1,5 +1,4 @@
 -- `value::digit_runs::digits_end` meets its contract. The loop's invariant: digits alone are passed.
-use Prim.Native.Nat.{◌-◌}
 use native.Mathlib.Omega.{arith}
 use Rattle.value.proofs.DigitRuns.{passed_none, eight_more, end_first, first-few, end_behind, end_all}
 use Rattle.value.proofs.digit_runs.digits_end.Goals as goal

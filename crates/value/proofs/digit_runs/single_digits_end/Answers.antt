@@ -1,8 +1,6 @@
 -- `value::digit_runs::single_digits_end` meets its contract. The loop's invariant: digits alone are passed.
-use Prim.Native.Nat.{◌-◌}
 use mathlib.Core.Path.{sym, ◌∙◌}
 use native.Mathlib.Omega.{arith}
-use borrow.Author.Tests.{not-true, not-false}
 use Rattle.value.proofs.DigitRuns.{passed_none, digit_more, end_here, end_all}
 use Rattle.value.proofs.digit_runs.single_digits_end.Goals as goal
 

@@ -1,8 +1,6 @@
 -- `value::numeral::digits_from` meets its contract. The loop's invariant is `Along`: what is passed and what is left make up the run.
-use Prim.Native.Nat.{◌-◌}
 use mathlib.Core.Path.{sym, ◌∙◌}
 use native.Mathlib.Omega.{arith}
-use borrow.Author.Tests.{not-true, not-false}
 use Rattle.plain.proofs.Decoding.{unmarked, literal-none, literal-byte}
 use Rattle.value.proofs.Running.{along_start, along_join, along_more, along_end, along_stop}
 use Rattle.value.proofs.numeral.digits_from.Goals as goal

@@ -1,8 +1,6 @@
 -- `value::numeral::released_digits` meets its contract. The loop's invariant is `Along`: what is passed and what is left make up the run.
-use Prim.Native.Nat.{◌-◌}
 use mathlib.Core.Path.{sym, ◌∙◌}
 use native.Mathlib.Omega.{arith}
-use borrow.Author.Tests.{not-true, not-false}
 use Rattle.value.proofs.Running.{along_start, along_more, along_end, along_stop}
 use Rattle.plain.proofs.LiteralPlaces.{literal-is}
 use Rattle.value.proofs.numeral.released_digits.Goals as goal

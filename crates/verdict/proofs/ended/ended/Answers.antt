@@ -1,5 +1,5 @@
 -- `verdict::ended::ended` meets its contract.
-use borrow.Author.Tests.{not-true, not-false}
+use borrow.Author.Tests.{not-true}
 use mathlib.Core.Path.{refl}
 use Rattle.verdict.proofs.ended.Ends.{told_as, no_end, not-compared, undoubted, agreeing}
 use Rattle.verdict.proofs.ended.ended.Goals as goal

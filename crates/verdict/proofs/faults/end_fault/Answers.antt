@@ -1,5 +1,4 @@
 -- `verdict::faults::end_fault` meets its contract: the count, and then the reference.
-use borrow.Author.Tests.{not-true, not-false}
 use Rattle.verdict.specs.workers.Segments.{spanned}
 use Rattle.verdict.proofs.segment.Texts.{decoded-text}
 use Rattle.verdict.proofs.faults.Numbers.{numbered, count-fault, reference-fault, no_end_fault}
