@@ -17,7 +17,19 @@ use Rattle.guide.specs.Content.{text}
 use Rattle.guide.specs.Sheet.{Position}
 use Rattle.guide.specs.Accepted.{AgreeBut, AgreeIn, Agree}
 use Rattle.bytewise.proofs.Booleans.{and_both, both-and}
-use Rattle.agree.specs.Agreement.{same_text, all_empty, same_components, empty_elements, same_elements, agree_but, agree_in, Heading, bytes_in, heading_of, agree}
+use Rattle.agree.specs.Agreement.{
+  same_text,
+  all_empty,
+  same_components,
+  empty_elements,
+  same_elements,
+  agree_but,
+  agree_in,
+  Heading,
+  bytes_in,
+  heading_of,
+  agree,
+}
 
 -- two components, two rows of components and two rows of elements agree, releases removed
 abbrev Same : Syntax → List ℕ → List ℕ → Type 0

@@ -264,7 +264,8 @@ alike_fits w b = omega (arith, and_le_r (apart_by w b) 0x7f7f_7f7f_7f7f_7f7f)
 
 pub alike_flags
     : (w b : ℕ) (x : ℕ → ℕ) → b < 256 → Eight w x
-    → bit_xor (bit_and (bit_or (bit_and (apart_by w b) 0x7f7f_7f7f_7f7f_7f7f + 0x7f7f_7f7f_7f7f_7f7f) (apart_by w b)) 0x8080_8080_8080_8080) 0x8080_8080_8080_8080
+    → bit_xor (bit_and (bit_or (bit_and (apart_by w b) 0x7f7f_7f7f_7f7f_7f7f + 0x7f7f_7f7f_7f7f_7f7f) (apart_by w b)) 0x8080_8080_8080_8080)
+    0x8080_8080_8080_8080
     ≡ flags (λ k. eqb (x k) b)
 unfolding alike_byte
 alike_flags w b x h p =

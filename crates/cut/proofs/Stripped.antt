@@ -98,7 +98,8 @@ module _ (y : Syntax) (d : List ℕ) (at : ℕ) (s : Segment) (ss : List Segment
 
 -- the bytes of some segments, one after the other, are cut into just these
 joined_cut
-    : (y : Syntax) (d : List ℕ) (at q : ℕ) (ss : List Segment) → segments_at y d at ≡ ss → map placeless ss ≡ map placeless (segments_from y q false (joined ss))
+    : (y : Syntax) (d : List ℕ) (at q : ℕ) (ss : List Segment) → segments_at y d at ≡ ss → map placeless ss
+    ≡ map placeless (segments_from y q false (joined ss))
 unfolding joined segments_from
 joined_cut y d at q [] h = refl
 joined_cut y d at q (s ∷ ss) h =

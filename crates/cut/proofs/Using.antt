@@ -157,7 +157,8 @@ module _ (d : List ℕ) (short : length d ≤ limit) where
 
   module _ (y : Syntax) where
     -- the delivery is refused with 2: why
-    by_una : begins UNA (una_place y d) ≡ true → (c v : Bool) → begins (nine (named y (una_place y d))) (una_place y d) ≡ c → valid (named y (una_place y d)) ≡ v
+    by_una : begins UNA (una_place y d) ≡ true → (c v : Bool) → begins (nine (named y (una_place y d))) (una_place y d) ≡ c → valid (named y (una_place y d))
+        ≡ v
         → admission_of (named y (una_place y d)) d ≡ 2 → Unreadable y d
     unfolding named
     by_una b c false n v a = of_UNA (una_place y d) (has_una y d b) v

@@ -80,9 +80,11 @@ sheets_mean = all-mean pricat20d pricat20d_passes a_to_l sheets_hold
 
 -- a and b are whole messages.
 pub case_a : Whole pricat20d (λ v. v) (H ++ (bare "UNT" ∷ []))
-unfolding matches same among chosen paired required over pricat20d lowest levels fits_in seek lacking missing place indexed recounted counts_after last_after run
+unfolding matches same among chosen paired required over pricat20d lowest levels fits_in seek lacking missing place indexed recounted counts_after last_after
+    run
 case_a = (whole_iff pricat20d 26 pricat20d_passes (λ v. v) (H ++ (bare "UNT" ∷ []))).0 (_, refl, refl)
 
 pub case_b : Whole pricat20d (λ v. v) (H4 ++ (with "NAD" "MS" ∷ with "NAD" "MR" ∷ bare "UNT" ∷ []))
-unfolding matches same among chosen paired required over pricat20d lowest levels fits_in seek lacking missing place indexed recounted counts_after last_after run
+unfolding matches same among chosen paired required over pricat20d lowest levels fits_in seek lacking missing place indexed recounted counts_after last_after
+    run
 case_b = (whole_iff pricat20d 26 pricat20d_passes (λ v. v) (H4 ++ (with "NAD" "MS" ∷ with "NAD" "MR" ∷ bare "UNT" ∷ []))).0 (_, refl, refl)

@@ -84,7 +84,8 @@ differing reference prices range =
     ∷ []
 
 differing_20d : said_of pricat20d (differing fitting fitting fitting) ≡ expected_of (differing fitting fitting fitting)
-unfolding matches same among chosen paired required over pricat20d lowest levels fits_in seek lacking missing place indexed recounted counts_after last_after run
+unfolding matches same among chosen paired required over pricat20d lowest levels fits_in seek lacking missing place indexed recounted counts_after last_after
+    run
 differing_20d = refl
 
 abbrev differing20c : List Sheet

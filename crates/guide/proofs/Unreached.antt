@@ -63,7 +63,8 @@ rows_far C = tt
 
 -- where the limit of a LIN node is reached, 999,999 segments stand in front
 pub far_in
-    : {A : Type 0} (e : Edition) (f : Kids A) (v : View) (j n : ℕ) → T (takes (guide_of e) n v) → T (is_tag (guide_of e) (bytes_of "LIN") (number_of (guide_of e) n))
+    : {A : Type 0} (e : Edition) (f : Kids A) (v : View) (j n : ℕ) → T (takes (guide_of e) n v)
+    → T (is_tag (guide_of e) (bytes_of "LIN") (number_of (guide_of e) n))
     → At (Full (guide_of e) j) 0 f n → 999999 ≤ length (segs f)
 far_in e f v j n t lin d =
     let g = guide_of e in

@@ -119,7 +119,8 @@ right s = both (if_some s (fits_spot (row_of_cell (cell_of s)) (spot_of s))) (bo
 
 all_right : T (every right states)
 unfolding
-    every both if_some if_so right steps_right further_right behind_right end_right fits_spot freed leads same behind_of further_of kept_of last_row calm mood_on
+    every both if_some if_so right steps_right further_right behind_right end_right fits_spot freed leads same behind_of further_of kept_of last_row calm
+    mood_on
     opening_of row_word word_of word_at spot_of cell_of
 all_right = tt
 
@@ -215,7 +216,8 @@ module _ (s : ℕ) (low : s < states) where
     pub cell_behind
         : (r : ℕ) → r ≡ steps_of (cell_of s) n / 0x100 % 256 → (r ≡ 0 → ⊥)
         → (s ≡ 0 → ⊥) × T (calm n spot_here.mood (row_word spot_here))
-        × T (last_row (mood_on n spot_here.mood (row_word spot_here)) (word_of spot_here) spot_here.component) × (r < states) × (spot_of r ≡ behind_of spot_here)
+        × T (last_row (mood_on n spot_here.mood (row_word spot_here)) (word_of spot_here) spot_here.component) × (r < states)
+        × (spot_of r ≡ behind_of spot_here)
     unfolding steps_right behind_right
     cell_behind r e z =
         let h = unless _ _ (each _ _ (each _ _ (steps-right n)).1).0 (λ k. z (e ∙ k)) in
@@ -228,7 +230,8 @@ module _ (s : ℕ) (low : s < states) where
     pub cell_end
         : may_end (cell_of s) n ≡ true
         → (s ≡ 0 → ⊥) × T (calm n spot_here.mood (row_word spot_here))
-        × T (last_row (mood_on n spot_here.mood (row_word spot_here)) (word_of spot_here) spot_here.component) × (spot_here.page / 32768 ≤ spot_here.element + 1)
+        × T (last_row (mood_on n spot_here.mood (row_word spot_here)) (word_of spot_here) spot_here.component)
+        × (spot_here.page / 32768 ≤ spot_here.element + 1)
     unfolding steps_right end_right
     cell_end e =
         let h = given _ _ (each _ _ (each _ _ (steps-right n)).1).1 e in

@@ -19,7 +19,18 @@ use Rattle.guide.specs.Choices.{pickℕ, or_else}
 use Rattle.guide.specs.Editions.{pages_of}
 use Rattle.guide.specs.workers.Judging.{bytes_fault}
 use Rattle.guide.specs.Page.{Row, unused, Composite, Page, beyond}
-use Rattle.guide.specs.workers.PageFault.{first_of, not_used, missing, wrong_format, wrong_code, text_fault, component_fault, any_filled, element_fault, page_fault}
+use Rattle.guide.specs.workers.PageFault.{
+  first_of,
+  not_used,
+  missing,
+  wrong_format,
+  wrong_code,
+  text_fault,
+  component_fault,
+  any_filled,
+  element_fault,
+  page_fault,
+}
 use Rattle.guide.specs.declared.edition.Edition.{Edition}
 use Rattle.page.specs.Examined.{examined_by}
 use Rattle.page.specs.Reading.{segment_in, read_to, read_fault, reading_by, reading_of}

@@ -1,5 +1,30 @@
 -- A word that is read at once: the first of eight bytes, with a 1 above the last of them.
-use Rattle.std.proofs.Common.{◌≡◌, ℕ, zero, suc, ◌+◌, ◌-◌, ◌*◌, ◌%◌, ◌^◌, ◌<◌, ◌≤◌, eqb, List, length, get_or, sym, refl, ap, ◌∙◌, pow-suc, arith, lit<, eqb→eq, le-leb}
+use Rattle.std.proofs.Common.{
+  ◌≡◌,
+  ℕ,
+  zero,
+  suc,
+  ◌+◌,
+  ◌-◌,
+  ◌*◌,
+  ◌%◌,
+  ◌^◌,
+  ◌<◌,
+  ◌≤◌,
+  eqb,
+  List,
+  length,
+  get_or,
+  sym,
+  refl,
+  ap,
+  ◌∙◌,
+  pow-suc,
+  arith,
+  lit<,
+  eqb→eq,
+  le-leb,
+}
 use native.Mathlib.Nat.{one-le-pow, pow-le-pow_right}
 use lib.Bits.{bit_and, and_le_r}
 use Rattle.bytewise.specs.Eights.{number, on_from, eight_at, byte_of}

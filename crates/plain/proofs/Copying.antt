@@ -1,5 +1,35 @@
 -- How bytes are copied to the front of a row: what holds on the way, and what that gives at the end.
-use Rattle.std.proofs.Common.{◌≡◌, ℕ, suc, ◌+◌, ◌-◌, ◌<◌, ◌≤◌, List, [], ◌∷◌, ◌++◌, length, get_or, take, drop, set, sym, refl, ap, ◌∙◌, add-one, arith, length-append, length-drop, drop_of_length-le, length-take-le, take_all, drop-cons, take-suc}
+use Rattle.std.proofs.Common.{
+  ◌≡◌,
+  ℕ,
+  suc,
+  ◌+◌,
+  ◌-◌,
+  ◌<◌,
+  ◌≤◌,
+  List,
+  [],
+  ◌∷◌,
+  ◌++◌,
+  length,
+  get_or,
+  take,
+  drop,
+  set,
+  sym,
+  refl,
+  ap,
+  ◌∙◌,
+  add-one,
+  arith,
+  length-append,
+  length-drop,
+  drop_of_length-le,
+  length-take-le,
+  take_all,
+  drop-cons,
+  take-suc,
+}
 use mathlib.Core.List.{head-eq_of_cons-eq, tail-eq_of_cons-eq}
 use lib.Seq.{set_at, append_snoc}
 use Rattle.plain.specs.Plain.{fitting, copied}

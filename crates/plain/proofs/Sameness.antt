@@ -1,5 +1,35 @@
 -- Laws of `same`: it is equality, and how it goes on from byte to byte.
-use Rattle.std.proofs.Common.{◌≡◌, ℕ, ◌+◌, ◌<◌, ◌≤◌, Bool, true, false, eqb, leb, List, [], ◌∷◌, length, get_or, drop, sym, refl, ap₂, true≢false, add-one, arith, drop_of_length-le, drop-cons, eq-eqb, ne_eqb, eqb-true, leb-false, leb-true}
+use Rattle.std.proofs.Common.{
+  ◌≡◌,
+  ℕ,
+  ◌+◌,
+  ◌<◌,
+  ◌≤◌,
+  Bool,
+  true,
+  false,
+  eqb,
+  leb,
+  List,
+  [],
+  ◌∷◌,
+  length,
+  get_or,
+  drop,
+  sym,
+  refl,
+  ap₂,
+  true≢false,
+  add-one,
+  arith,
+  drop_of_length-le,
+  drop-cons,
+  eq-eqb,
+  ne_eqb,
+  eqb-true,
+  leb-false,
+  leb-true,
+}
 use borrow.Author.Tests.{eqb-false}
 use Rattle.cut.specs.declared.service.Syntax.{Syntax}
 use Rattle.plain.specs.Plain.{decoded, same}

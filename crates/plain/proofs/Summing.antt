@@ -1,5 +1,30 @@
 -- How the number of a word is summed: what holds on the way, and what that gives at its end.
-use Rattle.std.proofs.Common.{◌≡◌, ℕ, suc, ◌+◌, ◌*◌, ◌^◌, ◌<◌, ◌≤◌, cond, leb, List, [], ◌∷◌, length, refl, ap, mul_assoc, mul-le-mul_left, pow-suc, mul-add, add-one, arith, lit<, le-leb}
+use Rattle.std.proofs.Common.{
+  ◌≡◌,
+  ℕ,
+  suc,
+  ◌+◌,
+  ◌*◌,
+  ◌^◌,
+  ◌<◌,
+  ◌≤◌,
+  cond,
+  leb,
+  List,
+  [],
+  ◌∷◌,
+  length,
+  refl,
+  ap,
+  mul_assoc,
+  mul-le-mul_left,
+  pow-suc,
+  mul-add,
+  add-one,
+  arith,
+  lit<,
+  le-leb,
+}
 use native.Mathlib.Nat.{pow-le-pow_right}
 use borrow.Author.Tests.{lt-leb}
 use Rattle.plain.specs.Words.{packed, word_of}

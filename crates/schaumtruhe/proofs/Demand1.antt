@@ -23,8 +23,35 @@ use Rattle.price.specs.Sheet.{prices_in_tree}
 use Rattle.price.proofs.Face.{prices-tree}
 use Rattle.verdict.specs.Named.{edition_of, guide_named, pages_named}
 use Rattle.schaumtruhe.proofs.pricing.Named.{named-priced}
-use Rattle.schaumtruhe.specs.Calls.{nowhere, verdict_at, judged, Sheet, stands, missing, sheet_by, sheet_at, listed, survey_of, priced_by, priced_at, row_at, article_refusal}
-use Rattle.schaumtruhe.specs.Demands.{DeliveryRefused, VerdictRefused, no_message, of_message, Stands, VerdictAccepted, PricesRefused, not_accepted, ArticleRefused, no_prices, no_price}
+use Rattle.schaumtruhe.specs.Calls.{
+  nowhere,
+  verdict_at,
+  judged,
+  Sheet,
+  stands,
+  missing,
+  sheet_by,
+  sheet_at,
+  listed,
+  survey_of,
+  priced_by,
+  priced_at,
+  row_at,
+  article_refusal,
+}
+use Rattle.schaumtruhe.specs.Demands.{
+  DeliveryRefused,
+  VerdictRefused,
+  no_message,
+  of_message,
+  Stands,
+  VerdictAccepted,
+  PricesRefused,
+  not_accepted,
+  ArticleRefused,
+  no_prices,
+  no_price,
+}
 use Rattle.schaumtruhe.specs.declared.pricing.Priced.TheVariants as priced
 use Rattle.schaumtruhe.specs.declared.surveys.Surveyed.TheVariants as surveyed
 use Rattle.schaumtruhe.proofs.places.Asked.{

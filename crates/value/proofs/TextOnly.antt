@@ -115,7 +115,8 @@ pub count_spelled : (s : List ℕ) (n : ℕ) → count_of s ≡ Is n → s ≡ d
 unfolding count_of is_count
 count_spelled s n h = go (some s && (none (behind_digits s) && not (padded s)) && leb (length s) 15) refl h
   where
-    go : (b : Bool) → some s && (none (behind_digits s) && not (padded s)) && leb (length s) 15 ≡ b → cond b (Is (decimal s)) Nothing ≡ Is n → s ≡ digits_in 20 n
+    go : (b : Bool) → some s && (none (behind_digits s) && not (padded s)) && leb (length s) 15 ≡ b → cond b (Is (decimal s)) Nothing ≡ Is n → s
+        ≡ digits_in 20 n
     go true e h =
         let v : decimal s ≡ n = cc in
         let p = and_both (some s && (none (behind_digits s) && not (padded s))) (leb (length s) 15) e in

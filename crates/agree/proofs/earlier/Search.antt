@@ -83,7 +83,8 @@ module _ (b : List ℕ) (t : Bool) (tag : t ≡ begins (76 ∷ 73 ∷ 78 ∷ [])
   pub lin-agrees : (y : Syntax) (h k g : Heading) (r : Bool) → t ≡ true → h ≡ g → r ≡ agree y h k → r ≡ is_lin b && agree y g k
   lin-agrees y h k g r u e a = rw (sym tag ∙ u, ← e) a
 
-  pub lin-agrees-any : (y : Syntax) (h g : Heading) (qs : List Heading) (r : Bool) → t ≡ true → h ≡ g → r ≡ agrees_any y h qs → r ≡ is_lin b && agrees_any y g qs
+  pub lin-agrees-any : (y : Syntax) (h g : Heading) (qs : List Heading) (r : Bool) → t ≡ true → h ≡ g → r ≡ agrees_any y h qs → r
+      ≡ is_lin b && agrees_any y g qs
   lin-agrees-any y h g qs r u e a = rw (sym tag ∙ u, ← e) a
 
 -- the positions among one segment more

@@ -172,7 +172,8 @@ module _ (y : Syntax) (d t b : List ℕ) (e : ℕ) where
     noted_other f = rw (sym tag ∙ f)
 
     pub noted-lin
-        : (h : Heading) (f : ℕ) (t' : List ℕ) → l ≡ true → h ≡ heading_from b (segments_at y d e) → f ≡ print_of y h → t' ≡ mark_in t f → t' ≡ noted_in y d e b t
+        : (h : Heading) (f : ℕ) (t' : List ℕ) → l ≡ true → h ≡ heading_from b (segments_at y d e) → f ≡ print_of y h → t' ≡ mark_in t f → t'
+        ≡ noted_in y d e b t
     unfolding noted_in
     noted-lin h f t' u k p m = m ∙ rw (sym tag ∙ u, p, k)
 

@@ -44,7 +44,8 @@ pub record Running (y : Syntax) (d : List ℕ) (at : ℕ) (t : List ℕ) (r : Ru
 -- the search has passed the first n segments, which end at the place `at`, and has not found it yet
 pub record Searched (y : Syntax) (d : List ℕ) (start at n : ℕ) : Type 0 where
   pub found :
-      first_after y (headings_in n (segments_at y d start)) (positions_from (n + 1) (segments_at y d at)) ≡ first_agreeing y (positions_of (segments_at y d start))
+      first_after y (headings_in n (segments_at y d start)) (positions_from (n + 1) (segments_at y d at))
+      ≡ first_agreeing y (positions_of (segments_at y d start))
   pub passed : drop n (segments_at y d start) ≡ segments_at y d at
   pub few : n ≤ at
 

@@ -71,7 +71,8 @@ eight_differing l s x h p n =
     rw z (eight-add (eight_xor p (eight_each s (omega arith))) low (λ k. omega (arith, xor_lt 7 (x k) s (n k) h)))
 
 pub mark-flags
-    : (w : ℕ) (x : ℕ → ℕ) → Eight w x → (t e c : ℕ) → t ≡ differing_by (bit_and w 0x7f7f_7f7f_7f7f_7f7f) 39 → e ≡ differing_by (bit_and w 0x7f7f_7f7f_7f7f_7f7f) 43
+    : (w : ℕ) (x : ℕ → ℕ) → Eight w x → (t e c : ℕ) → t ≡ differing_by (bit_and w 0x7f7f_7f7f_7f7f_7f7f) 39 → e
+    ≡ differing_by (bit_and w 0x7f7f_7f7f_7f7f_7f7f) 43
     → c ≡ differing_by (bit_and (bit_and w 0x7f7f_7f7f_7f7f_7f7f) 0x7a7a_7a7a_7a7a_7a7a) 58
     → bit_xor
     (bit_and

@@ -79,22 +79,23 @@ module _ (y : Syntax) where
       go false h = h
 
   -- one component further, where none has stood so far
-  module _ (r : Row) (rs : List Row) (bs : List (List ℕ)) (more : pass_fault y idle rs bs ≡ first_of (component_fault y (any_filled y bs)) unused [] rs bs) where
-    idle_empty
-        : (m w : Bool) → is_must r ≡ m → any_filled y bs ≡ w
-        → or_else (text_fault y false r []) (pass_fault y (cond m owing idle) rs bs)
-        ≡ or_else (text_fault y w r []) (first_of (component_fault y w) unused [] rs bs)
-    idle_empty true true e f = rw (empty-fault false r, empty-fault true r, e, owing_pass rs bs, f)
-    idle_empty true false e f = rw (empty-fault false r, e, owing_pass rs bs, f) (sym (calm rs bs f))
-    idle_empty false w e f = rw (empty-fault false r, empty-fault w r, e) (more ∙ rw f)
+  module _ (r : Row) (rs : List Row) (bs : List (List ℕ)) (more : pass_fault y idle rs bs ≡ first_of (component_fault y (any_filled y bs)) unused [] rs bs)
+    where
+      idle_empty
+          : (m w : Bool) → is_must r ≡ m → any_filled y bs ≡ w
+          → or_else (text_fault y false r []) (pass_fault y (cond m owing idle) rs bs)
+          ≡ or_else (text_fault y w r []) (first_of (component_fault y w) unused [] rs bs)
+      idle_empty true true e f = rw (empty-fault false r, empty-fault true r, e, owing_pass rs bs, f)
+      idle_empty true false e f = rw (empty-fault false r, e, owing_pass rs bs, f) (sym (calm rs bs f))
+      idle_empty false w e f = rw (empty-fault false r, empty-fault w r, e) (more ∙ rw f)
 
-    idle_next
-        : (t : List ℕ)
-        → or_else (text_fault y false r t) (pass_fault y (mood_after idle r t) rs bs)
-        ≡ or_else (text_fault y (some t || any_filled y bs) r t) (first_of (component_fault y (some t || any_filled y bs)) unused [] rs bs)
-    unfolding some mood_after
-    idle_next [] = idle_empty (is_must r) (any_filled y bs) refl refl
-    idle_next (x ∷ xs) = rw (filled-fault r x xs, asking_pass rs bs)
+      idle_next
+          : (t : List ℕ)
+          → or_else (text_fault y false r t) (pass_fault y (mood_after idle r t) rs bs)
+          ≡ or_else (text_fault y (some t || any_filled y bs) r t) (first_of (component_fault y (some t || any_filled y bs)) unused [] rs bs)
+      unfolding some mood_after
+      idle_next [] = idle_empty (is_must r) (any_filled y bs) refl refl
+      idle_next (x ∷ xs) = rw (filled-fault r x xs, asking_pass rs bs)
 
   idle_pass : (rs : List Row) (bs : List (List ℕ)) → pass_fault y idle rs bs ≡ first_of (component_fault y (any_filled y bs)) unused [] rs bs
   unfolding pass_fault end_fault mood_fault any_filled component_fault

@@ -80,7 +80,8 @@ module _ (e : Edition) (cs : List ℕ) (n : ℕ) where
     where
       go
           : (b : Bool) → eqb l.node (node (guide_of e) n).parent ≡ b
-          → (((m : ℕ) → 0 < m → m < length (guide_of e) → T (closing (guide_of e) n ls m) → missed (guide_of e) cs m ≡ false) → missing (guide_of e) cs n ls ≡ 0)
+          → (((m : ℕ) → 0 < m → m < length (guide_of e) → T (closing (guide_of e) n ls m) → missed (guide_of e) cs m ≡ false) → missing (guide_of e) cs n ls
+          ≡ 0)
           → pickℕ b 0 (missing (guide_of e) cs n ls) ≡ 0
       go true q ih = refl
       go false q ih =
@@ -109,12 +110,14 @@ module _ (e : Edition) (cs : List ℕ) (n last s : ℕ) (set : s ≡ bit_and (du
     where
       all : T (every (covered_at (guide_of e) last n) (length (guide_of e)))
       all =
-          implied (some_level (follows_in (guide_of e) n) (levels (guide_of e) (suc last) last 0)) (every (covered_at (guide_of e) last n) (length (guide_of e)))
+          implied (some_level (follows_in (guide_of e) n) (levels (guide_of e) (suc last) last 0))
+          (every (covered_at (guide_of e) last n) (length (guide_of e)))
           (every-at (covered_for (guide_of e) last) (length (guide_of e)) n
           (every-at (λ x. every (covered_for (guide_of e) x) (length (guide_of e))) (length (guide_of e)) last (covered_table e) before) row)
           (T_true follows)
 
-      covered : (m : ℕ) → 0 < m → m < length (guide_of e) → T (closing (guide_of e) n (levels (guide_of e) (suc last) last 0) m) → missed (guide_of e) cs m ≡ false
+      covered : (m : ℕ) → 0 < m → m < length (guide_of e) → T (closing (guide_of e) n (levels (guide_of e) (suc last) last 0) m) → missed (guide_of e) cs m
+          ≡ false
       covered m a b t =
           let k = implied (closing (guide_of e) n (levels (guide_of e) (suc last) last 0) m) _
           (every-at (covered_at (guide_of e) last n) (length (guide_of e)) m all b) t in

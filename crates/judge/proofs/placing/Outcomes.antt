@@ -115,7 +115,8 @@ module _ (e : Edition) (v : View) (last : ℕ) (cs : List ℕ) where
       pub place-over : (k : ℕ) → k ≡ over (guide_of e) n (tally cs) → leb limit (get_or cs n 0) ≡ true → Outcome e v last cs (Refused k n) cs
       unfolding place
       place-over k number h =
-          let full : ltb (get_or cs n 0) (node (guide_of e) n).limit ≡ false = rw (sym most) (le-ltb (get_or cs n 0) limit (leb-true limit (get_or cs n 0) h)) in
+          let full : ltb (get_or cs n 0) (node (guide_of e) n).limit
+          ≡ false = rw (sym most) (le-ltb (get_or cs n 0) limit (leb-true limit (get_or cs n 0) h)) in
           outcome_refused k n (rw (sym sought, ne_eqb n 0 some, full, sym number))
 
       module _ (room : leb limit (get_or cs n 0) ≡ false) (m : ℕ) (lacked : m ≡ missing (guide_of e) cs n (levels (guide_of e) (suc last) last 0)) where

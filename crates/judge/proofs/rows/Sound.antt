@@ -50,4 +50,5 @@ row-sound g n h =
 pub sound-at : (e : Edition) (n : ℕ) → 0 < n → n < length (guide_of e) → Sound (guide_of e) n
 unfolding sound
 sound-at e zero h l = absurd (omega arith)
-sound-at e (suc n) h l = row-sound (guide_of e) (suc n) (every-at (λ k. sound_row (guide_of e) (suc k)) (length (guide_of e) - 1) n (sound-table e) (omega arith))
+sound-at e (suc n) h l = row-sound (guide_of e) (suc n) (every-at (λ k. sound_row (guide_of e) (suc k)) (length (guide_of e) - 1) n (sound-table e)
+    (omega arith))

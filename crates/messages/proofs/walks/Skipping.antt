@@ -157,7 +157,8 @@ module _ (y : Syntax) (d : List ℕ) where
 
     plain_back : (k r : ℕ) → from ≤ r → r ≤ k → k ≤ length d → whole (upto r) ≡ true → Plain (upto k) → Plain (upto r)
     plain_back k r h l m w p =
-        plain-front (upto r) _ (subst Plain (ap (segments_of y from) (sym (part-parts d from r k h l)) ∙ segments-whole y from (part from r d) (part r k d) w) p)
+        plain-front (upto r) _ (subst Plain (ap (segments_of y from) (sym (part-parts d from r k h l))
+        ∙ segments-whole y from (part from r d) (part r k d) w) p)
 
     -- a segment ends at k, or line breaks behind it
     pub skipped-closed

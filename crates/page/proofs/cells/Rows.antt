@@ -79,7 +79,8 @@ module _ (y : Syntax) (w r : ℕ) (h : T (freed w r)) (t : List ℕ) (some : 0 <
       go (suc zero) (suc z) i j e f g = rw (← e, ← f) g
       go (suc (suc s)) (suc z) i j e f g =
           rw (← e, ← f)
-          (used-filled y false must (format_in w) (codes_in w) t (filled t some) ∙ sym (used-filled y false may (format_in w) (codes_in w) t (filled t some)) ∙ g)
+          (used-filled y false must (format_in w) (codes_in w) t (filled t some) ∙ sym (used-filled y false may (format_in w) (codes_in w) t (filled t some))
+          ∙ g)
 
 -- a component of n bytes with the text t on the row that has the word r, in the mood m
 module _ (r n m : ℕ) (low : m < 2) where

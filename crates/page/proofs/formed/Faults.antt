@@ -84,7 +84,8 @@ module _ (y : Syntax) (w : ℕ) (t : List ℕ) (n : ℕ) (p : (n ≡ length t) �
       where
         go
             : (s : ℕ) → (s ≡ 0 → ⊥)
-            → text_fault y false (row_by s (format_in w) (codes_in w)) t ≡ pickℕ (not (fits_format y (format_in w) t)) 19 (pickℕ (not (chosen (codes_in w) t)) 20 0)
+            → text_fault y false (row_by s (format_in w) (codes_in w)) t
+            ≡ pickℕ (not (fits_format y (format_in w) t)) 19 (pickℕ (not (chosen (codes_in w) t)) 20 0)
         go zero z = absurd (z refl)
         go (suc zero) z = used-filled y false _ (format_in w) (codes_in w) t (filled t h)
         go (suc (suc s)) z = used-filled y false _ (format_in w) (codes_in w) t (filled t h)

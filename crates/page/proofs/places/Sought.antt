@@ -86,7 +86,8 @@ module _ (t : ℕ) where
       (ih : sought (record { start = a; end = a }) (in_elements (e + 1) q es) ≡ span_in a t 0 (in_elements (e + 1) q es)) where
     once_by
         : (b : Bool) → eqb e t ≡ b → (bs : List (List ℕ))
-        → sought (record { start = a; end = a }) (in_element e 0 p bs ++ in_elements (e + 1) q es) ≡ span_in a t 0 (in_element e 0 p bs ++ in_elements (e + 1) q es)
+        → sought (record { start = a; end = a }) (in_element e 0 p bs ++ in_elements (e + 1) q es)
+        ≡ span_in a t 0 (in_element e 0 p bs ++ in_elements (e + 1) q es)
     unfolding sought span_in in_element first_of
     once_by false n bs =
         let miss : (i : ℕ) → 0 ≤ i → eqb e t && eqb i 0 ≡ false = λ i l. other e i (eqb-false e t n) in

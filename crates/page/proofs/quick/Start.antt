@@ -71,7 +71,8 @@ module _ (d : List ℕ) where
   allowed-one m l q = rw (part-next d m (m + 1) (omega arith) (omega arith), part_none d (m + 1) (m + 1) (le_refl (m + 1)), q)
 
   pub allowed_more
-      : (a m e : ℕ) → a ≤ m → m < length d → e ≡ m + 1 → allowed_bytes (part a m d) ≡ true → allowed_byte (get_or d m 0) ≡ true → allowed_bytes (part a e d) ≡ true
+      : (a m e : ℕ) → a ≤ m → m < length d → e ≡ m + 1 → allowed_bytes (part a m d) ≡ true → allowed_byte (get_or d m 0) ≡ true → allowed_bytes (part a e d)
+      ≡ true
   allowed_more a m e h l g p q = rw g (allowed-parts a m (m + 1) h (omega arith) p (allowed-one m l q))
 
 -- ---- the service characters

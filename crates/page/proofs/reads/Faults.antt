@@ -63,7 +63,8 @@ module _ (y : Syntax) (ed : Edition) (node : ℕ) (d : List ℕ) (start : ℕ) (
         go
             : (k : ℕ) → (k ≡ 0 → ⊥)
             → record { number = k; first = empty_at start; third = empty_at start; end = e }
-            ≡ read_to e (examined_by (or_else k (page_fault y (pages_of ed node) (part start e d))) (component_at y d start e 1 0) (component_at y d start e 3 0)
+            ≡ read_to e (examined_by (or_else k (page_fault y (pages_of ed node) (part start e d))) (component_at y d start e 1 0)
+            (component_at y d start e 3 0)
             start)
         go zero h = absurd (h refl)
         go (suc k) h = refl

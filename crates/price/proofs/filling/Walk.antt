@@ -46,7 +46,8 @@ rng-spot base d Lin s t h = refl
 rng-spot base d Pri s t h = refl
 rng-spot base d Other s t h = refl
 
-rng-next : (base : ℕ) (d : List ℕ) (ss : List Segment) (next : Spot) → next ≡ head_spot ss → place_of_first base (rng_next ss) ≡ place_of_first base (rng_in d next)
+rng-next : (base : ℕ) (d : List ℕ) (ss : List Segment) (next : Spot) → next ≡ head_spot ss → place_of_first base (rng_next ss)
+    ≡ place_of_first base (rng_in d next)
 unfolding head_spot rng_next rng_in
 rng-next base d [] next h = rw h
 rng-next base d (t ∷ ts) next h = rw h (rng-spot base d (kind_of t.bytes) t (segment_in d t.start (end_of t)) refl)

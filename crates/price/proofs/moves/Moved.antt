@@ -165,7 +165,8 @@ module _ (y : Syntax) (d d' : List ℕ) (k start end : ℕ) (bytes : part (k + s
       ∙ sym (map-drop (numbers_of y start) n (prices_in y d start end))
 
   -- they fill a row alike, from any price on, and the answer is the same
-  pub row-later : (n : ℕ) (row : List ℤ) → row_after y (k + start) n (prices_in y d' (k + start) (k + end)) row ≡ row_after y start n (prices_in y d start end) row
+  pub row-later : (n : ℕ) (row : List ℤ) → row_after y (k + start) n (prices_in y d' (k + start) (k + end)) row
+      ≡ row_after y start n (prices_in y d start end) row
   unfolding row_after
   row-later n row = rw (numbers-later n)
 

@@ -110,7 +110,8 @@ module _ (y : Syntax) (g : Guide) (t : Priced g) where
       omega arith
 
   rng_children
-      : (z : ℕ) (f : Kids Segment) → Kid z f → Limits g z f → (ts : List Segment) → rng_next ts ≡ [] → rng_next (segs f ++ ts) ≡ children_with g (bytes_of "RNG") f
+      : (z : ℕ) (f : Kids Segment) → Kid z f → Limits g z f → (ts : List Segment) → rng_next ts ≡ [] → rng_next (segs f ++ ts)
+      ≡ children_with g (bytes_of "RNG") f
   unfolding Closed children_with
   rng_children z none c h ts e = e
   rng_children z (then b m s k) c h ts e =
@@ -120,7 +121,8 @@ module _ (y : Syntax) (g : Guide) (t : Priced g) where
       rest = s ∷ (segs k ++ ts)
 
       go
-          : (w : Kind) → kind_of s.bytes ≡ w → Is g m w → ((us : List Segment) → rng_next us ≡ [] → rng_next (segs b ++ us) ≡ children_with g (bytes_of "RNG") b)
+          : (w : Kind) → kind_of s.bytes ≡ w → Is g m w → ((us : List Segment) → rng_next us ≡ [] → rng_next (segs b ++ us)
+          ≡ children_with g (bytes_of "RNG") b)
           → rng_next (segs b ++ rest) ≡ children_with g (bytes_of "RNG") b ++ only_if (rng_node g m) s
       go Lin a (is-lin l p r) ih = ih rest (no_rng s (segs k ++ ts) Lin a refl) ∙ rw r (sym (append-nil _))
       go Pri a (is-pri l p r) ih = ih rest (no_rng s (segs k ++ ts) Pri a refl) ∙ rw r (sym (append-nil _))
@@ -157,7 +159,8 @@ module _ (y : Syntax) (g : Guide) (t : Priced g) where
           : (w : Kind) → kind_of s.bytes ≡ w → Is g m w
           → ((us : List Segment) → rng_next us ≡ [] → prices_from n lin (segs b ++ us) ≡ map (listed n lin) (prices_under g b) ++ prices_from n lin us)
           → prices_from n lin (segs b ++ rest)
-          ≡ map (listed n lin) (prices_under g b ++ only_if (pri_node g m) (record { pri = s; rng = children_with g (bytes_of "RNG") k })) ++ prices_from n lin ts
+          ≡ map (listed n lin) (prices_under g b ++ only_if (pri_node g m) (record { pri = s; rng = children_with g (bytes_of "RNG") k })) ++ prices_from n
+          lin ts
       go Lin a (is-lin d p r) ih = absurd (t.lin_out m lm (T_true d) (rw up i))
       go Rng a (is-rng d p r) ih =
           absurd (true≢false (sym (true-T _ (t.rng_under m lm (T_true r))) ∙ tag-apart g (node g m).parent (bytes_of "LIN") (bytes_of "PRI") refl

@@ -22,7 +22,20 @@ use Rattle.verdict.specs.declared.answers.Judged.{Judged as JudgedAt}
 use Rattle.verdict.specs.Verdicts.{verdict_named, named_of, verdict_of}
 use Rattle.verdict.specs.declared.answers.Verdict.{Verdict}
 use Rattle.verdict.specs.declared.answers.Verdict.TheVariants as verdict
-use Rattle.schaumtruhe.specs.Calls.{beginning_at, nowhere, unless_refused, verdict_at, judged, Sheet, stands, missing, sheet_by, sheet_in, sheet_unless, sheet_at}
+use Rattle.schaumtruhe.specs.Calls.{
+  beginning_at,
+  nowhere,
+  unless_refused,
+  verdict_at,
+  judged,
+  Sheet,
+  stands,
+  missing,
+  sheet_by,
+  sheet_in,
+  sheet_unless,
+  sheet_at,
+}
 use Rattle.schaumtruhe.specs.workers.Answers.{standing_of, standing_by}
 use Rattle.schaumtruhe.specs.declared.sheets.Standing.{Standing}
 use Rattle.schaumtruhe.specs.declared.sheets.Standing.TheVariants.{Accepted, Refused}

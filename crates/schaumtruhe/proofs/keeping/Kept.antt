@@ -166,7 +166,8 @@ module _ (y : Syntax) (d' d : List ℕ) (k : ℕ) (admits' : admission_of y d' �
     unfolding article_at
     article-later =
         rw refusal-later
-        (unless-bytes d' d k bytes (article_refusal y d (start_of m) j) (article_by y (sheet_at y d' (k + start_of m)) j) (article_by y (sheet_at y d (start_of m)) j)
+        (unless-bytes d' d k bytes (article_refusal y d (start_of m) j) (article_by y (sheet_at y d' (k + start_of m)) j)
+        (article_by y (sheet_at y d (start_of m)) j)
         span-later (article-within y d (start_of m) j).1)
 
   pub kept : Kept y d' d k m

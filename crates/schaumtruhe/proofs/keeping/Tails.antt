@@ -26,9 +26,33 @@ use Rattle.guide.specs.Answers.{Verdict, accepts, refuses}
 use Rattle.guide.specs.workers.Judging.{bytes_fault, end_fault, line_fault, rule_fault, content_fault, segment_answer, judge_from}
 use Rattle.guide.specs.Nodes.{among, chosen, matches, paired, required, number_of as node_number}
 use Rattle.guide.specs.Page.{codes, simple, element_of, row_of}
-use Rattle.guide.specs.workers.PageFault.{first_of, not_used, missing, wrong_format, wrong_code, text_fault, component_fault, any_filled, element_fault, page_fault}
+use Rattle.guide.specs.workers.PageFault.{
+  first_of,
+  not_used,
+  missing,
+  wrong_format,
+  wrong_code,
+  text_fault,
+  component_fault,
+  any_filled,
+  element_fault,
+  page_fault,
+}
 use Rattle.guide.specs.Pages20d.{coded, UNH, BGM, DTM, RFF, NAD, PGI, LIN, PRI, UNT, pages20d, page_of}
-use Rattle.guide.specs.workers.Placing.{lowest, levels, fits_in, seek, lacking, place, indexed, recounted, counts_after, last_after, given, missing as missing_in}
+use Rattle.guide.specs.workers.Placing.{
+  lowest,
+  levels,
+  fits_in,
+  seek,
+  lacking,
+  place,
+  indexed,
+  recounted,
+  counts_after,
+  last_after,
+  given,
+  missing as missing_in,
+}
 use Rattle.guide.specs.Pricat.{pricat20d}
 use Rattle.guide.specs.Sheet.{is_tag}
 use Rattle.guide.specs.Views.{view_of}
@@ -64,7 +88,8 @@ judged_at d at = verdict_at edifact d at
 -- prices: the answer and the row
 unfoldable pub filled_at : List ℕ → ℕ → ℕ → List ℤ → Priced × List ℤ
 unfolding
-    judged_at in_element width in_elements components span_in number_of numbers_from filled_of row_after first_article kind_of rng_next prices_from prices_of article_in
+    judged_at in_element width in_elements components span_in number_of numbers_from filled_of row_after first_article kind_of rng_next prices_from prices_of
+    article_in
     article_place
     article_length price_in unit_rank place_of_first numbers_of all_numbers fitting filled_row sheet_at priced_at row_at article_refusal article_at
 filled_at d at k row = (priced_at edifact d at k row, row_at edifact d at k row)

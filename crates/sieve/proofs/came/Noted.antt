@@ -43,9 +43,11 @@ bits_assoc : (a b c : ℕ) → bit_or (bit_or a b) c ≡ bit_or a (bit_or b c)
 bits_assoc =
     bin_ind (λ (a : ℕ). (b c : ℕ) → bit_or (bit_or a b) c ≡ bit_or a (bit_or b c)) (λ b c. refl) (λ a ih b c. step a b c (ih (b / 2) (c / 2)))
   where
-    upper : (a b c : ℕ) → bit_or (bit_or (a / 2) (b / 2)) (c / 2) ≡ bit_or (a / 2) (bit_or (b / 2) (c / 2)) → bit_or (bit_or a b) c / 2 ≡ bit_or a (bit_or b c) / 2
+    upper : (a b c : ℕ) → bit_or (bit_or (a / 2) (b / 2)) (c / 2) ≡ bit_or (a / 2) (bit_or (b / 2) (c / 2)) → bit_or (bit_or a b) c / 2
+        ≡ bit_or a (bit_or b c) / 2
     upper a b c ih =
-        or_shr (bit_or a b) c 1 ∙ ap (λ (x : ℕ). bit_or x (c / 2)) (or_shr a b 1) ∙ ih ∙ ap (bit_or (a / 2)) (sym (or_shr b c 1)) ∙ sym (or_shr a (bit_or b c) 1)
+        or_shr (bit_or a b) c 1 ∙ ap (λ (x : ℕ). bit_or x (c / 2)) (or_shr a b 1) ∙ ih ∙ ap (bit_or (a / 2)) (sym (or_shr b c 1))
+        ∙ sym (or_shr a (bit_or b c) 1)
 
     lowest : (a b c : ℕ) → bit_or (bit_or a b) c % 2 ≡ bit_or a (bit_or b c) % 2
     lowest a b c =
@@ -78,12 +80,14 @@ module _ (t : List ℕ) (f : ℕ) where
   module _ (size : length t ≡ 256) where
     note_comes : came_in (note_in t f) f ≡ true
     unfolding came_in set_in note_in with_bits
-    note_comes = all_come word_of bits_of bit_or has_bits 256 word-inside (λ v g. or-has v (bits_of g)) (λ v h g. or-keeps v (bits_of h) (bits_of g)) t (pair f) size
+    note_comes = all_come word_of bits_of bit_or has_bits 256 word-inside (λ v g. or-has v (bits_of g)) (λ v h g. or-keeps v (bits_of h) (bits_of g)) t
+        (pair f) size
 
     note_keeps : (g : ℕ) → came_in t g ≡ true → came_in (note_in t f) g ≡ true
     unfolding came_in set_in note_in with_bits
     note_keeps g =
-        all_stay word_of bits_of bit_or has_bits 256 word-inside (λ v g. or-has v (bits_of g)) (λ v h g. or-keeps v (bits_of h) (bits_of g)) t (pair f) (pair g) size
+        all_stay word_of bits_of bit_or has_bits 256 word-inside (λ v g. or-has v (bits_of g)) (λ v h g. or-keeps v (bits_of h) (bits_of g)) t (pair f)
+        (pair g) size
 
 -- the table after the print f, and whether that may have come, where f is the print of the article x
 pub noted : (t u x : List ℕ) (f : ℕ) (r : Bool) → f ≡ article_print x → r ≡ came_in t f → u ≡ note_in t f → Noted t u x r

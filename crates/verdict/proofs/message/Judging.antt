@@ -207,7 +207,8 @@ module _ (ed : Edition) (y : Syntax) (d : List ℕ) (start stop : ℕ) where
             is ∙ rw (cuts, z)
 
         is_refused
-            : (j m : ℕ) → answer ≡ refused j m → Refused j (n + 1) s (number_of (guide_of ed) m) ≡ declared (verdict_from y (guide_of ed) (pages_of ed) start all)
+            : (j m : ℕ) → answer ≡ refused j m → Refused j (n + 1) s (number_of (guide_of ed) m)
+            ≡ declared (verdict_from y (guide_of ed) (pages_of ed) start all)
         unfolding verdict_from settled
         is_refused j m a =
             let z : n + 1 ≡ suc n = omega arith in
@@ -260,9 +261,11 @@ module _ (ed : Edition) (y : Syntax) (d : List ℕ) (start stop : ℕ) where
           unfolding last_after
           is-kept = rw (is-left, after_it.last, after_it.positions, after_it.reference)
 
-          more_judged : judge_from y (guide_of ed) (pages_of ed) (suc n) e (noted y k' cs' d) (rest e) ≡ judge_from y (guide_of ed) (pages_of ed) 0 start fresh all
+          more_judged : judge_from y (guide_of ed) (pages_of ed) (suc n) e (noted y k' cs' d) (rest e)
+              ≡ judge_from y (guide_of ed) (pages_of ed) 0 start fresh all
           more_judged =
-              ap₂ (λ (a : ℕ) (v : Memory). judge_from y (guide_of ed) (pages_of ed) (suc n) a v (rest e)) (sym ends) (sym is-kept) ∙ (rw is_placed at judged-here)
+              ap₂ (λ (a : ℕ) (v : Memory). judge_from y (guide_of ed) (pages_of ed) (suc n) a v (rest e)) (sym ends) (sym is-kept)
+              ∙ (rw is_placed at judged-here)
 
           more_until : judge_until y (guide_of ed) (pages_of ed) stop (suc n) e (noted y k' cs' d) (rest e) ≡ until_stop
           more_until =

@@ -153,7 +153,8 @@ module _ (ed : Edition) (n : ℕ) where
   pub role_unt : is_unt (role_of ed n) ≡ tag (bytes_of "UNT")
   unfolding role_of same
   role_unt =
-      unt_picked (tag (bytes_of "LIN")) (tag (bytes_of "UNT")) (tag (bytes_of "UNH")) (tag (bytes_of "BGM")) (one_tag ed n (bytes_of "LIN") (bytes_of "UNT") refl)
+      unt_picked (tag (bytes_of "LIN")) (tag (bytes_of "UNT")) (tag (bytes_of "UNH")) (tag (bytes_of "BGM"))
+      (one_tag ed n (bytes_of "LIN") (bytes_of "UNT") refl)
 
   pub role_unh : is_unh (role_of ed n) ≡ tag (bytes_of "UNH")
   unfolding role_of same

@@ -7,7 +7,8 @@ use Rattle.agree.proofs.earlier.agrees_earlier.Given as goal
 
 abbrev pub invariant-loop-left : goal.invariant-loop-left
 invariant-loop-left l =
-    agrees_any l.y (heading_in l.h l.d) (headings_in l.left (segments_at l.y l.d l.at)) ≡ agrees_any l.y (heading_in l.h l.d) (headings_in l.n (segments_at l.y l.d l.start))
+    agrees_any l.y (heading_in l.h l.d) (headings_in l.left (segments_at l.y l.d l.at))
+    ≡ agrees_any l.y (heading_in l.h l.d) (headings_in l.n (segments_at l.y l.d l.start))
 
 abbrev pub decreases-loop-left : goal.decreases-loop-left
 decreases-loop-left l = l.left

@@ -66,7 +66,8 @@ returns-then-x-y-3 c =
     let stops : let a = c.args in c.service_on-behind.result.at - 1 ≡ c.loop-y.scan.at + length (component a.y (part c.loop-y.scan.at a.limit a.d.now) 0 0) =
     sought_stop _ _ _ _ c.requires.1 _ c.service_on-behind.ensures _ refl c.if-limit-stop.false c.if-x-y.false in
     λ h.
-    ap (λ (q : Quick). q.span) c.told-then-x-y-3.ensures ∙ count_out _ _ _ _ _ _ _ _ _ c.loop-y.invariant.0 _ (stops) c.if-limit-stop.false c.if-e-eq0.false c.if-x-y-3.true
+    ap (λ (q : Quick). q.span) c.told-then-x-y-3.ensures ∙ count_out _ _ _ _ _ _ _ _ _ c.loop-y.invariant.0 _ (stops) c.if-limit-stop.false c.if-e-eq0.false
+    c.if-x-y-3.true
 
 pub overflow_sub-e : goal.overflow_sub-e
 overflow_sub-e c = omega (arith, c.if-e-eq0.false)

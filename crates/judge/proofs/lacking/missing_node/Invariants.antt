@@ -7,7 +7,8 @@ use Rattle.judge.proofs.lacking.missing_node.Given as goal
 
 abbrev pub invariant-loop-gaps : goal.invariant-loop-gaps
 invariant-loop-gaps l =
-    Sought (guide_of l.edition) (missed (guide_of l.edition) l.counts) (first_node (guide_of l.edition) (within l.initial.gaps (missed (guide_of l.edition) l.counts))) l.gaps
+    Sought (guide_of l.edition) (missed (guide_of l.edition) l.counts)
+    (first_node (guide_of l.edition) (within l.initial.gaps (missed (guide_of l.edition) l.counts))) l.gaps
 
 abbrev pub decreases-loop-gaps : goal.decreases-loop-gaps
 decreases-loop-gaps l = l.gaps

@@ -54,7 +54,8 @@ missing_node-m-requires c =
     let before-inside : c.args.last < length (guide_of c.args.edition) =
     let a = c.args in
     last-inside a.edition (view_of a.y (part a.start a.end a.d.now)) a.last _ c.node_for-n.ensures c.if-n-eq0.false in
-    let follows : some_level (follows_in (guide_of c.args.edition) c.node_for-n.result) (levels (guide_of c.args.edition) (suc c.args.last) c.args.last 0) ≡ true =
+    let follows : some_level (follows_in (guide_of c.args.edition) c.node_for-n.result) (levels (guide_of c.args.edition) (suc c.args.last) c.args.last 0)
+    ≡ true =
     let a = c.args in
     found-follows a.edition (view_of a.y (part a.start a.end a.d.now)) a.last _ c.node_for-n.ensures c.if-n-eq0.false in
     record {

@@ -21,9 +21,11 @@ use Rattle.judge.proofs.seeking.node_for.Goals as goal
 
 pub returns-then-likely-eq0 : goal.returns-then-likely-eq0
 returns-then-likely-eq0 c =
-    let both : let a = c.args in bit_and c.followers.result c.tagged.result ≡ bit_and (followers_of (guide_of a.edition) a.last) (tagged_of (guide_of a.edition) c.tag_number-tag.result) =
+    let both : let a = c.args in bit_and c.followers.result c.tagged.result
+    ≡ bit_and (followers_of (guide_of a.edition) a.last) (tagged_of (guide_of a.edition) c.tag_number-tag.result) =
     ap₂ bit_and c.followers.ensures c.tagged.ensures in
-    let begun : let a = c.args in let v = view_of a.y (part a.start a.end a.d.now) in Sought (guide_of a.edition) (has_code a.edition v) (seek (guide_of a.edition) v (levels (guide_of a.edition) (suc a.last) a.last 0)) (bit_and c.followers.result c.tagged.result) =
+    let begun : let a = c.args in let v = view_of a.y (part a.start a.end a.d.now) in Sought (guide_of a.edition) (has_code a.edition v)
+    (seek (guide_of a.edition) v (levels (guide_of a.edition) (suc a.last) a.last 0)) (bit_and c.followers.result c.tagged.result) =
     let a = c.args in
     seek-begins a.edition a.y a.d.now a.start a.end (λ i. omega (arith, c.shared_slice_known-1.given i)) _
     c.tag_number-tag.ensures a.last _ (both) in
@@ -32,9 +34,11 @@ returns-then-likely-eq0 c =
 pub returns-then-keyed-eq0 : goal.returns-then-keyed-eq0
 unfolding coded_of
 returns-then-keyed-eq0 c =
-    let both : let a = c.args in bit_and c.followers.result c.tagged.result ≡ bit_and (followers_of (guide_of a.edition) a.last) (tagged_of (guide_of a.edition) c.tag_number-tag.result) =
+    let both : let a = c.args in bit_and c.followers.result c.tagged.result
+    ≡ bit_and (followers_of (guide_of a.edition) a.last) (tagged_of (guide_of a.edition) c.tag_number-tag.result) =
     ap₂ bit_and c.followers.ensures c.tagged.ensures in
-    let begun : let a = c.args in let v = view_of a.y (part a.start a.end a.d.now) in Sought (guide_of a.edition) (has_code a.edition v) (seek (guide_of a.edition) v (levels (guide_of a.edition) (suc a.last) a.last 0)) (bit_and c.followers.result c.tagged.result) =
+    let begun : let a = c.args in let v = view_of a.y (part a.start a.end a.d.now) in Sought (guide_of a.edition) (has_code a.edition v)
+    (seek (guide_of a.edition) v (levels (guide_of a.edition) (suc a.last) a.last 0)) (bit_and c.followers.result c.tagged.result) =
     let a = c.args in
     seek-begins a.edition a.y a.d.now a.start a.end (λ i. omega (arith, c.shared_slice_known-1.given i)) _
     c.tag_number-tag.ensures a.last _ (both) in
@@ -53,9 +57,11 @@ key_number-key-requires c =
 pub found_by-requires : goal.found_by-requires
 unfolding Nodes
 found_by-requires c =
-    let both : let a = c.args in bit_and c.followers.result c.tagged.result ≡ bit_and (followers_of (guide_of a.edition) a.last) (tagged_of (guide_of a.edition) c.tag_number-tag.result) =
+    let both : let a = c.args in bit_and c.followers.result c.tagged.result
+    ≡ bit_and (followers_of (guide_of a.edition) a.last) (tagged_of (guide_of a.edition) c.tag_number-tag.result) =
     ap₂ bit_and c.followers.ensures c.tagged.ensures in
-    let begun : let a = c.args in let v = view_of a.y (part a.start a.end a.d.now) in Sought (guide_of a.edition) (has_code a.edition v) (seek (guide_of a.edition) v (levels (guide_of a.edition) (suc a.last) a.last 0)) (bit_and c.followers.result c.tagged.result) =
+    let begun : let a = c.args in let v = view_of a.y (part a.start a.end a.d.now) in Sought (guide_of a.edition) (has_code a.edition v)
+    (seek (guide_of a.edition) v (levels (guide_of a.edition) (suc a.last) a.last 0)) (bit_and c.followers.result c.tagged.result) =
     let a = c.args in
     seek-begins a.edition a.y a.d.now a.start a.end (λ i. omega (arith, c.shared_slice_known-1.given i)) _
     c.tag_number-tag.ensures a.last _ (both) in
@@ -63,7 +69,8 @@ found_by-requires c =
 
 pub returns : goal.returns
 returns c =
-    let both : let a = c.args in bit_and c.followers.result c.tagged.result ≡ bit_and (followers_of (guide_of a.edition) a.last) (tagged_of (guide_of a.edition) c.tag_number-tag.result) =
+    let both : let a = c.args in bit_and c.followers.result c.tagged.result
+    ≡ bit_and (followers_of (guide_of a.edition) a.last) (tagged_of (guide_of a.edition) c.tag_number-tag.result) =
     ap₂ bit_and c.followers.ensures c.tagged.ensures in
     let a = c.args in
     seek_keyed a.edition a.y a.d.now a.start a.end (λ i. omega (arith, c.shared_slice_known-1.given i)) _

@@ -18,4 +18,9 @@ returns-in-90 c = rw c.in-90.is
 
 pub returns-in_default : goal.returns-in_default
 unfolding tag_of begins
-returns-in_default c = rw (ne_eqb _ _ c.in_default.in_default-own.rest.0.0.1, ne_eqb _ _ c.in_default.in_default-own.rest.0.1, ne_eqb _ _ c.in_default.in_default-own.rest.1)
+returns-in_default c = rw (
+  ne_eqb _ _ c.in_default.in_default-own.rest.0.0.1,
+  ne_eqb _ _ c.in_default.in_default-own.rest.0.1,
+  ne_eqb _ _
+      c.in_default.in_default-own.rest.1,
+)

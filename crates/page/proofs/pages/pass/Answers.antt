@@ -58,7 +58,8 @@ loop-y-preserved-then-stop-eq2 c =
     extent_ended _ _ _ _ _ c.component_from-p.ensures c.loop-y.invariant.0.ahead c.requires.1 in
     let counted : let a = c.args in c.component_from-p.result.length ≡ length (decoded a.y c.loop-y.a c.component_from-p.result.end a.d.now) =
     extent-length _ _ _ _ _ c.component_from-p.ensures c.loop-y.invariant.0.ahead c.requires.1 in
-    let behind : let a = c.args in Behind a.y (page_in a.page) a.d.now a.limit (page_fault a.y (page_in a.page) (part a.start a.limit a.d.now)) c.loop-y.a c.loop-y.e c.loop-y.c c.mood_after-mood.result =
+    let behind : let a = c.args in Behind a.y (page_in a.page) a.d.now a.limit (page_fault a.y (page_in a.page) (part a.start a.limit a.d.now)) c.loop-y.a
+    c.loop-y.e c.loop-y.c c.mood_after-mood.result =
     pass_on _ _ _ _ _ _ _ _ _ _ c.loop-y.invariant.0 _ ended _ c.row_at-row.ensures _ c.known_fault-fault.ensures c.if-fault-gt0.false _ _
     counted c.mood_after-mood.ensures in
     let q = c.loop-y.invariant in (
@@ -76,7 +77,8 @@ returns-then-lack-gt0 c =
     extent_ended _ _ _ _ _ c.component_from-p.ensures c.loop-y.invariant.0.ahead c.requires.1 in
     let counted : let a = c.args in c.component_from-p.result.length ≡ length (decoded a.y c.loop-y.a c.component_from-p.result.end a.d.now) =
     extent-length _ _ _ _ _ c.component_from-p.ensures c.loop-y.invariant.0.ahead c.requires.1 in
-    let behind : let a = c.args in Behind a.y (page_in a.page) a.d.now a.limit (page_fault a.y (page_in a.page) (part a.start a.limit a.d.now)) c.loop-y.a c.loop-y.e c.loop-y.c c.mood_after-mood.result =
+    let behind : let a = c.args in Behind a.y (page_in a.page) a.d.now a.limit (page_fault a.y (page_in a.page) (part a.start a.limit a.d.now)) c.loop-y.a
+    c.loop-y.e c.loop-y.c c.mood_after-mood.result =
     pass_on _ _ _ _ _ _ _ _ _ _ c.loop-y.invariant.0 _ ended _ c.row_at-row.ensures _ c.known_fault-fault.ensures c.if-fault-gt0.false _ _
     counted c.mood_after-mood.ensures in
     let g = pass_left _ _ _ _ _ _ _ _ _ _ c.loop-y.invariant.0 _ (ended) _ (behind) _ c.stop_at-stop.ensures _ refl c.if-stop-eq2.false _
@@ -92,7 +94,8 @@ returns-then-stop-eq0 c =
     extent_ended _ _ _ _ _ c.component_from-p.ensures c.loop-y.invariant.0.ahead c.requires.1 in
     let counted : let a = c.args in c.component_from-p.result.length ≡ length (decoded a.y c.loop-y.a c.component_from-p.result.end a.d.now) =
     extent-length _ _ _ _ _ c.component_from-p.ensures c.loop-y.invariant.0.ahead c.requires.1 in
-    let behind : let a = c.args in Behind a.y (page_in a.page) a.d.now a.limit (page_fault a.y (page_in a.page) (part a.start a.limit a.d.now)) c.loop-y.a c.loop-y.e c.loop-y.c c.mood_after-mood.result =
+    let behind : let a = c.args in Behind a.y (page_in a.page) a.d.now a.limit (page_fault a.y (page_in a.page) (part a.start a.limit a.d.now)) c.loop-y.a
+    c.loop-y.e c.loop-y.c c.mood_after-mood.result =
     pass_on _ _ _ _ _ _ _ _ _ _ c.loop-y.invariant.0 _ ended _ c.row_at-row.ensures _ c.known_fault-fault.ensures c.if-fault-gt0.false _ _
     counted c.mood_after-mood.ensures in
     let q = c.loop-y.invariant in
@@ -119,7 +122,8 @@ loop-y-preserved c =
     extent_ended _ _ _ _ _ c.component_from-p.ensures c.loop-y.invariant.0.ahead c.requires.1 in
     let counted : let a = c.args in c.component_from-p.result.length ≡ length (decoded a.y c.loop-y.a c.component_from-p.result.end a.d.now) =
     extent-length _ _ _ _ _ c.component_from-p.ensures c.loop-y.invariant.0.ahead c.requires.1 in
-    let behind : let a = c.args in Behind a.y (page_in a.page) a.d.now a.limit (page_fault a.y (page_in a.page) (part a.start a.limit a.d.now)) c.loop-y.a c.loop-y.e c.loop-y.c c.mood_after-mood.result =
+    let behind : let a = c.args in Behind a.y (page_in a.page) a.d.now a.limit (page_fault a.y (page_in a.page) (part a.start a.limit a.d.now)) c.loop-y.a
+    c.loop-y.e c.loop-y.c c.mood_after-mood.result =
     pass_on _ _ _ _ _ _ _ _ _ _ c.loop-y.invariant.0 _ ended _ c.row_at-row.ensures _ c.known_fault-fault.ensures c.if-fault-gt0.false _ _
     counted c.mood_after-mood.ensures in
     let q = c.loop-y.invariant in

@@ -7,7 +7,8 @@ use Rattle.sieve.proofs.prints.print_own.Given as goal
 
 abbrev pub invariant-loop-i : goal.invariant-loop-i
 invariant-loop-i l =
-    (l.from ≤ l.i) × (printing l.y l.d l.skip l.element l.component l.end l.from false l.before ≡ printing l.y l.d l.skip l.element l.component l.end l.i l.released l.a)
+    (l.from ≤ l.i) × (printing l.y l.d l.skip l.element l.component l.end l.from false l.before
+    ≡ printing l.y l.d l.skip l.element l.component l.end l.i l.released l.a)
 
 abbrev pub decreases-loop-i : goal.decreases-loop-i
 decreases-loop-i l = l.end - l.i

@@ -9,7 +9,8 @@ use Rattle.sieve.proofs.prints.print_segment.Given as goal
 
 abbrev pub invariant-loop-element : goal.invariant-loop-element
 invariant-loop-element l =
-    (l.element ≤ l.i) × (l.component ≤ l.i) × (printing l.y l.d l.skip l.element l.component l.limit l.i false l.a ≡ print_segment l.y l.skip (part l.start l.end l.d) l.before)
+    (l.element ≤ l.i) × (l.component ≤ l.i) × (printing l.y l.d l.skip l.element l.component l.limit l.i false l.a
+    ≡ print_segment l.y l.skip (part l.start l.end l.d) l.before)
 
 abbrev pub decreases-loop-element : goal.decreases-loop-element
 decreases-loop-element l = l.limit - l.i

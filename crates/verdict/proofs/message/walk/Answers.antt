@@ -94,7 +94,9 @@ pub returns-then-last : goal.returns-then-last
 returns-then-last c =
     let took : Upcoming c.args.y c.args.d.now c.loop-place.at c.loop-place.first c.in-Inside.place c.in-Inside.last =
     upcoming _ _ _ _ _ _ (sym c.head_at-s.ensures ∙ c.in-Inside.is) in
-    let on : Passed c.args.edition c.args.y c.args.d.now c.args.start c.args.stop (rest c.args.y c.args.d.now c.in-Inside.last c.in-Fits.end) c.segment_answer-answer.new.counts c.keep-kept.new.came c.keep-kept.result c.in-Fits.end (c.loop-place.n + 1) × (c.loop-place.at < c.in-Fits.end) × (c.in-Fits.end ≤ length c.args.d.now) =
+    let on : Passed c.args.edition c.args.y c.args.d.now c.args.start c.args.stop (rest c.args.y c.args.d.now c.in-Inside.last c.in-Fits.end)
+    c.segment_answer-answer.new.counts c.keep-kept.new.came c.keep-kept.result c.in-Fits.end (c.loop-place.n + 1) × (c.loop-place.at < c.in-Fits.end)
+    × (c.in-Fits.end ≤ length c.args.d.now) =
     let q = took in
     passed_on _ _ _ _ _ _ _ _ _ _ _ c.loop-place.invariant _ _ _ q.cuts q.later (rest c.args.y c.args.d.now c.in-Inside.last) q.list _
     c.segment_answer-answer.ensures.value _ _ c.in-Fits.is _ _ _
@@ -109,7 +111,9 @@ pub loop-place-smaller : goal.loop-place-smaller
 loop-place-smaller c =
     let took : Upcoming c.args.y c.args.d.now c.loop-place.at c.loop-place.first c.in-Inside.place c.in-Inside.last =
     upcoming _ _ _ _ _ _ (sym c.head_at-s.ensures ∙ c.in-Inside.is) in
-    let on : Passed c.args.edition c.args.y c.args.d.now c.args.start c.args.stop (rest c.args.y c.args.d.now c.in-Inside.last c.in-Fits.end) c.segment_answer-answer.new.counts c.keep-kept.new.came c.keep-kept.result c.in-Fits.end (c.loop-place.n + 1) × (c.loop-place.at < c.in-Fits.end) × (c.in-Fits.end ≤ length c.args.d.now) =
+    let on : Passed c.args.edition c.args.y c.args.d.now c.args.start c.args.stop (rest c.args.y c.args.d.now c.in-Inside.last c.in-Fits.end)
+    c.segment_answer-answer.new.counts c.keep-kept.new.came c.keep-kept.result c.in-Fits.end (c.loop-place.n + 1) × (c.loop-place.at < c.in-Fits.end)
+    × (c.in-Fits.end ≤ length c.args.d.now) =
     let q = took in
     passed_on _ _ _ _ _ _ _ _ _ _ _ c.loop-place.invariant _ _ _ q.cuts q.later (rest c.args.y c.args.d.now c.in-Inside.last) q.list _
     c.segment_answer-answer.ensures.value _ _ c.in-Fits.is _ _ _
@@ -123,7 +127,9 @@ pub loop-place-preserved : goal.loop-place-preserved
 loop-place-preserved c =
     let took : Upcoming c.args.y c.args.d.now c.loop-place.at c.loop-place.first c.in-Inside.place c.in-Inside.last =
     upcoming _ _ _ _ _ _ (sym c.head_at-s.ensures ∙ c.in-Inside.is) in
-    let on : Passed c.args.edition c.args.y c.args.d.now c.args.start c.args.stop (rest c.args.y c.args.d.now c.in-Inside.last c.in-Fits.end) c.segment_answer-answer.new.counts c.keep-kept.new.came c.keep-kept.result c.in-Fits.end (c.loop-place.n + 1) × (c.loop-place.at < c.in-Fits.end) × (c.in-Fits.end ≤ length c.args.d.now) =
+    let on : Passed c.args.edition c.args.y c.args.d.now c.args.start c.args.stop (rest c.args.y c.args.d.now c.in-Inside.last c.in-Fits.end)
+    c.segment_answer-answer.new.counts c.keep-kept.new.came c.keep-kept.result c.in-Fits.end (c.loop-place.n + 1) × (c.loop-place.at < c.in-Fits.end)
+    × (c.in-Fits.end ≤ length c.args.d.now) =
     let q = took in
     passed_on _ _ _ _ _ _ _ _ _ _ _ c.loop-place.invariant _ _ _ q.cuts q.later (rest c.args.y c.args.d.now c.in-Inside.last) q.list _
     c.segment_answer-answer.ensures.value _ _ c.in-Fits.is _ _ _
