@@ -5,7 +5,7 @@ ghost use Rattle.held.specs.Reading.{next_from, reader_on, answer_of, moved_on};
 use crate::next::{next_from, place_after};
 use cut::{Cut, Syntax};
 
-#[derive(Drop)]
+#[derive(Clone, Copy)]
 pub struct Reader<'a> {
     pub syntax: Syntax,
     pub delivery: &'a [u8],
