@@ -1,6 +1,6 @@
 /* Schaumtruhe: reads deliveries of EDIFACT bytes that hold PRICAT messages (2.0d and 2.0c), judges each message and hands out its prices.
  *
- * Link libschaumtruhe_c.a (`rt staticlib schaumtruhe_c` writes it), x86-64 Linux. The calls keep nothing between them and use no heap; any
+ * Link libschaumtruhe_c.a (`rust/archive.sh` writes it), x86-64 Linux. The calls keep nothing between them and use no heap; any
  * number of threads may call at once.
  *
  * What a caller owes is what C asks of any pointer and length, and nothing more:
