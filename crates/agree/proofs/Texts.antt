@@ -47,9 +47,9 @@ module _ (y : Syntax) where
   unfolding same_text
   same-text b c h = rw h (same_refl _)
 
-  get_d_tail : {A : Type 0} (xs : List A) (n : ℕ) (z : A) → get_or (drop 1 xs) n z ≡ get_or xs (suc n) z
-  get_d_tail [] n z = refl
-  get_d_tail (x ∷ xs) n z = refl
+  get_or-tail : {A : Type 0} (xs : List A) (n : ℕ) (z : A) → get_or (drop 1 xs) n z ≡ get_or xs (suc n) z
+  get_or-tail [] n z = refl
+  get_or-tail (x ∷ xs) n z = refl
 
   empty-same : (cs : List (List ℕ)) → all_empty y cs ≡ true → SameIn y [] cs
   unfolding all_empty
@@ -68,14 +68,14 @@ module _ (y : Syntax) where
   components-same (b ∷ bs) cs h zero = text_same b (get_or cs 0 []) (and_both (same_text y b (get_or cs 0 [])) (same_components y bs (drop 1 cs)) h).0
   components-same (b ∷ bs) cs h (suc c) =
       components-same bs (drop 1 cs) (and_both (same_text y b (get_or cs 0 [])) (same_components y bs (drop 1 cs)) h).1 c
-      ∙ ap (plain y false) (get_d_tail cs c [])
+      ∙ ap (plain y false) (get_or-tail cs c [])
 
   same-components : (bs cs : List (List ℕ)) → SameIn y bs cs → same_components y bs cs ≡ true
   unfolding same_components
   same-components [] cs h = same-empty cs h
   same-components (b ∷ bs) cs h =
       both-and _ _ (same-text b (get_or cs 0 []) (h 0))
-      (same-components bs (drop 1 cs) (λ c. h (suc c) ∙ sym (ap (plain y false) (get_d_tail cs c []))))
+      (same-components bs (drop 1 cs) (λ c. h (suc c) ∙ sym (ap (plain y false) (get_or-tail cs c []))))
 
   -- two elements with the number e agree, unless it is the number x
   abbrev Skips : ℕ → ℕ → List (List ℕ) → List (List ℕ) → Type 0
@@ -102,7 +102,7 @@ module _ (y : Syntax) where
       rw z h
   agrees_first x e es fs h k (suc i) =
       let z : e + suc i ≡ e + 1 + i = omega arith in
-      rw (z, ← get_d_tail es i [], ← get_d_tail fs i []) (k i)
+      rw (z, ← get_or-tail es i [], ← get_or-tail fs i []) (k i)
 
   first-agrees
       : (x e : ℕ) (es fs : List (List (List ℕ))) → Agrees x e es fs → Skips x e (get_or es 0 []) (get_or fs 0 []) × Agrees x (e + 1) (drop 1 es) (drop 1 fs)
@@ -116,7 +116,7 @@ module _ (y : Syntax) where
       rest : Agrees x (e + 1) (drop 1 es) (drop 1 fs)
       rest i =
           let z : e + suc i ≡ e + 1 + i = omega arith in
-          rw (get_d_tail es i [], get_d_tail fs i [], ← z) (h (suc i))
+          rw (get_or-tail es i [], get_or-tail fs i [], ← z) (h (suc i))
 
   rest-same : (x e : ℕ) (fs : List (List (List ℕ))) → empty_elements y x e fs ≡ true → Agrees x e [] fs
   unfolding empty_elements

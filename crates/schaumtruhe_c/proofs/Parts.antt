@@ -33,7 +33,7 @@ module _ (y z : Syntax) (d : List ℕ) (a n k : ℕ) (used : z ≡ characters_of
       let g : admission_of (characters_of y d) d ≡ 0 = rw (← used, ← asked) h in
       rw (eq-eqb _ _ g, ← used) (decoded_limited z d a (a + n) e f)
 
-  pub plain_Copied
+  pub plain_copied
       : (e m : ℕ) (out after : List ℕ) → k ≡ 0 → e ≡ min (a + n) (length d) → m ≡ length (decoded z a e d) → after ≡ copied (decoded z a e d) out
       → (m ≡ length (plain_at (characters_of y d) d a n)) × (after ≡ copied (plain_at (characters_of y d) d a n) out)
-  plain_Copied e m out after h f l w = (l ∙ ap length (given e h f), w ∙ ap (λ (s : List ℕ). copied s out) (given e h f))
+  plain_copied e m out after h f l w = (l ∙ ap length (given e h f), w ∙ ap (λ (s : List ℕ). copied s out) (given e h f))

@@ -30,10 +30,10 @@ module _ (place mark : ℕ → ℕ) (merge : ℕ → ℕ → ℕ) (has : ℕ →
         : ((v f : ℕ) → has (merge v (mark f)) (mark f) ≡ true) → (t : List ℕ) (f : ℕ) → length t ≡ size → is_in (put_in t f) f ≡ true
     put_has gets t f l = rw (get_or-set_same t (place f) (merged t f) 0 (omega (arith, inside f, l))) (gets (get_or t (place f) 0) f)
 
-    put_Keeps
+    put_keeps
         : ((v f g : ℕ) → has v (mark g) ≡ true → has (merge v (mark f)) (mark g) ≡ true) → (t : List ℕ) (f g : ℕ) → length t ≡ size
         → is_in t g ≡ true → is_in (put_in t f) g ≡ true
-    put_Keeps keeps t f g l k = go (eqb (place g) (place f)) refl
+    put_keeps keeps t f g l k = go (eqb (place g) (place f)) refl
       where
         go : (b : Bool) → eqb (place g) (place f) ≡ b → has (get_or (put_in t f) (place g) 0) (mark g) ≡ true
         go true e =
@@ -60,7 +60,7 @@ module _ (place mark : ℕ → ℕ) (merge : ℕ → ℕ → ℕ) (has : ℕ →
       (keeps : (v f g : ℕ) → has v (mark g) ≡ true → has (merge v (mark f)) (mark g) ≡ true) where
     one-stays : (t fs : List ℕ) (g : ℕ) → length t ≡ size → is_in t g ≡ true → is_in (put_all t fs) g ≡ true
     one-stays t [] g l h = h
-    one-stays t (f ∷ fs) g l h = one-stays (put_in t f) fs g (put-length t f ∙ l) (put_Keeps size inside keeps t f g l h)
+    one-stays t (f ∷ fs) g l h = one-stays (put_in t f) fs g (put-length t f ∙ l) (put_keeps size inside keeps t f g l h)
 
     pub all_stay : (t fs gs : List ℕ) → length t ≡ size → all_in t gs ≡ true → all_in (put_all t fs) gs ≡ true
     all_stay t fs [] l h = refl

@@ -23,14 +23,14 @@ use Rattle.value.proofs.Texts.{digit_one, digit_last, digits-few}
 use Rattle.value.proofs.Grammar.{sign, point, spelled, all_digits, Spelling, Apart, digits-whole, number_exact}
 
 -- a statement on numbers of k digits, by the last digit: one digit alone, or one behind a number of fewer
-by_Last
+by_last
     : (P : ℕ → ℕ → Type 0)
     → ((n : ℕ) → n < 1 → P 0 n)
     → ((k n : ℕ) → n / 10 ≡ 0 → P (suc k) n)
     → ((k n : ℕ) → (n / 10 ≡ 0 → ⊥) → P k (n / 10) → P (suc k) n)
     → (k n : ℕ) → n < 10 ^ k → P k n
-by_Last P none one more zero n h = none n h
-by_Last P none one more (suc k) n h = go (eqb (n / 10) 0) refl (by_Last P none one more k)
+by_last P none one more zero n h = none n h
+by_last P none one more (suc k) n h = go (eqb (n / 10) 0) refl (by_last P none one more k)
   where
     go : (b : Bool) → eqb (n / 10) 0 ≡ b → ((m : ℕ) → m < 10 ^ k → P k m) → P (suc k) n
     go true e ih = one k n (eqb-true (n / 10) 0 e)
@@ -58,7 +58,7 @@ decimal-one x = omega arith
 -- the digits' value is the number
 pub digits_decimal : (k n : ℕ) → n < 10 ^ k → decimal (digits_in k n) ≡ n
 digits_decimal =
-    by_Last (λ k n. decimal (digits_in k n) ≡ n)
+    by_last (λ k n. decimal (digits_in k n) ≡ n)
     (λ n h. rw (no_digits n, decimal-nothing) (omega arith))
     (λ k n h. rw (digit_one k n h, decimal-one (n % 10)) (omega arith))
     (λ k n h ih. rw (digit_last k n h, decimal-append (digits_in k (n / 10)) ((48 + n % 10) ∷ []), ih, one_value (n / 10) (n % 10)) (omega arith))
@@ -81,7 +81,7 @@ all_append (z ∷ zs) x h k =
 pub digits-all : (k n : ℕ) → n < 10 ^ k → all_digits (digits_in k n) ≡ true
 unfolding all_digits
 digits-all =
-    by_Last (λ k n. all_digits (digits_in k n) ≡ true)
+    by_last (λ k n. all_digits (digits_in k n) ≡ true)
     (λ n h. rw (no_digits n))
     (λ k n h. rw (digit_one k n h, is-digit n))
     (λ k n h ih. rw (digit_last k n h) (all_append (digits_in k (n / 10)) (48 + n % 10) ih (is-digit n)))
@@ -93,7 +93,7 @@ first-append (x ∷ xs) t h = h
 -- the first of them is no zero, but for 0 itself
 digits-first : (k n : ℕ) → n < 10 ^ k → (n ≡ 0 → ⊥) → get_or (digits_in k n) 0 48 ≡ 48 → ⊥
 digits-first =
-    by_Last (λ k n. (n ≡ 0 → ⊥) → get_or (digits_in k n) 0 48 ≡ 48 → ⊥)
+    by_last (λ k n. (n ≡ 0 → ⊥) → get_or (digits_in k n) 0 48 ≡ 48 → ⊥)
     (λ n h z. absurd (z (omega arith)))
     (λ k n h z. rw (digit_one k n h) (λ e. z (omega arith)))
     (λ k n h ih z. rw (digit_last k n h) (first-append (digits_in k (n / 10)) _ (ih h)))

@@ -114,8 +114,8 @@ module _ (y : Syntax) (d : List ℕ) (at : ℕ) where
     unfolding messages_in
     found_on u = rw (q.list, q.tag, begin_on t _ _ u)
 
-    pub found_Here
+    pub found_here
         : (m : ℕ) → is_unh t ≡ true → m ≡ last_end e (body (segments_at y d e))
         → head_found (messages_in (segments_at y d at)) ≡ found.Message s m
     unfolding messages_in head_found
-    found_Here m u l = rw (q.list, q.tag, begin-here t _ _ u, l, q.closes, q.starts)
+    found_here m u l = rw (q.list, q.tag, begin-here t _ _ u, l, q.closes, q.starts)

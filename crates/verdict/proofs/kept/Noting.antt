@@ -27,10 +27,10 @@ module _ (y : Syntax) (d t : List ℕ) (s : Found) (k : Kept) where
   abbrev Keeps : Kept → List ℕ → Type 0
   Keeps r t' = (r ≡ kept_after y d s k r.doubt) × (r.doubt ≡ false → UndoubtedBy y d s k t t')
 
-  pub after_Line
+  pub after_line
       : s.role ≡ Lin → (b : Bool) (t' : List ℕ) → (b ≡ false → Undoubted true k.doubt t t' (spanned y s.third d)) → (r : Kept)
       → r ≡ record { last = s.node; positions = k.positions + 1; reference = k.reference; intervals = k.intervals; doubt = b } → Keeps r t'
-  after_Line l b t' u r g = rw g (rw l, rw l u)
+  after_line l b t' u r g = rw g (rw l, rw l u)
 
   pub after_document
       : s.role ≡ Bgm → (z : Bool) → z ≡ k.intervals || same (spanned y s.first d) (bytes_of "Z04") → (r : Kept)

@@ -1,7 +1,7 @@
 -- `messages::found::next_from` meets its contract: what is found from the start is found from here.
 use mathlib.Core.Path.{refl, sym, ◌∙◌}
 use native.Mathlib.Omega.{arith}
-use Rattle.messages.proofs.walks.Spots.{spotted, found_none, found_on, found_Here}
+use Rattle.messages.proofs.walks.Spots.{spotted, found_none, found_on, found_here}
 use Rattle.messages.proofs.found.next_from.Goals as goal
 
 pub loop-start-init : goal.loop-start-init
@@ -15,7 +15,7 @@ returns-then-begins_message c =
     let q = spotted _ _ _ _ _ _ (sym c.spot_at-s.ensures ∙ c.in-At.is) in
     sym
     (c.loop-start.invariant
-    ∙ found_Here _ _ _ _ _ _ q _ (sym c.begins_message.ensures ∙ c.if-begins_message.true) c.message_end.ensures)
+    ∙ found_here _ _ _ _ _ _ q _ (sym c.begins_message.ensures ∙ c.if-begins_message.true) c.message_end.ensures)
 
 pub loop-start-smaller : goal.loop-start-smaller
 loop-start-smaller c =

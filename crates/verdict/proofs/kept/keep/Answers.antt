@@ -1,13 +1,13 @@
 -- `verdict::kept::keep` meets its contract: one law for each role.
 use mathlib.Core.List.{[], ◌∷◌}
 use Rattle.verdict.proofs.roles.RoleTags.{not-lin, not_unh, not_bgm}
-use Rattle.verdict.proofs.kept.Noting.{after_Line, after_document, after_beginning, after_another}
+use Rattle.verdict.proofs.kept.Noting.{after_line, after_document, after_beginning, after_another}
 use Rattle.verdict.proofs.kept.keep.Goals as goal
 
 pub returns-in-Lin : goal.returns-in-Lin
 returns-in-Lin c =
     let a = c.args in
-    let each = after_Line a.y a.d.now a.came.now a.found a.kept c.in-Lin.is _ _ c.doubt_after-doubt.ensures _
+    let each = after_line a.y a.d.now a.came.now a.found a.kept c.in-Lin.is _ _ c.doubt_after-doubt.ensures _
     c.kept_with.ensures in
     record { value = each.0; undoubted_by = each.1 }
 
