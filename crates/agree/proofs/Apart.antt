@@ -15,7 +15,7 @@ use Rattle.bytewise.proofs.Booleans.{and_both}
 use Rattle.agree.specs.Agreement.{Heading, agree_but, agree}
 use Rattle.agree.specs.Positions.{heading_from, positions_from, positions_of, agrees_any, first_after, first_agreeing}
 use Rattle.agree.specs.Articles.{articles_in, among, distinct}
-use Rattle.agree.specs.declared.first.Agreeing.TheVariants.{Nothing}
+use Rattle.std.specs.Prelude.{None}
 use Rattle.agree.proofs.Texts.{but_agree}
 use Rattle.agree.proofs.runs.Running.{any_append}
 
@@ -74,7 +74,7 @@ module _ (y : Syntax) where
 
   apart-after
       : (es : List Heading) (n : ℕ) (ss : List Segment) → Away es (articles_in y ss) → distinct (articles_in y ss) ≡ true
-      → first_after y es (positions_from n ss) ≡ Nothing
+      → first_after y es (positions_from n ss) ≡ None
   unfolding heading_from positions_from first_after
   apart-after es n [] w h = refl
   apart-after es n (s ∷ ss) w h =
@@ -84,13 +84,13 @@ module _ (y : Syntax) where
       q = heading_from s.bytes ss
 
       Found : Type 0
-      Found = distinct (articles_in y ss) ≡ true → first_after y (es ++ (q ∷ [])) (positions_from (n + 1) ss) ≡ Nothing
+      Found = distinct (articles_in y ss) ≡ true → first_after y (es ++ (q ∷ [])) (positions_from (n + 1) ss) ≡ None
 
       go
           : (b : Bool) → begins (bytes_of "LIN") s.bytes ≡ b
-          → (Away es (articles_in y ss) → distinct (articles_in y ss) ≡ true → first_after y es (positions_from (n + 1) ss) ≡ Nothing)
+          → (Away es (articles_in y ss) → distinct (articles_in y ss) ≡ true → first_after y es (positions_from (n + 1) ss) ≡ None)
           → (Away (es ++ (q ∷ [])) (articles_in y ss) → Found)
-          → first_after y es (cond b (record { number = n; place = s.start; heading = q } ∷ positions_from (n + 1) ss) (positions_from (n + 1) ss)) ≡ Nothing
+          → first_after y es (cond b (record { number = n; place = s.start; heading = q } ∷ positions_from (n + 1) ss) (positions_from (n + 1) ss)) ≡ None
       go true e f g =
           let l = articles_lin y s ss e in
           let v : Away es (article q ∷ articles_in y ss) = rw l at w in
@@ -102,6 +102,6 @@ module _ (y : Syntax) where
           f (rw l at w) (rw l at h)
 
 -- no two positions of a message agree if none of their articles comes twice
-pub articles_apart : (y : Syntax) (ss : List Segment) → distinct (articles_in y ss) ≡ true → first_agreeing y (positions_of ss) ≡ Nothing
+pub articles_apart : (y : Syntax) (ss : List Segment) → distinct (articles_in y ss) ≡ true → first_agreeing y (positions_of ss) ≡ None
 unfolding first_agreeing positions_of
 articles_apart y ss h = apart-after y [] 1 ss (away_none y (articles_in y ss)) h

@@ -1,6 +1,6 @@
 -- Where no position agrees with an earlier one, no two positions agree, and the other way round.
 use Prim.Native.Nat.{ℕ}
-use mathlib.Core.Path.{◌≡◌, refl, sym, ◌∙◌}
+use mathlib.Core.Path.{◌≡◌, refl, sym, ap, ◌∙◌}
 use mathlib.Core.Bool.{Bool, true, false, cond, ◌||◌, true≢false}
 use mathlib.Core.List.{List, [], ◌∷◌, ◌++◌, map, head-eq_of_cons-eq, tail-eq_of_cons-eq, nil≢cons}
 use native.Mathlib.Omega.{arith}
@@ -9,9 +9,16 @@ use Rattle.guide.specs.Sheet.{Position}
 use Rattle.guide.specs.Accepted.{Each, Agree, Distinct}
 use Rattle.guide.proofs.Basics.{map-append}
 use Rattle.agree.specs.Agreement.{Heading, heading_of, agree}
-use Rattle.agree.specs.Positions.{Listed, agrees_any, first_after, first_agreeing}
-use Rattle.agree.specs.declared.first.Agreeing.TheVariants.{At, Nothing}
+use Rattle.agree.specs.Positions.{Listed, agreeing_at, agrees_any, first_after, first_agreeing}
+use Rattle.std.specs.Prelude.{Some, None}
+use Rattle.agree.specs.declared.first.Agreeing.{Agreeing}
 use Rattle.agree.proofs.Texts.{heading-agree, agree-heading}
+
+-- a LIN that is found is one
+pub agreeing-same : (i a j b : ℕ) → Some (agreeing_at i a) ≡ Some (agreeing_at j b) → (i ≡ j) × (a ≡ b)
+agreeing-same i a j b h =
+    let e : agreeing_at i a ≡ agreeing_at j b = cc in
+    (ap (λ (x : Agreeing). x.segment) e, ap (λ (x : Agreeing). x.place) e)
 
 -- what is compared of each position, read off a tree or listed
 abbrev pub headings : List Position → List Heading
@@ -67,8 +74,8 @@ module _ (y : Syntax) where
   abbrev All : List Position → List Position → Type 0
   All ps es = Each (Apart es) ps × Distinct y ps
 
-  abbrev None : List Position → Type 0
-  None ps = (es : List Position) (qs : List Listed) → headings ps ≡ listed qs → first_after y (headings es) qs ≡ Nothing → All ps es
+  abbrev Unfound : List Position → Type 0
+  Unfound ps = (es : List Position) (qs : List Listed) → headings ps ≡ listed qs → first_after y (headings es) qs ≡ None → All ps es
 
   -- of each position that is apart from es and p
   split : (es : List Position) (p : Position) (ps : List Position) → Each (Apart (es ++ (p ∷ []))) ps → Each (Apart es) ps × Each (λ q. Agree y p q → ⊥) ps
@@ -84,7 +91,7 @@ module _ (y : Syntax) where
   merge es p [] h k = tt
   merge es p (q ∷ ps) h k = (each_more (λ e. Agree y e q → ⊥) p es h.0 k.0, merge es p ps h.1 k.1)
 
-  none_step : (p : Position) (ps : List Position) → None ps → None (p ∷ ps)
+  none_step : (p : Position) (ps : List Position) → Unfound ps → Unfound (p ∷ ps)
   unfolding first_after Each Distinct
   none_step p ps ih es [] l h = absurd (nil≢cons (sym l))
   none_step p ps ih es (q ∷ qs) l h =
@@ -95,20 +102,20 @@ module _ (y : Syntax) where
 
       go
           : (b : Bool) → agrees_any y q.heading (headings es) ≡ b
-          → cond b (At q.number q.place) (first_after y (headings es ++ (q.heading ∷ [])) qs) ≡ Nothing → All (p ∷ ps) es
+          → cond b (Some (agreeing_at q.number q.place)) (first_after y (headings es ++ (q.heading ∷ [])) qs) ≡ None → All (p ∷ ps) es
       go true k n = absurd (let z : ◌≡◌ {A = ℕ} 0 1 = cc in omega arith)
       go false k n =
           let i = ih (es ++ (p ∷ [])) qs (tail-eq_of_cons-eq l) (rw (← headings_more es p, e) n) in
           let s = split es p ps i.0 in
           ((any-apart p es (rw e k), s.0), (s.1, i.1))
 
-  none-all : (ps : List Position) → None ps
+  none-all : (ps : List Position) → Unfound ps
   unfolding Each Distinct
   none-all [] = λ es qs l h. (tt, tt)
   none-all (p ∷ ps) = none_step p ps (none-all ps)
 
   abbrev Nowhere : List Position → Type 0
-  Nowhere ps = (es : List Position) (qs : List Listed) → headings ps ≡ listed qs → All ps es → first_after y (headings es) qs ≡ Nothing
+  Nowhere ps = (es : List Position) (qs : List Listed) → headings ps ≡ listed qs → All ps es → first_after y (headings es) qs ≡ None
 
   all_step : (p : Position) (ps : List Position) → Nowhere ps → Nowhere (p ∷ ps)
   unfolding first_after Each Distinct
@@ -130,10 +137,10 @@ module _ (y : Syntax) where
   all_apart (p ∷ ps) = (tt, all_apart ps)
 
   -- positions read off a message's tree, and the same positions as they are listed: refusal 23 is not given exactly if no two of them agree
-  pub none-distinct : (ps : List Position) (qs : List Listed) → headings ps ≡ listed qs → first_agreeing y qs ≡ Nothing → Distinct y ps
+  pub none-distinct : (ps : List Position) (qs : List Listed) → headings ps ≡ listed qs → first_agreeing y qs ≡ None → Distinct y ps
   unfolding first_agreeing
   none-distinct ps qs l h = (none-all ps [] qs l h).1
 
-  pub distinct_none : (ps : List Position) (qs : List Listed) → headings ps ≡ listed qs → Distinct y ps → first_agreeing y qs ≡ Nothing
+  pub distinct_none : (ps : List Position) (qs : List Listed) → headings ps ≡ listed qs → Distinct y ps → first_agreeing y qs ≡ None
   unfolding first_agreeing
   distinct_none ps qs l h = all_none ps [] qs l (all_apart ps, h)

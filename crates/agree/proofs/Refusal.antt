@@ -21,13 +21,14 @@ use Rattle.guide.specs.Refusal.{Repeated, Repeats}
 use Rattle.guide.proofs.Basics.{map-append}
 use Rattle.guide.proofs.judging.FaultlessParts.{nodes_in}
 use Rattle.guide.proofs.Editions.{one-whole}
-use Rattle.agree.specs.Positions.{positions_of, first_agreeing}
+use Rattle.agree.specs.Positions.{agreeing_at, positions_of, first_agreeing}
+use Rattle.std.specs.Prelude.{Option, Some, None}
 use Rattle.agree.specs.declared.first.Agreeing.{Agreeing}
-use Rattle.agree.specs.declared.first.Agreeing.TheVariants.{At, Nothing}
+use Rattle.agree.proofs.Distinct.{agreeing-same}
 use Rattle.agree.proofs.positions.Repeated.{agreeing_repeated, agreeing_none}
 
 -- what the search answers for a message
-abbrev pub searched : Syntax → Message → Agreeing
+abbrev pub searched : Syntax → Message → Option Agreeing
 searched y m = first_agreeing y (positions_of (segments_of m))
 
 -- the node of the first LIN that agrees with an earlier one is that of segment i
@@ -45,11 +46,11 @@ repeated-node y g tree i a n r j e =
 module _ (y : Syntax) (g : Guide) (u : ℕ) (p : Passes g u) (h : Foremost g) (pages : ℕ → Page) (m : Message) where
   -- in a message that stands, agreeing positions aside, the search finds segment i at the place a exactly if the LIN there is the first that
   -- agrees with an earlier one
-  pub finds_repeated : (q : Proper y g pages m) (i a : ℕ) → (searched y m ≡ At i a) ↔ ((n : ℕ) × Repeated y g q.sheet.tree i a n)
+  pub finds_repeated : (q : Proper y g pages m) (i a : ℕ) → (searched y m ≡ Some (agreeing_at i a)) ↔ ((n : ℕ) × Repeated y g q.sheet.tree i a n)
   finds_repeated q = agreeing_repeated y g u p h (segments_of m) q.sheet
 
   -- and it finds nothing exactly if no two positions agree
-  pub finds_none : (q : Proper y g pages m) → (searched y m ≡ Nothing) ↔ Distinct y (positions_in g q.sheet.tree)
+  pub finds_none : (q : Proper y g pages m) → (searched y m ≡ None) ↔ Distinct y (positions_in g q.sheet.tree)
   finds_none q = agreeing_none y g u p h (segments_of m) q.sheet
 
   -- all proper trees of a message are one
@@ -61,18 +62,18 @@ module _ (y : Syntax) (g : Guide) (u : ℕ) (p : Passes g u) (h : Foremost g) (p
   Rule tree = Compared y (with_tag g (bytes_of "BGM") (assigned tree))
 
   -- such a message is accepted exactly if the search finds nothing where the rule applies
-  pub accepted_iff : (q : Proper y g pages m) → Accepted y g pages m ↔ (Rule q.sheet.tree → searched y m ≡ Nothing)
+  pub accepted_iff : (q : Proper y g pages m) → Accepted y g pages m ↔ (Rule q.sheet.tree → searched y m ≡ None)
   accepted_iff q = (
     λ c r. (finds_none c.proper).1 (c.distinct (subst Rule (one-tree q c.proper) r)),
     λ f. record { proper = q; distinct = λ r. (finds_none q).0 (f r) },
   )
 
-  pub repeats-found : (i a n : ℕ) → Repeats y g pages m i a n → searched y m ≡ At i a
+  pub repeats-found : (i a n : ℕ) → Repeats y g pages m i a n → searched y m ≡ Some (agreeing_at i a)
   repeats-found i a n r = (finds_repeated r.proper i a).1 (n, r.repeated)
 
   -- and where it applies, refused with 23 exactly if the search finds the segment and the place
   pub repeats_iff
-      : (q : Proper y g pages m) → Rule q.sheet.tree → (i a : ℕ) → (searched y m ≡ At i a) ↔ ((n : ℕ) × Repeats y g pages m i a n)
+      : (q : Proper y g pages m) → Rule q.sheet.tree → (i a : ℕ) → (searched y m ≡ Some (agreeing_at i a)) ↔ ((n : ℕ) × Repeats y g pages m i a n)
   repeats_iff q c i a = (
     λ e.
         let r = (finds_repeated q i a).0 e in
@@ -85,10 +86,11 @@ module _ (y : Syntax) (g : Guide) (u : ℕ) (p : Passes g u) (h : Foremost g) (p
   repeats-once i a n j b k r s =
       let f = repeats-found i a n r in
       let d = repeats-found j b k s in
-      let e : i ≡ j = cc in
+      let same = agreeing-same i a j b (sym f ∙ d) in
+      let e : i ≡ j = same.0 in
       let t = length r.repeated.front in (
         e,
-        cc,
+        same.1,
         sym (repeated-node y g r.proper.sheet.tree i a n r.repeated t r.repeated.number)
             ∙ ap (λ (z : Kids Segment). get_or (nodes_in (assigned z)) t 0) (one-tree r.proper s.proper)
             ∙ repeated-node y g s.proper.sheet.tree j b k s.repeated t (sym e ∙ r.repeated.number),

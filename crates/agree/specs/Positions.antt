@@ -1,11 +1,10 @@
 -- The positions of a message, read off its segments, and the first that agrees with an earlier one. Document 01, 'Message rules' and refusal 23.
-use Rattle.std.specs.Prelude.{ℕ, ◌+◌, Bool, false, cond, ◌||◌, List, [], ◌∷◌, ◌++◌}
+use Rattle.std.specs.Prelude.{ℕ, ◌+◌, Bool, false, cond, ◌||◌, List, [], ◌∷◌, ◌++◌, Option, Some, None}
 use Rattle.cut.specs.declared.service.Syntax.{Syntax}
 use Rattle.bytewise.specs.Bytes.{begins, bytes_of}
 use Rattle.cut.specs.Segments.{Segment}
 use Rattle.agree.specs.Agreement.{Heading, agree}
 use Rattle.agree.specs.declared.first.Agreeing.{Agreeing}
-use Rattle.agree.specs.declared.first.Agreeing.TheVariants.{At, Nothing}
 
 -- the segment that comes next, if its first three bytes are the tag t
 unfoldable pub next_if : List ℕ → List Segment → List (List ℕ)
@@ -44,11 +43,15 @@ unfoldable pub agrees_any : Syntax → Heading → List Heading → Bool
 agrees_any y h [] = false
 agrees_any y h (q ∷ qs) = agree y q h || agrees_any y h qs
 
--- "the first LIN that agrees with an earlier one", among the positions ps, which come after the earlier ones
-unfoldable pub first_after : Syntax → List Heading → List Listed → Agreeing
-first_after y earlier [] = Nothing
-first_after y earlier (p ∷ ps) =
-    cond (agrees_any y p.heading earlier) (At p.number p.place) (first_after y (earlier ++ (p.heading ∷ [])) ps)
+-- the LIN that is segment i and begins at the place a
+abbrev pub agreeing_at : ℕ → ℕ → Agreeing
+agreeing_at i a = record { segment = i; place = a }
 
-unfoldable pub first_agreeing : Syntax → List Listed → Agreeing
+-- "the first LIN that agrees with an earlier one", among the positions ps, which come after the earlier ones
+unfoldable pub first_after : Syntax → List Heading → List Listed → Option Agreeing
+first_after y earlier [] = None
+first_after y earlier (p ∷ ps) =
+    cond (agrees_any y p.heading earlier) (Some (agreeing_at p.number p.place)) (first_after y (earlier ++ (p.heading ∷ [])) ps)
+
+unfoldable pub first_agreeing : Syntax → List Listed → Option Agreeing
 first_agreeing y ps = first_after y [] ps

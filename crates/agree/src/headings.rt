@@ -1,111 +1,105 @@
 // What is compared of a position, by its places in the delivery: its LIN, and its PIA and IMD if there are such.
-ghost use Rattle.std.specs.Prelude.{◌≤◌, [], ◌∷◌, ◌≡◌, length};
-ghost use Rattle.bytewise.specs.Bytes.{part, begins};
+ghost use Rattle.std.specs.Prelude.{[], ◌≡◌, MatchOption};
+ghost use Rattle.bytewise.specs.Bytes.{part};
 ghost use Rattle.agree.specs.Agreement.{agree, agree_in};
 ghost use Rattle.agree.specs.Positions.{heading_from};
 ghost use Rattle.cut.specs.Segments.{segments_at};
 ghost use Rattle.sieve.specs.workers.Prints.{part_in};
-ghost use Rattle.agree.specs.workers.Parts.{heading_in, Optional};
+ghost use Rattle.agree.specs.workers.Parts.{heading_in, Optional, EntryAt};
 
 use crate::agreement::segments_agree;
-use cut::{Cut, Syntax, past_breaks, segment_at};
+use bytewise::begins_with;
+use cut::{Cut, Delivery, past_breaks, segment_at};
 use element::Span;
 
-// An empty part is a missing segment.
 #[derive(Clone, Copy)]
-pub struct Head {
+pub(crate) struct Head {
     pub lin: Span,
-    pub pia: Span,
-    pub imd: Span,
+    pub pia: Option<Span>,
+    pub imd: Option<Span>,
 }
 
-// Whether the first three bytes of a segment are these.
-pub(crate) fn has_tag(d: &[u8], start: usize, end: usize, a: u8, b: u8, c: u8) -> bool
-    requires { (start ≤ end) × (end ≤ length d.now) }
-    ensures { result ≡ begins (a ∷ b ∷ c ∷ []) (part start end d.now) }
-{
-    if end - start < 3 {
-        return false;
-    }
-    if d[start] != a {
-        return false;
-    }
-    if d[start + 1] != b {
-        return false;
-    }
-    d[start + 2] == c
+// A segment, and the position that it begins if it is a LIN.
+#[derive(Clone, Copy)]
+pub(crate) struct Entry {
+    pub segment: Cut,
+    pub position: Option<Head>,
 }
 
-// Whether the bytes from `at` on begin with these.
-fn stands_at(d: &[u8], at: usize, a: u8, b: u8, c: u8) -> bool
-    ensures { result ≡ begins (a ∷ b ∷ c ∷ []) (part at (length d.now) d.now) }
+// The first segment from `at` on.
+pub(crate) fn entry_at(d: Delivery<'_>, at: usize) -> Option<Entry>
+    ensures { MatchOption result (segments_at d.entry.syntax d.entry.bytes.now at ≡ []) (λ r. EntryAt d.entry.syntax d.entry.bytes.now at r) }
 {
-    if d.len() <= at {
-        return false;
-    }
-    has_tag(d, at, d.len(), a, b, c)
-}
-
-// The first segment from `at` on if it has this tag, and else the empty part at `at`. Only one that begins so is cut.
-fn optional_at(y: Syntax, d: &[u8], at: usize, a: u8, b: u8, c: u8) -> Span
-    ensures { Optional y d.now at (a ∷ b ∷ c ∷ []) result }
-{
-    if !stands_at(d, past_breaks(y, d, at), a, b, c) {
-        return Span { start: at, end: at };
-    }
-    let s = segment_at(y, d, at);
-    let Cut::Segment {
-        start,
-        end,
-        piece: _,
-    } = s
-    else {
-        return Span { start: at, end: at };
+    let segment = segment_at(d, at)?;
+    let lin = span_of(segment);
+    let position = if begins_with(lin.part(d.bytes), b"LIN") {
+        Some(head_at(d, lin))
+    } else {
+        None
     };
-    if has_tag(d, start, end, a, b, c) {
-        return Span { start, end };
-    }
-    Span { start: at, end: at }
+    Some(Entry { segment, position })
 }
 
-// The position whose LIN stands from `start` to `end`.
-pub(crate) fn head_at(y: Syntax, d: &[u8], start: usize, end: usize) -> Head
-    ensures { heading_in result d.now ≡ heading_from (part start end d.now) (segments_at y d.now end) }
+fn span_of(segment: Cut) -> Span
+    ensures { result ≡ record { start = segment.start; end = segment.end } }
 {
-    let lin = Span { start, end };
-    let pia = optional_at(y, d, end, 80, 73, 65);
-    let imd = optional_at(y, d, pia.end, 73, 77, 68);
+    Span {
+        start: segment.start,
+        end: segment.end,
+    }
+}
+
+// The first segment from `at` on, if it has this tag. Only one that begins so is cut.
+fn optional_at(d: Delivery<'_>, at: usize, tag: &[u8]) -> Option<Span>
+    ensures { Optional d.entry.syntax d.entry.bytes.now at tag.now result }
+{
+    let rest = Span {
+        start: past_breaks(d, at),
+        end: d.bytes.len(),
+    };
+    if !begins_with(rest.part(d.bytes), tag) {
+        return None;
+    }
+    let found = span_of(segment_at(d, at)?);
+    if begins_with(found.part(d.bytes), tag) {
+        Some(found)
+    } else {
+        None
+    }
+}
+
+// The position whose LIN this is.
+fn head_at(d: Delivery<'_>, lin: Span) -> Head
+    ensures { heading_in result d.entry.bytes.now
+        ≡ heading_from (part lin.start lin.end d.entry.bytes.now) (segments_at d.entry.syntax d.entry.bytes.now lin.end) }
+{
+    let pia = optional_at(d, lin.end, b"PIA");
+    let behind = match pia {
+        Some(s) => s.end,
+        None => lin.end,
+    };
+    let imd = optional_at(d, behind, b"IMD");
     Head { lin, pia, imd }
 }
 
 // Whether two segments that may be missing are both missing, or both stand and agree.
-fn optional_agree(y: Syntax, d: &[u8], s: Span, t: Span) -> bool
-    ensures { result ≡ agree_in y (part_in s d.now) (part_in t d.now) }
+#[tactic(auto, unfolding(crate::specs::Agreement::agree_in))]
+fn optional_agree(d: Delivery<'_>, s: Option<Span>, t: Option<Span>) -> bool
+    ensures { result ≡ agree_in d.entry.syntax (part_in s d.entry.bytes.now) (part_in t d.entry.bytes.now) }
 {
-    if s.end <= s.start {
-        return t.end <= t.start;
+    match (s, t) {
+        (Some(s), Some(t)) => segments_agree(d, s, t, 0),
+        (None, None) => true,
+        _ => false,
     }
-    if t.end <= t.start {
-        return false;
-    }
-    segments_agree(y, d, s.start, s.end, t.start, t.end, 0)
 }
 
 // Whether two positions agree.
-pub(crate) fn heads_agree(y: Syntax, d: &[u8], p: Head, q: Head) -> bool
-    ensures { result ≡ agree y (heading_in p d.now) (heading_in q d.now) }
+#[tactic(auto, unfolding(crate::specs::Agreement::agree))]
+pub(crate) fn heads_agree(d: Delivery<'_>, p: Head, q: Head) -> bool
+    ensures { result ≡ agree d.entry.syntax (heading_in p d.entry.bytes.now) (heading_in q d.entry.bytes.now) }
 {
-    let a = p.lin;
-    let b = q.lin;
-    if !segments_agree(y, d, a.start, a.end, b.start, b.end, 1) {
-        return false;
-    }
-    let f = p.pia;
-    let g = q.pia;
-    if !optional_agree(y, d, f, g) {
-        return false;
-    }
-    let j = p.imd;
-    let k = q.imd;
-    optional_agree(y, d, j, k)
+    segments_agree(d, p.lin, q.lin, 1)
+        && optional_agree(d, p.pia, q.pia)
+        && optional_agree(d, p.imd, q.imd)
 }

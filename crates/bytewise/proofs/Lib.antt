@@ -5,3 +5,4 @@ pub mod Words
 pub mod Every
 pub mod Bytewise
 pub mod Clearing
+pub mod Searching

@@ -14,9 +14,6 @@ use Rattle.bytewise.proofs.Parts.{part-part, length_part}
 pub end_past : (n e : ℕ) → n < e → n ≡ min e n
 end_past n e h = omega arith
 
-pub end_within : (n e : ℕ) → e ≤ n → e ≡ min e n
-end_within n e h = omega arith
-
 -- with the delivery's end, and with any place past it, a part runs to the last byte
 pub part_out : (d : List ℕ) (a e : ℕ) → length d ≤ e → part a e d ≡ drop a d
 unfolding part

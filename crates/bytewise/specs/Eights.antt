@@ -14,13 +14,7 @@ on_from d i k = get_or d (i + k) 0
 unfoldable pub eight_at : List ℕ → ℕ → ℕ
 eight_at d i = cond (leb (i + 8) (length d)) (number 8 (on_from d i)) 0
 
--- eight digits as one number, the first the lowest
-abbrev pub eight_of : ℕ → ℕ → ℕ → ℕ → ℕ → ℕ → ℕ → ℕ → ℕ
-eight_of a b c e f g h k =
-    a + 0x100 * b + 0x1_0000 * c + 0x100_0000 * e + 0x1_0000_0000 * f
-    + 0x100_0000_0000 * g + 0x1_0000_0000_0000 * h + 0x100_0000_0000_0000 * k
-
--- byte k of such a number
+-- byte k of a number of eight bytes
 unfoldable pub byte_of : ℕ → ℕ → ℕ
 byte_of w zero = w % 256
 byte_of w (suc k) = byte_of (w / 256) k

@@ -5,15 +5,14 @@ ghost use Rattle.bytewise.specs.Bytes.{begins};
 pub fn begins_with(d: &[u8], word: &[u8]) -> bool
     ensures { result ≡ begins word.now d.now }
 {
+    // std's starts_with compares in groups, which takes longer for a short word.
     if d.len() < word.len() {
         return false;
     }
-    let mut i = 0;
-    while i < word.len() {
+    for i in 0..word.len() {
         if d[i] != word[i] {
             return false;
         }
-        i += 1;
     }
     true
 }

@@ -1,6 +1,6 @@
 // Eight bytes as one number, so that a test of all eight is a few operations.
 ghost use Rattle.std.specs.Prelude.{◌≡◌, ◌+◌, ◌≤◌, length, eqb};
-ghost use Rattle.bytewise.specs.Eights.{eight_at, eight_of, byte_of, flags, Flagged, first_byte};
+ghost use Rattle.bytewise.specs.Eights.{eight_at, Flagged, first_byte};
 
 const ONES: u64 = 0x0101_0101_0101_0101;
 
@@ -8,39 +8,23 @@ const LOW: u64 = 0x7f7f_7f7f_7f7f_7f7f;
 
 const HIGH: u64 = 0x8080_8080_8080_8080;
 
-// One load of a word, where the eight stand one after the other.
-fn eight(a: u8, b: u8, c: u8, e: u8, f: u8, g: u8, h: u8, k: u8) -> u64
-    ensures { result ≡ eight_of a b c e f g h k }
-{
-    a as u64
-        + 0x100 * (b as u64)
-        + 0x1_0000 * (c as u64)
-        + 0x100_0000 * (e as u64)
-        + 0x1_0000_0000 * (f as u64)
-        + 0x100_0000_0000 * (g as u64)
-        + 0x1_0000_0000_0000 * (h as u64)
-        + 0x100_0000_0000_0000 * (k as u64)
-}
-
 // The eight bytes from `at` on, the first the lowest digit; 0 where fewer stand there.
 pub fn eight_at(d: &[u8], at: usize) -> u64
     ensures { result ≡ eight_at d.now at }
 {
-    if d.len() < 8 {
-        return 0;
+    if at < d.len().saturating_sub(7) {
+        eight_from(d, at)
+    } else {
+        0
     }
-    if d.len() - 8 < at {
-        return 0;
-    }
-    eight_from(d, at)
 }
 
-// The same where eight bytes stand there.
-fn eight_from(d: &[u8], at: usize) -> u64
+// The same where eight bytes stand there: one load of a word.
+pub(crate) fn eight_from(d: &[u8], at: usize) -> u64
     requires { at + 8 ≤ length d.now }
     ensures { result ≡ eight_at d.now at }
 {
-    eight(
+    u64::from_le_bytes([
         d[at],
         d[at + 1],
         d[at + 2],
@@ -49,7 +33,7 @@ fn eight_from(d: &[u8], at: usize) -> u64
         d[at + 5],
         d[at + 6],
         d[at + 7],
-    )
+    ])
 }
 
 // The high bit of each of eight bytes that is x: no sum of two low parts reaches the next byte.

@@ -4,7 +4,9 @@
 mod beginning;
 mod eights;
 mod limit;
+mod search;
 
 pub use beginning::begins_with;
 pub use eights::{alike, eight_at, first_of};
 pub use limit::limit_of;
+pub use search::{ByteTest, first_that};

@@ -5,8 +5,5 @@ ghost use Rattle.std.specs.Prelude.{◌≡◌, min, length};
 pub fn limit_of(d: &[u8], e: usize) -> usize
     ensures { result ≡ min e (length d.now) }
 {
-    if d.len() < e {
-        return d.len();
-    }
-    e
+    e.min(d.len())
 }

@@ -12,7 +12,7 @@ use lib.Dec.{ltb}
 use borrow.Author.Tests.{ltb-true, ltb-false}
 use Rattle.cut.specs.declared.service.Syntax.{Syntax}
 use Rattle.cut.specs.declared.scan.Cut.{Cut}
-use Rattle.cut.specs.declared.scan.Cut.TheVariants as cut
+use Rattle.std.specs.Prelude.{Option, Some, None}
 use Rattle.bytewise.specs.Bytes.{part}
 use Rattle.bytewise.proofs.Parts.{length_part, part_none, part-next, part-parts}
 use Rattle.bytewise.proofs.Booleans.{both-and}
@@ -30,7 +30,7 @@ use Rattle.cut.specs.Segments.{
   breaks,
   last_end,
 }
-use Rattle.cut.specs.Calls.{head_cut, cut_from, cut_at, segment_at}
+use Rattle.cut.specs.Calls.{some_cut, head_cut, cut_from, cut_at, segment_at}
 use Rattle.cut.specs.Fronts.{whole}
 use Rattle.cut.proofs.First.{Cutting, cutting, nothing, first, some-segment}
 use Rattle.cut.proofs.Skips.{trim-kept, segments_are, segments_of_none, skip_one, skip_breaks}
@@ -140,13 +140,13 @@ module _ (y : Syntax) (d : List ℕ) where
           exact = c;
         }
 
-    ahead_cut : (s e : ℕ) (p : Bool) → cut_at y d behind-breaks ≡ cut.Segment s e p → CutAhead at s e p
+    ahead_cut : (s e : ℕ) (p : Bool) → cut_at y d behind-breaks ≡ some_cut s e p → CutAhead at s e p
     ahead_cut s e p h =
         let z : s ≡ behind-breaks = (cutting y d behind-breaks false s e p h).starts in
         subst (λ (t : ℕ). CutAhead at t e p) (sym z)
-        (ahead_past e p (cutting y d behind-breaks false behind-breaks e p (h ∙ ap (λ (t : ℕ). cut.Segment t e p) z)))
+        (ahead_past e p (cutting y d behind-breaks false behind-breaks e p (h ∙ ap (λ (t : ℕ). some_cut t e p) z)))
 
-    none_cut : cut_at y d behind-breaks ≡ cut.Nothing → segments_at y d at ≡ []
+    none_cut : cut_at y d behind-breaks ≡ None → segments_at y d at ≡ []
     unfolding trimmed
     none_cut h = (pasts at).list ∙ segments_are y behind-breaks (drop behind-breaks d) ∙ ap (trimmed y) (nothing y d behind-breaks false h)
 
@@ -155,28 +155,28 @@ module _ (y : Syntax) (d : List ℕ) where
     unfolding segment_at head_cut
     segment-past = go (cut_at y d behind-breaks) refl
       where
-        go : (c : Cut) → cut_at y d behind-breaks ≡ c → segment_at y d at ≡ cut_at y d behind-breaks
-        go cut.Nothing h = rw (none_cut h) (sym h)
-        go (cut.Segment s e p) h =
-            let q = ahead_cut s e p h in
-            let n : s + length (part s e d) ≡ e = omega (arith, length_part d s e q.fits, q.some) in
+        go : (c : Option Cut) → cut_at y d behind-breaks ≡ c → segment_at y d at ≡ cut_at y d behind-breaks
+        go None h = rw (none_cut h) (sym h)
+        go (Some k) h =
+            let q = ahead_cut k.start k.end k.piece h in
+            let n : k.start + length (part k.start k.end d) ≡ k.end = omega (arith, length_part d k.start k.end q.fits, q.some) in
             rw (q.list, n) (sym h)
 
-    pub cut_ahead : (s e : ℕ) (p : Bool) → segment_at y d at ≡ cut.Segment s e p → CutAhead at s e p
+    pub cut_ahead : (s e : ℕ) (p : Bool) → segment_at y d at ≡ some_cut s e p → CutAhead at s e p
     cut_ahead s e p h = ahead_cut s e p (sym segment-past ∙ h)
 
-    pub none_ahead : segment_at y d at ≡ cut.Nothing → segments_at y d at ≡ []
+    pub none_ahead : segment_at y d at ≡ None → segments_at y d at ≡ []
     none_ahead h = none_cut (sym segment-past ∙ h)
 
   -- where a byte stands that is no line break, there is a segment
   pub some-ahead : (at : ℕ) → at < length d → is_break y (get_or d at 0) ≡ false → segments_at y d at ≡ [] → ⊥
   some-ahead at h k l = go (segment_at y d at) refl
     where
-      go : (c : Cut) → segment_at y d at ≡ c → ⊥
-      go cut.Nothing e =
+      go : (c : Option Cut) → segment_at y d at ≡ c → ⊥
+      go None e =
           some-segment y at false (get_or d at 0) (drop (suc at) d)
           (rw (drop-cons d at 0 h) at (nothing y d at false (sym (segment-past at ∙ ap (cut_at y d) (past-here at h k)) ∙ e)))
-      go (cut.Segment s e p) f = nil≢cons (sym l ∙ (cut_ahead at s e p f).list)
+      go (Some k) f = nil≢cons (sym l ∙ (cut_ahead at k.start k.end k.piece f).list)
 
   -- nothing is cut at the delivery's end alone
   nothing_left : (e : ℕ) → e ≤ length d → segments_from y e false (drop e d) ≡ [] → e ≡ length d
@@ -201,7 +201,7 @@ module _ (y : Syntax) (d : List ℕ) where
     pub last : s.piece ≡ true → ss ≡ []
     pub piece_end : s.piece ≡ true → end_of s ≡ length d
     pub alone : segments_of y s.start s.bytes ≡ s ∷ []
-    pub exact : cut_at y d s.start ≡ cut.Segment s.start (end_of s) s.piece
+    pub exact : cut_at y d s.start ≡ some_cut s.start (end_of s) s.piece
 
   module _ (at s e : ℕ) (p : Bool) (q : CutAhead at s e p) where
     abbrev found : Segment
@@ -235,12 +235,12 @@ module _ (y : Syntax) (d : List ℕ) where
   pub first-ahead : (at : ℕ) (s : Segment) (ss : List Segment) → segments_at y d at ≡ s ∷ ss → FirstAhead at s ss
   first-ahead at s ss l = go (segment_at y d at) refl
     where
-      go : (c : Cut) → segment_at y d at ≡ c → FirstAhead at s ss
-      go cut.Nothing h = absurd (nil≢cons (sym (none_ahead at h) ∙ l))
-      go (cut.Segment a e p) h =
-          let q = cut_ahead at a e p h in
+      go : (c : Option Cut) → segment_at y d at ≡ c → FirstAhead at s ss
+      go None h = absurd (nil≢cons (sym (none_ahead at h) ∙ l))
+      go (Some k) h =
+          let q = cut_ahead at k.start k.end k.piece h in
           let heads = sym l ∙ q.list in
-          subst₂ (FirstAhead at) (sym (head-eq_of_cons-eq heads)) (sym (tail-eq_of_cons-eq heads)) (first_cut at a e p q)
+          subst₂ (FirstAhead at) (sym (head-eq_of_cons-eq heads)) (sym (tail-eq_of_cons-eq heads)) (first_cut at k.start k.end k.piece q)
 
   no_more : (ss ts : List Segment) → ss ++ ts ≡ [] → ss ≡ []
   no_more [] ts h = refl

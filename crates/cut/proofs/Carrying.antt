@@ -1,24 +1,27 @@
 -- Where a segment ends, from the place at which it begins on: byte by byte, and over the bytes that end nothing.
 use Prim.Native.Nat.{ℕ, zero, suc, ◌+◌, ◌-◌, ◌≤◌, ◌<◌}
 use mathlib.Core.Path.{◌≡◌, refl, sym, ◌∙◌, subst}
-use mathlib.Core.Bool.{true, false}
+use mathlib.Core.Bool.{true, false, true≢false}
 use mathlib.Core.List.{List, [], ◌∷◌}
 use native.Mathlib.Nat.{add-zero}
 use native.Mathlib.Omega.{arith}
 use lib.ListN.{length, get_or, drop}
 use Rattle.cut.specs.declared.service.Syntax.{Syntax}
-use Rattle.cut.specs.declared.scan.Cut.TheVariants as cut
 use Rattle.cut.specs.Segments.{Segment, segments_from}
-use Rattle.cut.specs.Calls.{cut_at}
+use Rattle.cut.specs.Calls.{some_cut, cut_at}
 use Rattle.cut.specs.workers.Carrying.{Carries}
 use Rattle.cut.specs.workers.Scanning.{open_cut, Onward}
+use Rattle.cut.proofs.Cuts.{end-same, piece-same}
 use Rattle.cut.proofs.First.{cutting}
 use Rattle.cut.proofs.cutting.Scanning.{cut_open, open_end, open_marked, onward-none, onward-plain, onward_released, marked_release}
 
-reopened : (a b e : ℕ) (ss : List Segment) → open_cut b b ss ≡ cut.Segment b e false → open_cut a b ss ≡ cut.Segment a e false
+reopened : (a b e : ℕ) (ss : List Segment) → open_cut b b ss ≡ some_cut b e false → open_cut a b ss ≡ some_cut a e false
 unfolding open_cut
-reopened a b e [] h = absurd (let z : ◌≡◌ {A = ℕ} 0 1 = cc in omega arith)
-reopened a b e (s ∷ ss) h = cc
+reopened a b e [] h = absurd (true≢false (piece-same _ _ _ _ _ _ h))
+reopened a b e (s ∷ ss) h =
+    let k = end-same _ _ _ _ _ _ h in
+    let q = piece-same _ _ _ _ _ _ h in
+    cc
 
 module _ (y : Syntax) (d : List ℕ) where
   onward_carries : (a b : ℕ) → Onward y d a false b → Carries y d a b
@@ -64,5 +67,5 @@ module _ (y : Syntax) (d : List ℕ) where
       subst (Carries y d a) z (carries_more (b - a) a (omega arith) (λ k i j. n k i (omega arith)) (λ k i j. f k i (omega arith)))
 
   -- a terminator alone
-  pub ended_here : (a : ℕ) → a < length d → get_or d a 0 ≡ y.terminator → cut_at y d a ≡ cut.Segment a (a + 1) false
+  pub ended_here : (a : ℕ) → a < length d → get_or d a 0 ≡ y.terminator → cut_at y d a ≡ some_cut a (a + 1) false
   ended_here a h t = cut_open y d a false h ∙ open_end y d a a h t

@@ -9,10 +9,11 @@ use native.Mathlib.Omega.{arith}
 use lib.ListN.{length, take, drop, length-drop}
 use lib.Seq.{drop-drop}
 use Rattle.cut.specs.declared.service.Syntax.{Syntax}
-use Rattle.cut.specs.declared.scan.Cut.TheVariants as cut
+use Rattle.std.specs.Prelude.{None}
 use Rattle.bytewise.specs.Bytes.{part}
 use Rattle.cut.specs.Segments.{Segment, end_of, ends, frees, join, segments_from}
-use Rattle.cut.specs.Calls.{head_cut, cut_from}
+use Rattle.cut.proofs.Cuts.{start-same, end-same, piece-same}
+use Rattle.cut.specs.Calls.{some_cut, head_cut, cut_from}
 
 -- a byte that ends a segment releases nothing
 pub ends-frees : (y : Syntax) (r : Bool) (x : ℕ) → ends y r x ≡ true → frees y r x ≡ false
@@ -121,18 +122,19 @@ cutting_first y d at r t ts s e p l f a b q =
     }
 
 pub cutting
-    : (y : Syntax) (d : List ℕ) (at : ℕ) (r : Bool) (s e : ℕ) (p : Bool) → cut_from y d at r ≡ cut.Segment s e p → Cutting y d at r s e p
+    : (y : Syntax) (d : List ℕ) (at : ℕ) (r : Bool) (s e : ℕ) (p : Bool) → cut_from y d at r ≡ some_cut s e p → Cutting y d at r s e p
 unfolding cut_from head_cut
 cutting y d at r s e p h = go (segments_from y at r (drop at d)) refl h
   where
-    go : (ss : List Segment) → segments_from y at r (drop at d) ≡ ss → head_cut ss ≡ cut.Segment s e p → Cutting y d at r s e p
+    go : (ss : List Segment) → segments_from y at r (drop at d) ≡ ss → head_cut ss ≡ some_cut s e p → Cutting y d at r s e p
     go [] l k = absurd (let z : ◌≡◌ {A = ℕ} 0 1 = cc in omega arith)
-    go (t ∷ ts) l k = cutting_first y d at r t ts s e p l (first y at r (drop at d) t ts l) (cc) (cc) (cc)
+    go (t ∷ ts) l k = cutting_first y d at r t ts s e p l (first y at r (drop at d) t ts l)
+        (start-same _ _ _ _ _ _ k) (end-same _ _ _ _ _ _ k) (piece-same _ _ _ _ _ _ k)
 
-pub nothing : (y : Syntax) (d : List ℕ) (at : ℕ) (r : Bool) → cut_from y d at r ≡ cut.Nothing → segments_from y at r (drop at d) ≡ []
+pub nothing : (y : Syntax) (d : List ℕ) (at : ℕ) (r : Bool) → cut_from y d at r ≡ None → segments_from y at r (drop at d) ≡ []
 unfolding cut_from head_cut
 nothing y d at r h = go (segments_from y at r (drop at d)) refl h
   where
-    go : (ss : List Segment) → segments_from y at r (drop at d) ≡ ss → head_cut ss ≡ cut.Nothing → segments_from y at r (drop at d) ≡ []
+    go : (ss : List Segment) → segments_from y at r (drop at d) ≡ ss → head_cut ss ≡ None → segments_from y at r (drop at d) ≡ []
     go [] l k = l
     go (t ∷ ts) l k = absurd (let z : ◌≡◌ {A = ℕ} 0 1 = cc in omega arith)

@@ -1,5 +1,7 @@
 pub mod cutting
 pub mod Appended
+pub mod Cuts
+pub mod Refusing
 pub mod First
 pub mod Starts
 pub mod Skips

@@ -9,12 +9,12 @@ use lib.ListN.{length, get_or, drop, length-drop}
 use lib.Dec.{eqb, leb}
 use borrow.Author.Tests.{eq-eqb, ne_eqb, leb-true, leb-false, eqb-true, eqb-false, not-true}
 use Rattle.cut.specs.declared.service.Syntax.{Syntax}
-use Rattle.cut.specs.declared.scan.Cut.TheVariants as cut
+use Rattle.std.specs.Prelude.{None}
 use Rattle.bytewise.specs.Bytes.{part}
 use Rattle.bytewise.proofs.Booleans.{and_both}
 use Rattle.cut.specs.Segments.{Segment, is_break, trimmed, segments_of, segments_at, past_at, begins_in}
 use Rattle.cut.specs.Admission.{admission_of, opening_of, segments}
-use Rattle.cut.specs.Calls.{cut_from, begins_segment}
+use Rattle.cut.specs.Calls.{some_cut, cut_from, begins_segment}
 use Rattle.cut.specs.Fronts.{whole, after}
 use Rattle.cut.specs.Since.{since}
 use Rattle.cut.proofs.First.{cutting, nothing}
@@ -99,13 +99,13 @@ module _ (y : Syntax) (d : List ℕ) where
     -- where a segment is open at a place, the first that begins later begins behind its end
     pub since_cut
         : (r : Bool) (s e : ℕ) (q : Bool) → p ≤ from → from ≤ length d → whole (segments_of y p (part p from d)) ≡ false
-        → r ≡ after y false (part p from d) → cut_from y d from r ≡ cut.Segment s e q → since from (segments_at y d p) ≡ segments_at y d e
+        → r ≡ after y false (part p from d) → cut_from y d from r ≡ some_cut s e q → since from (segments_at y d p) ≡ segments_at y d e
     since_cut r s e q h k w f a =
         since_open y d p from h k w ∙ rw (← f, (cutting y d from r s e q a).list) (sym (segments_are y e (drop e d)))
 
     pub since-nothing
         : (r : Bool) → p ≤ from → from ≤ length d → whole (segments_of y p (part p from d)) ≡ false
-        → r ≡ after y false (part p from d) → cut_from y d from r ≡ cut.Nothing → since from (segments_at y d p) ≡ segments_at y d (length d)
+        → r ≡ after y false (part p from d) → cut_from y d from r ≡ None → since from (segments_at y d p) ≡ segments_at y d (length d)
     unfolding trimmed
     since-nothing r h k w f a =
         since_open y d p from h k w ∙ rw (← f, nothing y d from r a) (sym (none-past y d (length d) (le_refl (length d))))

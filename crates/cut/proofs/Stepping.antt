@@ -7,26 +7,24 @@ use native.Mathlib.Omega.{arith}
 use lib.ListN.{length}
 use lib.Dec.{eqb}
 use borrow.Author.Tests.{eq-eqb, ne_eqb}
+use Rattle.std.specs.Prelude.{Option, Some, None}
 use Rattle.cut.specs.declared.service.Syntax.{Syntax}
 use Rattle.cut.specs.declared.scan.Cut.{Cut}
-use Rattle.cut.specs.declared.scan.Cut.TheVariants as cut
 use Rattle.cut.specs.declared.steps.Cursor.{Cursor}
-use Rattle.cut.specs.declared.steps.Step.{Step}
-use Rattle.cut.specs.declared.steps.Step.TheVariants as step
 use Rattle.bytewise.specs.Bytes.{part}
 use Rattle.cut.specs.Segments.{Segment, segments_at}
 use Rattle.cut.specs.Admission.{admission_of, opening_of, only_if, segments}
 use Rattle.cut.specs.Used.{characters_of}
-use Rattle.cut.specs.Calls.{segment_at, stepped, opened_on, step_of}
+use Rattle.cut.specs.Calls.{some_step, segment_at, stepped, opened_on, step_of}
 use Rattle.cut.proofs.Ahead.{CutAhead, cut_ahead, none_ahead}
 
 module _ (c : Cursor) (d : List ℕ) where
-  pub step_refused : (admission_of c.syntax d ≡ 0 → ⊥) → step_of c d ≡ step.Nothing
+  pub step_refused : (admission_of c.syntax d ≡ 0 → ⊥) → step_of c d ≡ None
   unfolding step_of
   step_refused n = rw (ne_eqb _ _ n)
 
   pub step_cut
-      : (p q : ℕ) (k a : Cut) → admission_of c.syntax d ≡ 0 → p ≡ opening_of c.syntax d → q ≡ max c.at p → k ≡ segment_at c.syntax d q → k ≡ a
+      : (p q : ℕ) (k a : Option Cut) → admission_of c.syntax d ≡ 0 → p ≡ opening_of c.syntax d → q ≡ max c.at p → k ≡ segment_at c.syntax d q → k ≡ a
       → step_of c d ≡ stepped c.syntax a
   unfolding step_of
   step_cut p q k a e o m l f = rw (eq-eqb _ _ e, ← o, ← m, ← l, f)
@@ -76,32 +74,33 @@ module _ (c : Cursor) (d : List ℕ) where
         rest = rw (f, g, m) k.list;
       }
 
-  abbrev Says : Step → Type 0
-  Says (step.Segment s e p n) = Stepped c d s e p n
-  Says step.Nothing = Unit {0}
+  abbrev Says : Option (Cut × Cursor) → Type 0
+  Says (Some k) = Stepped c d k.0.start k.0.end k.0.piece k.1
+  Says None = Unit {0}
 
   -- the step's segment is the first ahead, and the rest is ahead of the next cursor
-  pub step_some : (s e : ℕ) (p : Bool) (n : Cursor) → step_of c d ≡ step.Segment s e p n → Stepped c d s e p n
+  pub step_some : (s e : ℕ) (p : Bool) (n : Cursor) → step_of c d ≡ some_step s e p n → Stepped c d s e p n
   unfolding step_of
   step_some s e p n h = go (eqb (admission_of c.syntax d) 0) (segment_at c.syntax d (max c.at (opening_of c.syntax d))) refl refl h
     where
       go
-          : (a : Bool) (k : Cut) → eqb (admission_of c.syntax d) 0 ≡ a → segment_at c.syntax d (max c.at (opening_of c.syntax d)) ≡ k
-          → cond a (stepped c.syntax k) step.Nothing ≡ step.Segment s e p n → Stepped c d s e p n
-      go true (cut.Segment s' e' p') f g h =
-          subst Says h (ahead_cut s' e' p' true f (cut_ahead c.syntax d (max c.at (opening_of c.syntax d)) s' e' p' g) refl)
-      go true cut.Nothing f g h = absurd (let z : ◌≡◌ {A = ℕ} 0 1 = cc in omega arith)
+          : (a : Bool) (k : Option Cut) → eqb (admission_of c.syntax d) 0 ≡ a → segment_at c.syntax d (max c.at (opening_of c.syntax d)) ≡ k
+          → cond a (stepped c.syntax k) None ≡ some_step s e p n → Stepped c d s e p n
+      go true (Some k) f g h =
+          subst Says h
+          (ahead_cut k.start k.end k.piece true f (cut_ahead c.syntax d (max c.at (opening_of c.syntax d)) k.start k.end k.piece g) refl)
+      go true None f g h = absurd (let z : ◌≡◌ {A = ℕ} 0 1 = cc in omega arith)
       go false k f g h = absurd (let z : ◌≡◌ {A = ℕ} 0 1 = cc in omega arith)
 
   -- a step that gives none has none ahead
-  pub step_none : step_of c d ≡ step.Nothing → ahead c d ≡ []
+  pub step_none : step_of c d ≡ None → ahead c d ≡ []
   unfolding step_of ahead
   step_none h = go (eqb (admission_of c.syntax d) 0) (segment_at c.syntax d (max c.at (opening_of c.syntax d))) refl h
     where
       go
-          : (a : Bool) (k : Cut) → segment_at c.syntax d (max c.at (opening_of c.syntax d)) ≡ k
-          → cond a (stepped c.syntax k) step.Nothing ≡ step.Nothing
+          : (a : Bool) (k : Option Cut) → segment_at c.syntax d (max c.at (opening_of c.syntax d)) ≡ k
+          → cond a (stepped c.syntax k) None ≡ None
           → only_if a (segments_at c.syntax d (max c.at (opening_of c.syntax d))) ≡ []
-      go true (cut.Segment s e p) g h = absurd (let z : ◌≡◌ {A = ℕ} 0 1 = cc in omega arith)
-      go true cut.Nothing g h = none_ahead c.syntax d (max c.at (opening_of c.syntax d)) g
+      go true (Some k) g h = absurd (let z : ◌≡◌ {A = ℕ} 0 1 = cc in omega arith)
+      go true None g h = none_ahead c.syntax d (max c.at (opening_of c.syntax d)) g
       go false k g h = refl

@@ -1,6 +1,8 @@
 -- Admission of a delivery, UNA and the segments that it holds. Document 01, 'Cutting' and refusals 1 and 2; item 4.
-use Rattle.std.specs.Prelude.{ℕ, ◌+◌, Bool, true, false, cond, not, ◌&&◌, List, [], ◌∷◌, ◌++◌, length, drop, eqb, ltb}
+use Rattle.std.specs.Prelude.{ℕ, ◌+◌, Bool, true, false, cond, not, ◌&&◌, List, [], ◌∷◌, ◌++◌, length, drop, eqb, ltb, Result, Ok, Err, ⊤}
 use Rattle.cut.specs.declared.service.Syntax.{Syntax}
+use Rattle.cut.specs.declared.admit.Inadmissible.{Inadmissible}
+use Rattle.cut.specs.declared.admit.Inadmissible.TheVariants.{TooLong, Characters}
 use Rattle.bytewise.specs.Bytes.{bytes_of, begins}
 use Rattle.cut.specs.Characters.{valid}
 use Rattle.cut.specs.Segments.{Segment, segments_at, past_at}
@@ -31,6 +33,16 @@ unbroken y d = drop (past_at y d 0) d
 -- whether the delivery is admitted; the limit is that of all its bytes
 unfoldable pub admission_of : Syntax → List ℕ → ℕ
 admission_of y d = admits y (length d) (unbroken y d)
+
+-- the number of a refusal: "1: longer than the limit", 2 for the service characters
+abbrev pub number_of : Inadmissible → ℕ
+number_of TooLong = 1
+number_of Characters = 2
+
+-- the number of an answer: 0 says that the delivery is read
+abbrev pub admission_number : Result ⊤ Inadmissible → ℕ
+admission_number (Ok u) = 0
+admission_number (Err e) = number_of e
 
 -- where its segments are looked for from
 unfoldable pub opening_of : Syntax → List ℕ → ℕ

@@ -8,79 +8,72 @@ ghost use Rattle.cut.specs.Since.{since};
 
 use crate::admit::{admission, opening};
 use crate::breaks::{before_breaks, is_break};
-use crate::scan::{Cut, cut_from};
-use crate::service::Syntax;
+use crate::scan::cut_from;
+use crate::service::{Delivery, Syntax};
 
 // Whether a segment of the delivery begins at `at`. The cost is the line breaks at the delivery's start, and the line breaks and release
 // characters right before the place.
-pub fn begins_segment(y: Syntax, d: &[u8], at: usize) -> bool
-    ensures { result ≡ begins_segment y d.now at }
+pub fn begins_segment(d: Delivery<'_>, at: usize) -> bool
+    ensures { result ≡ begins_segment d.entry.syntax d.entry.bytes.now at }
 {
-    if admission(y, d) != 0 {
+    if admission(d).is_err() {
         return false;
     }
-    if d.len() <= at {
+    if d.bytes.len() <= at {
         return false;
     }
-    let first = opening(y, d);
+    let first = opening(d);
     if at < first {
         return false;
     }
-    if is_break(y, d[at]) {
+    if is_break(d.syntax, d.bytes[at]) {
         return false;
     }
-    follows_end(y, d, first, at)
+    follows_end(d, first, at)
 }
 
 // A place from which on the segments are those that begin at `from` or later, of those from `first` on.
-pub fn first_from(y: Syntax, d: &[u8], first: usize, from: usize) -> usize
-    ensures { since from (segments_at y d.now first) ≡ segments_at y d.now result }
+pub fn first_from(d: Delivery<'_>, first: usize, from: usize) -> usize
+    ensures { since from (segments_at d.entry.syntax d.entry.bytes.now first) ≡ segments_at d.entry.syntax d.entry.bytes.now result }
 {
     if from <= first {
         return first;
     }
-    if d.len() <= from {
-        return d.len();
+    if d.bytes.len() <= from {
+        return d.bytes.len();
     }
-    if follows_end(y, d, first, from) {
+    if follows_end(d, first, from) {
         return from;
     }
-    let c = cut_from(y, d, from, released_at(y, d, first, from));
-    match c {
-        Cut::Segment {
-            start: _,
-            end,
-            piece: _,
-        } => end,
-        Cut::Nothing => d.len(),
+    match cut_from(d, from, released_at(d, first, from)) {
+        Some(open) => open.end,
+        None => d.bytes.len(),
     }
 }
 
 // Whether the bytes from `first` up to `at` end where a segment ends, or with line breaks behind it.
-pub fn follows_end(y: Syntax, d: &[u8], first: usize, at: usize) -> bool
-    ensures { result ≡ whole (segments_of y first (part first at d.now)) }
+pub fn follows_end(d: Delivery<'_>, first: usize, at: usize) -> bool
+    ensures { result ≡ whole (segments_of d.entry.syntax first (part first at d.entry.bytes.now)) }
 {
-    let end = before_breaks(y, d, first, at);
+    let end = before_breaks(d, first, at);
     if end <= first {
         return true;
     }
     let last = end - 1;
-    if d[last] != y.terminator {
+    if d.bytes[last] != d.syntax.terminator {
         return false;
     }
-    !released_at(y, d, first, last)
+    !released_at(d, first, last)
 }
 
 // Whether the byte at `at` is released: an odd run of release characters stands before it.
-fn released_at(y: Syntax, d: &[u8], first: usize, at: usize) -> bool
-    requires { at < length d.now }
-    ensures { result ≡ after y false (part first at d.now) }
+fn released_at(d: Delivery<'_>, first: usize, at: usize) -> bool
+    requires { at < length d.bytes.now }
+    ensures { result ≡ after d.entry.syntax false (part first at d.entry.bytes.now) }
 {
-    let mut i = at;
     let mut released = false;
-    while first < i {
-        i -= 1;
-        if !releases(y, d[i]) {
+    for i in (first..at).rev() {
+        if !releases(d.syntax, d.bytes[i]) {
             return released;
         }
         released = !released;
@@ -89,11 +82,9 @@ fn released_at(y: Syntax, d: &[u8], first: usize, at: usize) -> bool
 }
 
 // Whether the byte x, unless it is released itself, releases the next one.
+#[tactic(auto, using(std::proofs::lemmas::Bool::Decides::nat_tests), unfolding(crate::specs::Segments::frees))]
 pub fn releases(y: Syntax, x: u8) -> bool
     ensures { result ≡ frees y false x }
 {
-    if x == y.terminator {
-        return false;
-    }
-    x == y.release
+    x != y.terminator && x == y.release
 }

@@ -11,10 +11,10 @@ mod serving;
 mod steps;
 mod used;
 
-pub use admit::{admission, opening};
+pub use admit::{Inadmissible, admission, opening};
 pub use begins::{begins_segment, first_from, follows_end, releases};
 pub use breaks::{before_breaks, past_breaks};
 pub use scan::{Cut, cut_at, segment_at};
-pub use service::{Syntax, strict, usual};
-pub use steps::{Cursor, Step};
+pub use service::{Delivery, Syntax, strict, usual};
+pub use steps::Cursor;
 pub use used::characters;

@@ -1,104 +1,43 @@
 // Which service characters may be used.
-ghost use Rattle.std.specs.Prelude.{[], ◌∷◌, ◌≡◌};
-ghost use Rattle.cut.specs.Characters.{between, allowed_byte, may_serve, service, has, distinct, valid};
+ghost use Rattle.std.specs.Prelude.{◌≡◌};
+ghost use Rattle.cut.specs.Characters.{allowed_byte, may_serve, service, distinct, valid};
 
 use crate::service::Syntax;
 
-fn lies_in(a: u8, b: u8, x: u8) -> bool
-    ensures { result ≡ between a b x }
-{
-    if x < a {
-        return false;
-    }
-    x <= b
-}
-
+#[tactic(auto, using(std::proofs::lemmas::Bool::Decides::nat_tests), unfolding(crate::specs::Characters::between, crate::specs::Characters::allowed_byte))]
 fn is_allowed(x: u8) -> bool
     ensures { result ≡ allowed_byte x }
 {
-    if lies_in(32, 126, x) {
-        return true;
-    }
-    lies_in(160, 255, x)
+    matches!(x, 32..=126 | 160..)
 }
 
 // An allowed byte that is no letter, digit, blank or minus.
+#[tactic(auto, using(std::proofs::lemmas::Bool::Decides::nat_tests), unfolding(crate::specs::Characters::between, crate::specs::Characters::may_serve))]
 fn may_serve(x: u8) -> bool
     ensures { result ≡ may_serve x }
 {
-    if !is_allowed(x) {
-        return false;
-    }
-    if lies_in(65, 90, x) {
-        return false;
-    }
-    if lies_in(97, 122, x) {
-        return false;
-    }
-    if lies_in(48, 57, x) {
-        return false;
-    }
-    if x == 32 {
-        return false;
-    }
-    x != 45
+    is_allowed(x) && !x.is_ascii_alphanumeric() && x != b' ' && x != b'-'
 }
 
+#[tactic(auto, using(std::proofs::lemmas::Bool::Decides::nat_tests), unfolding(crate::specs::Characters::distinct, crate::specs::Characters::has))]
 fn are_distinct(y: Syntax) -> bool
     ensures { result ≡ distinct (service y) }
 {
-    if stands_in(y.component, y.element, y.decimal, y.release, y.terminator) {
-        return false;
-    }
-    if stands_in(y.element, y.decimal, y.release, y.terminator, y.terminator) {
-        return false;
-    }
-    if stands_in(
-        y.decimal,
-        y.release,
-        y.terminator,
-        y.terminator,
-        y.terminator,
-    ) {
-        return false;
-    }
-    y.release != y.terminator
-}
-
-// Whether x is one of these.
-fn stands_in(x: u8, a: u8, b: u8, c: u8, e: u8) -> bool
-    ensures { result ≡ has x (a ∷ b ∷ c ∷ e ∷ []) }
-{
-    if x == a {
-        return true;
-    }
-    if x == b {
-        return true;
-    }
-    if x == c {
-        return true;
-    }
-    x == e
+    ![y.element, y.decimal, y.release, y.terminator].contains(&y.component)
+        && ![y.decimal, y.release, y.terminator].contains(&y.element)
+        && ![y.release, y.terminator].contains(&y.decimal)
+        && y.release != y.terminator
 }
 
 // Whether all five may be used together.
+#[tactic(auto, using(std::proofs::lemmas::Bool::Decides::nat_tests), unfolding(crate::specs::Characters::all_serve, crate::specs::Characters::valid))]
 pub fn may_be_used(y: Syntax) -> bool
     ensures { result ≡ valid y }
 {
-    if !may_serve(y.component) {
-        return false;
-    }
-    if !may_serve(y.element) {
-        return false;
-    }
-    if !may_serve(y.decimal) {
-        return false;
-    }
-    if !may_serve(y.release) {
-        return false;
-    }
-    if !may_serve(y.terminator) {
-        return false;
-    }
-    are_distinct(y)
+    may_serve(y.component)
+        && may_serve(y.element)
+        && may_serve(y.decimal)
+        && may_serve(y.release)
+        && may_serve(y.terminator)
+        && are_distinct(y)
 }

@@ -1,29 +1,17 @@
 // Going through the segments of a delivery once, by value.
-ghost use Rattle.std.specs.Prelude.{max, ◌≡◌};
+ghost use Rattle.std.specs.Prelude.{◌≡◌};
 ghost use Rattle.cut.specs.Calls.{opened_on, step_of};
 
 use crate::admit::{admission, opening};
 use crate::scan::{Cut, segment_at};
-use crate::service::Syntax;
+use crate::service::{Delivery, Syntax};
 use crate::used::characters;
 
 // The service characters and the place that the next segment is looked for at.
-#[derive(Clone, Copy)]
+#[derive(Clone, Copy, PartialEq, Eq, Debug)]
 pub struct Cursor {
     pub syntax: Syntax,
     pub at: usize,
-}
-
-// The next segment and the cursor after it; or nothing.
-#[derive(Clone, Copy)]
-pub enum Step {
-    Segment {
-        start: usize,
-        end: usize,
-        piece: bool,
-        next: Cursor,
-    },
-    Nothing,
 }
 
 impl Cursor {
@@ -31,35 +19,24 @@ impl Cursor {
     pub fn opened(y: Syntax, d: &[u8]) -> Cursor
         ensures { result ≡ opened_on y d.now }
     {
-        let z = characters(y, d);
-        Cursor { syntax: z, at: 0 }
+        Cursor {
+            syntax: characters(y, d),
+            at: 0,
+        }
     }
 
-    // A place within UNA counts as before the first segment.
-    pub fn step(self, d: &[u8]) -> Step
+    // The next segment and the cursor after it. A place within UNA counts as before the first segment.
+    pub fn step(self, d: &[u8]) -> Option<(Cut, Cursor)>
         ensures { result ≡ step_of self d.now }
     {
-        let y = self.syntax;
-        let at = self.at;
-        if admission(y, d) != 0 {
-            return Step::Nothing;
-        }
-        let first = opening(y, d);
-        let c = segment_at(y, d, later(at, first));
-        match c {
-            Cut::Segment { start, end, piece } => Step::Segment {
-                start,
-                end,
-                piece,
-                next: Cursor { syntax: y, at: end },
-            },
-            Cut::Nothing => Step::Nothing,
-        }
+        let syntax = self.syntax;
+        let delivery = Delivery { syntax, bytes: d };
+        admission(delivery).ok()?;
+        let found = segment_at(delivery, self.at.max(opening(delivery)))?;
+        let next = Cursor {
+            syntax,
+            at: found.end,
+        };
+        Some((found, next))
     }
-}
-
-fn later(a: usize, b: usize) -> usize
-    ensures { result ≡ max a b }
-{
-    if a < b { b } else { a }
 }

@@ -3,14 +3,18 @@ ghost use Rattle.std.specs.Prelude.{◌≡◌, get_or};
 ghost use Rattle.cut.specs.Used.{named, plainly, characters_of};
 
 use crate::breaks::past_breaks;
-use crate::service::Syntax;
+use crate::service::{Delivery, Syntax, usual};
 use bytewise::begins_with;
 
 // UNA's own, or those that are handed in for a delivery without UNA. Whether they may be used is told by `admission`.
 pub fn characters(y: Syntax, d: &[u8]) -> Syntax
     ensures { result ≡ characters_of y d.now }
 {
-    let k = past_breaks(usual_as(y), d, 0);
+    let plain = Delivery {
+        syntax: usual_as(y),
+        bytes: d,
+    };
+    let k = past_breaks(plain, 0);
     let una = &d[k..];
     if begins_with(una, b"UNA") {
         return named_by(y, una);
@@ -18,28 +22,35 @@ pub fn characters(y: Syntax, d: &[u8]) -> Syntax
     y
 }
 
+impl<'a> Delivery<'a> {
+    // A delivery with the characters that it is read with.
+    pub fn read(y: Syntax, d: &'a [u8]) -> Delivery<'a>
+        ensures { result ≡ record { syntax = characters_of y d.now; bytes = d.entry } }
+    {
+        Delivery {
+            syntax: characters(y, d),
+            bytes: d,
+        }
+    }
+}
+
+// The usual characters: UNA is looked for before the delivery's own are known.
 fn usual_as(y: Syntax) -> Syntax
     ensures { result ≡ plainly y }
 {
     Syntax {
-        component: 58,
-        element: 43,
-        decimal: 46,
-        release: 63,
-        terminator: 39,
         skips: y.skips,
+        ..usual()
     }
 }
 
 fn byte_of(d: &[u8], i: usize) -> u8
     ensures { result ≡ get_or d.now i 0 }
 {
-    if d.len() <= i {
-        return 0;
-    }
-    d[i]
+    d.get(i).copied().unwrap_or(0)
 }
 
+#[tactic(auto, unfolding(crate::specs::Used::named))]
 fn named_by(y: Syntax, una: &[u8]) -> Syntax
     ensures { result ≡ named y una.now }
 {

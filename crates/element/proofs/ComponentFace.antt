@@ -36,7 +36,7 @@ pub use Rattle.element.proofs.scan.Extents.{extent-stop}
 pub use Rattle.element.proofs.scan.Stopping.{from, Ended}
 pub use Rattle.element.proofs.scan.Splits.{Last, Stop}
 -- what a byte ends, by the tests on it
-pub use Rattle.element.proofs.scan.Endings.{ending_segment, ending_element}
+pub use Rattle.element.proofs.scan.Endings.{ending_segment, ending_element, at-end, at-segment, at-element, at-component, inside-element, inside-component}
 -- a segment has at most one component more than it has bytes: a count of them fits
 pub use Rattle.element.proofs.components.Counts.{components-count}
 pub use Rattle.bytewise.proofs.Limits.{part-fits}
@@ -50,7 +50,5 @@ pub use Rattle.element.proofs.components.Whole.{segment-joined}
 unfoldable pub use Rattle.element.proofs.components.Whole.{last_of}
 -- `same` is equality: it says true of a row and itself, and of equal rows only
 pub use Rattle.plain.proofs.Sameness.{same_refl, same_true}
--- whether a part begins with a tag, by its first four bytes
-pub use Rattle.clean.proofs.Laws.{tag-short, tag_four}
 -- an empty part has no bytes; what each byte of a part adds to the decoded ones
 pub use Rattle.plain.proofs.Decoding.{decoded-none, plain_byte, plain_released, plain-last}

@@ -10,40 +10,28 @@ use borrow.Author.Tests.{eqb-true, eqb-false}
 use lib.ListN.{length, take, drop}
 use lib.Dec.{eqb}
 use Rattle.bytewise.specs.Bytes.{part}
-use Rattle.cut.specs.Calls.{cut_from}
+use Rattle.cut.specs.Calls.{some_cut, cut_from}
 use Rattle.cut.specs.Segments.{Segment, ends, frees, join, segments_from}
-use Rattle.cut.specs.declared.scan.Cut.TheVariants as cut
 use Rattle.cut.specs.declared.service.Syntax.{Syntax}
 use Rattle.cut.proofs.First.{Cutting, cutting}
 use Rattle.bytewise.proofs.Parts.{length_part}
-use Rattle.element.specs.Elements.{
-  ends-segment,
-  ends-element,
-  ends-component,
-  ends-nothing,
-  ending_of,
-  stays,
-  releases,
-  listed,
-  before,
-  split_from,
-  elements,
-  component,
-}
+use Rattle.element.specs.Elements.{ending_of, stays, releases, listed, before, split_from, elements, component}
+use Rattle.element.specs.declared.endings.Ending.TheVariants as ends
+use Rattle.std.specs.Prelude.{Some, None}
 use Rattle.element.specs.Components.{components, component_at}
 use Rattle.bytewise.proofs.Limits.{part_out, take_part}
 use Rattle.element.proofs.components.Released.{releases-frees}
 use Rattle.element.proofs.components.Whole.{end_is}
 
 -- a release mark that is a separator too releases nothing
-mark-element : (a b c : Bool) → stays (cond a ends-segment (cond b ends-element (cond c ends-component ends-nothing))) && (not a && b) ≡ false
+mark-element : (a b c : Bool) → stays (cond a (Some ends.Segment) (cond b (Some ends.Element) (cond c (Some ends.Component) None))) && (not a && b) ≡ false
 unfolding stays
 mark-element true b c = refl
 mark-element false true c = refl
 mark-element false false true = refl
 mark-element false false false = refl
 
-mark-component : (a b c : Bool) → stays (cond a ends-segment (cond b ends-element (cond c ends-component ends-nothing))) && (not a && c) ≡ false
+mark-component : (a b c : Bool) → stays (cond a (Some ends.Segment) (cond b (Some ends.Element) (cond c (Some ends.Component) None))) && (not a && c) ≡ false
 unfolding stays
 mark-component true b c = refl
 mark-component false true c = refl
@@ -70,7 +58,7 @@ module _
     (y : Syntax) (Q : Bool → Bool → Type 0) (shut : (q : Bool) → Q q false → q ≡ false)
     (on : (q r : Bool) (x : ℕ) → Q q r → Q (releases y q x) (frees y r x))
   where
-    ends-both : (q r : Bool) (x : ℕ) → Q q r → ends y r x ≡ true → ending_of y q x ≡ ends-segment
+    ends-both : (q r : Bool) (x : ℕ) → Q q r → ends y r x ≡ true → ending_of y q x ≡ Some ends.Segment
     unfolding ends
     ends-both q true x k h = absurd (false≢true h)
     ends-both q false x k h = rw (shut q k) (end_is y false x h).0
@@ -107,7 +95,7 @@ elements-some y [] h = absurd (omega arith)
 elements-some y (x ∷ xs) h = refl
 
 -- the segment from a on ends at e
-module _ (y : Syntax) (d : List ℕ) (a s e : ℕ) (p : Bool) (h : cut_from y d a false ≡ cut.Segment s e p) where
+module _ (y : Syntax) (d : List ℕ) (a s e : ℕ) (p : Bool) (h : cut_from y d a false ≡ some_cut s e p) where
   abbrev q : Cutting y d a false s e p
   q = cutting y d a false s e p h
 

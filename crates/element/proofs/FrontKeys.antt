@@ -13,7 +13,9 @@ use Rattle.cut.specs.declared.service.Syntax.{Syntax}
 use Rattle.bytewise.proofs.Bytewise.{byte_there, flagged_there}
 use Rattle.bytewise.proofs.Clearing.{first-before, first_passes}
 use Rattle.bytewise.proofs.Parts.{length_part}
-use Rattle.element.specs.Elements.{ends-element, ending_of, stays, before, component}
+use Rattle.element.specs.Elements.{ending_of, stays, before, component}
+use Rattle.element.specs.declared.endings.Ending.TheVariants as ends
+use Rattle.std.specs.Prelude.{Some}
 use Rattle.plain.specs.Plain.{plain, decoded}
 use Rattle.element.specs.Services.{is_service, Passed, Service}
 use Rattle.plain.specs.Words.{word_of}
@@ -29,7 +31,7 @@ pub use Rattle.plain.proofs.AtOnce.{scale_some, scale_fits}
 
 -- where the first component is all of the first element
 second_element
-    : (y : Syntax) (d : List ℕ) (a e stop : ℕ) → a < e → e ≤ length d → Ended y d a e stop → stop < e → ending_of y false (get_or d stop 0) ≡ ends-element
+    : (y : Syntax) (d : List ℕ) (a e stop : ℕ) → a < e → e ≤ length d → Ended y d a e stop → stop < e → ending_of y false (get_or d stop 0) ≡ Some ends.Element
     → component y (part a e d) 1 0 ≡ (from y d (stop + 1) e).bytes
 unfolding component before
 second_element y d a e stop h k q s g =
@@ -39,7 +41,7 @@ second_element y d a e stop h k q s g =
 module _ (y : Syntax) (d : List ℕ) (start end limit : ℕ) (lim : limit ≡ min end (length d)) where
   -- no service character stands before the place p, where one ends the tag's element; the next one, at the place q, ends the component behind it
   key-part
-      : (p q : ℕ) → Passed y d start p → p < limit → ending_of y false (get_or d p 0) ≡ ends-element
+      : (p q : ℕ) → Passed y d start p → p < limit → ending_of y false (get_or d p 0) ≡ Some ends.Element
       → Service y d (p + 1) limit q → q < limit → (get_or d q 0 ≡ y.release → ⊥) → component y (part start end d) 1 0 ≡ part (p + 1) q d
   unfolding stays
   key-part p q s h g t k n =

@@ -1,12 +1,11 @@
 -- A cursor goes through the components of a segment once, from left to right.
-use Rattle.std.specs.Prelude.{ℕ, ◌+◌, min, ◌≡◌, Bool, true, false, cond, ◌&&◌, List, [], ◌∷◌, ◌++◌, length, leb, ltb}
+use Rattle.std.specs.Prelude.{ℕ, ◌+◌, min, ◌≡◌, Bool, true, false, cond, ◌&&◌, List, [], ◌∷◌, ◌++◌, length, leb, ltb, Option, Some, None}
 use Rattle.bytewise.specs.Bytes.{part}
 use Rattle.cut.specs.declared.service.Syntax.{Syntax}
 use Rattle.element.specs.Elements.{Split, split_from, component}
 use Rattle.element.specs.Components.{Component, end_of, in_element, in_elements, width}
 use Rattle.element.specs.declared.cursor.Cursor.{Cursor}
 use Rattle.element.specs.declared.cursor.Visit.{Visit}
-use Rattle.element.specs.declared.cursor.Visit.TheVariants.{At, Nothing}
 
 -- the components of what stands from the place p on, where component c of element e begins
 unfoldable pub rest_from : ℕ → ℕ → ℕ → Split → List Component
@@ -34,13 +33,17 @@ cursor_at end (k ∷ ks) = record { element = k.element; component = k.component
 unfoldable pub opening : List ℕ → ℕ → ℕ → Cursor
 opening d start end = cond (ltb start (min end (length d))) (record { element = 0; component = 0; place = start; end = end }) done
 
+-- component c of element e, from the place a up to the place b, and the cursor after it
+abbrev pub visit_at : ℕ → ℕ → ℕ → ℕ → Cursor → Visit
+visit_at e c a b next = record { element = e; component = c; start = a; end = b; next = next }
+
 -- the first of these components, and the cursor after it
-unfoldable pub visit_of : ℕ → List Component → Visit
-visit_of end [] = Nothing
-visit_of end (k ∷ ks) = At k.element k.component k.start (end_of k) (cursor_at end ks)
+unfoldable pub visit_of : ℕ → List Component → Option Visit
+visit_of end [] = None
+visit_of end (k ∷ ks) = Some (visit_at k.element k.component k.start (end_of k) (cursor_at end ks))
 
 -- a step of a cursor
-unfoldable pub step_of : Syntax → List ℕ → Cursor → Visit
+unfoldable pub step_of : Syntax → List ℕ → Cursor → Option Visit
 step_of y d k = visit_of k.end (rest y d k)
 
 -- a cursor stands, and its component ends at the place stop, in a segment that ends at the place limit

@@ -1,27 +1,28 @@
 -- Elements and components of a segment. Document 01, 'Cutting', for any service characters.
-use Rattle.std.specs.Prelude.{ℕ, Bool, true, false, cond, ◌&&◌, List, [], ◌∷◌, get_or, eqb}
+use Rattle.std.specs.Prelude.{ℕ, min, Bool, true, false, cond, ◌&&◌, List, [], ◌∷◌, length, get_or, leb, eqb, Option, Some, None, unwrap_or}
 use Rattle.cut.specs.declared.service.Syntax.{Syntax}
 use Rattle.cut.specs.Segments.{frees}
+use Rattle.element.specs.declared.endings.Ending.{Ending}
+use Rattle.element.specs.declared.endings.Ending.TheVariants as ends
 
--- "`'` ends a segment, `+` an element, `:` a component": what a byte ends
-pub data Ending : Type 0 where
-  ends-segment ends-element ends-component ends-nothing : Ending
-
--- what the byte x ends; r says that it is released. Where one byte is several service characters, it is the terminator first, then the
--- element separator, then the component separator, and the release mark last
-unfoldable pub ending_of : Syntax → Bool → ℕ → Ending
-ending_of y true x = ends-nothing
+-- "`'` ends a segment, `+` an element, `:` a component": what the byte x ends, if anything; r says that it is released. Where one byte is
+-- several service characters, it is the terminator first, then the element separator, then the component separator, and the release mark last
+unfoldable pub ending_of : Syntax → Bool → ℕ → Option Ending
+ending_of y true x = None
 ending_of y false x =
-    cond (eqb x y.terminator) ends-segment
-    (cond (eqb x y.element) ends-element
-    (cond (eqb x y.component) ends-component ends-nothing))
+    cond (eqb x y.terminator) (Some ends.Segment)
+    (cond (eqb x y.element) (Some ends.Element)
+    (cond (eqb x y.component) (Some ends.Component) None))
 
 -- whether the byte is one of its component's own
-unfoldable pub stays : Ending → Bool
-stays ends-segment = false
-stays ends-element = false
-stays ends-component = false
-stays ends-nothing = true
+unfoldable pub stays : Option Ending → Bool
+stays (Some g) = false
+stays None = true
+
+-- what ends where a component ends, at the place n of a part up to e: at the part's end the segment. A byte that ends nothing is taken
+-- for a separator of components
+unfoldable pub ending_at : Syntax → List ℕ → ℕ → ℕ → Ending
+ending_at y d n e = cond (leb (min e (length d)) n) ends.Segment (unwrap_or (ending_of y false (get_or d n 0)) ends.Component)
 
 -- "`?` makes the next byte literal": whether the byte x releases the next one. One that ends something releases nothing
 unfoldable pub releases : Syntax → Bool → ℕ → Bool
@@ -42,11 +43,11 @@ abbrev pub empty : Split
 empty = record { bytes = []; components = []; elements = [] }
 
 -- the byte x before what follows it
-unfoldable pub before : Ending → ℕ → Split → Split
-before ends-segment x s = empty
-before ends-element x s = record { bytes = []; components = []; elements = listed s }
-before ends-component x s = record { bytes = []; components = s.bytes ∷ s.components; elements = s.elements }
-before ends-nothing x s = record { bytes = x ∷ s.bytes; components = s.components; elements = s.elements }
+unfoldable pub before : Option Ending → ℕ → Split → Split
+before (Some ends.Segment) x s = empty
+before (Some ends.Element) x s = record { bytes = []; components = []; elements = listed s }
+before (Some ends.Component) x s = record { bytes = []; components = s.bytes ∷ s.components; elements = s.elements }
+before None x s = record { bytes = x ∷ s.bytes; components = s.components; elements = s.elements }
 
 -- what stands in the bytes xs, up to the first terminator that is not released; r says that the first of them is released
 unfoldable pub split_from : Syntax → Bool → List ℕ → Split

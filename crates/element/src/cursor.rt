@@ -2,12 +2,13 @@
 ghost use Rattle.std.specs.Prelude.{◌≡◌, drop};
 ghost use Rattle.element.specs.Cursors.{cursor_at, done, opening, rest, step_of, Stopped};
 
+use crate::endings::{Ending, ending_at};
 use crate::scan::component_from;
 use bytewise::limit_of;
-use cut::Syntax;
+use cut::Delivery;
 
 // The numbers and the place of the component that comes next, and the place after the segment's last byte.
-#[derive(Clone, Copy)]
+#[derive(Clone, Copy, PartialEq, Eq, Debug)]
 pub struct Cursor {
     pub element: usize,
     pub component: usize,
@@ -15,17 +16,14 @@ pub struct Cursor {
     pub end: usize,
 }
 
-// A component with its numbers, from its first byte to the place after its last, and the cursor after it; or that none is left.
-#[derive(Clone, Copy)]
-pub enum Visit {
-    At {
-        element: usize,
-        component: usize,
-        start: usize,
-        end: usize,
-        next: Cursor,
-    },
-    Nothing,
+// A component with its numbers, from its first byte to the place after its last, and the cursor after it.
+#[derive(Clone, Copy, PartialEq, Eq, Debug)]
+pub struct Visit {
+    pub element: usize,
+    pub component: usize,
+    pub start: usize,
+    pub end: usize,
+    pub next: Cursor,
 }
 
 fn spent() -> Cursor
@@ -56,56 +54,51 @@ impl Cursor {
     }
 
     // The cursor after the component that ends at the place `stop`.
-    fn after(self, y: Syntax, d: &[u8], stop: usize, limit: usize) -> Cursor
-        requires { Stopped y d.now self stop limit }
-        ensures { result ≡ cursor_at self.end (drop 1 (rest y d.now self)) }
+    fn after(self, d: Delivery<'_>, stop: usize, limit: usize) -> Cursor
+        requires { Stopped d.syntax d.bytes.now self stop limit }
+        ensures { result ≡ cursor_at self.end (drop 1 (rest d.entry.syntax d.entry.bytes.now self)) }
     {
-        if limit <= stop {
-            return spent();
-        }
-        let x = d[stop];
-        if x == y.terminator {
-            return spent();
-        }
-        if x == y.element {
-            return Cursor {
+        match ending_at(d, stop, limit) {
+            Ending::Segment => spent(),
+            Ending::Element => Cursor {
                 element: self.element + 1,
                 component: 0,
                 place: stop + 1,
                 end: self.end,
-            };
-        }
-        Cursor {
-            element: self.element,
-            component: self.component + 1,
-            place: stop + 1,
-            end: self.end,
+            },
+            Ending::Component => Cursor {
+                element: self.element,
+                component: self.component + 1,
+                place: stop + 1,
+                end: self.end,
+            },
         }
     }
 
-    // The tests on the numbers hold in every walk. They are there for cursors that no walk made, so that no sum wraps.
-    pub fn step(self, y: Syntax, d: &[u8]) -> Visit
-        ensures { result ≡ step_of y d.now self }
+    // The component that comes next, if one is left. The tests on the numbers hold in every walk. They are there for cursors that no walk made, so that no sum
+    // wraps.
+    pub fn step(self, d: Delivery<'_>) -> Option<Visit>
+        ensures { result ≡ step_of d.entry.syntax d.entry.bytes.now self }
     {
         let start = self.place;
-        let limit = limit_of(d, self.end);
+        let limit = limit_of(d.bytes, self.end);
         if limit < start {
-            return Visit::Nothing;
+            return None;
         }
         if start < self.element {
-            return Visit::Nothing;
+            return None;
         }
         if start < self.component {
-            return Visit::Nothing;
+            return None;
         }
-        let end = component_from(y, d, start, limit).end;
-        let next = self.after(y, d, end, limit);
-        Visit::At {
+        let end = component_from(d, start, limit).end;
+        let next = self.after(d, end, limit);
+        Some(Visit {
             element: self.element,
             component: self.component,
             start,
             end,
             next,
-        }
+        })
     }
 }

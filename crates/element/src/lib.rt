@@ -5,12 +5,17 @@
 mod ahead;
 mod components;
 mod cursor;
+mod endings;
 mod marks;
 mod scan;
+mod services;
 mod usual;
 
+pub use ahead::Scan;
 pub use components::{Span, component_at};
 pub use cursor::{Cursor, Visit};
-pub use marks::marks_in;
-pub use scan::{Extent, component_from, services_in};
+pub use endings::{Ending, ending_at, ending_of, frees_next};
+pub use marks::UsualMarks;
+pub use scan::{Extent, component_from};
+pub use services::{Services, services_in};
 pub use usual::has_usual_services;

@@ -4,6 +4,24 @@ ghost use Rattle.std.specs.Int.Bits.{bit_xor};
 ghost use Rattle.bytewise.specs.Eights.{Flagged};
 ghost use Rattle.element.specs.Services.{is_mark};
 
+use bytewise::ByteTest;
+
+// The test of one byte for what `marks_in` tells of eight.
+#[derive(Clone, Copy)]
+pub struct UsualMarks;
+
+impl ByteTest for UsualMarks {
+    ghost holds = { λ _. is_mark };
+
+    fn flags(&self, w: u64) -> u64 {
+        marks_in(w)
+    }
+
+    fn passes(&self, x: u8) -> bool {
+        marks_in(x as u64) % 256 != 0
+    }
+}
+
 const ALL: u64 = 0x8080_8080_8080_8080;
 
 const LOW: u64 = 0x7f7f_7f7f_7f7f_7f7f;
@@ -11,7 +29,7 @@ const LOW: u64 = 0x7f7f_7f7f_7f7f_7f7f;
 // Which of eight bytes are a usual service character or are not allowed, and with these which are `;` or `>`: they differ from `:` and `?` in two bits
 // only, and
 // one test without these bits takes less time than two. A byte with its high bit set is no service character.
-pub fn marks_in(w: u64) -> u64
+fn marks_in(w: u64) -> u64
     ensures { Flagged w is_mark result }
 {
     let low = w & LOW;

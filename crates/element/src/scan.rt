@@ -1,15 +1,13 @@
 // Where a component ends and how many bytes it has: the bytes are looked at up to the first that ends something and no further than its word, so that a
 // walk over a segment is one pass.
-ghost use Rattle.std.specs.Prelude.{◌≡◌, ◌+◌, ◌≤◌, length};
-ghost use Rattle.bytewise.specs.Bytes.{part};
-ghost use Rattle.bytewise.specs.Eights.{Flagged};
-ghost use Rattle.cut.specs.Segments.{frees};
-ghost use Rattle.element.specs.Elements.{component, ending_of, stays};
+ghost use Rattle.std.specs.Prelude.{◌≡◌, length};
+ghost use Rattle.element.specs.Elements.{component};
 ghost use Rattle.element.specs.Components.{extent_of};
-ghost use Rattle.element.specs.Services.{is_service, Service};
 
-use bytewise::limit_of;
-use cut::Syntax;
+use crate::endings::{ending_of, frees_next};
+use crate::services::Services;
+use bytewise::{first_that, limit_of};
+use cut::{Delivery, Syntax};
 use plain::plain_length;
 
 // The place after a component's last byte, and how many bytes it has with release marks removed.
@@ -19,59 +17,23 @@ pub struct Extent {
     pub length: usize,
 }
 
-fn stays_in(y: Syntax, released: bool, x: u8) -> bool
-    ensures { result ≡ stays (ending_of y released x) }
-{
-    if released {
-        return true;
-    }
-    if x == y.terminator {
-        return false;
-    }
-    if x == y.element {
-        return false;
-    }
-    if x == y.component {
-        return false;
-    }
-    true
-}
-
-fn frees_next(y: Syntax, released: bool, x: u8) -> bool
-    ensures { result ≡ frees y released x }
-{
-    if released {
-        return false;
-    }
-    if x == y.terminator {
-        return false;
-    }
-    x == y.release
-}
-
 // The component that begins at the place `from` of a part up to `end`. Up to the first release mark no byte is released and each counts.
-pub fn component_from(y: Syntax, d: &[u8], from: usize, end: usize) -> Extent
-    ensures { result ≡ extent_of y d.now from end }
+pub fn component_from(d: Delivery<'_>, from: usize, end: usize) -> Extent
+    ensures { result ≡ extent_of d.entry.syntax d.entry.bytes.now from end }
 {
-    let limit = limit_of(d, end);
-    let i = next_service(y, d, from, limit);
-    if limit <= i {
-        if limit <= from {
-            return Extent {
-                end: from,
-                length: 0,
-            };
-        }
+    let limit = limit_of(d.bytes, end);
+    if limit <= from {
         return Extent {
-            end: limit,
-            length: limit - from,
+            end: from,
+            length: 0,
         };
     }
-    if d[i] == y.release {
-        let stop = released_end(y, d, i, limit);
+    let i = first_that(&Services(d.syntax), d.bytes, from, limit);
+    if i < limit && d.bytes[i] == d.syntax.release {
+        let stop = i + released_length(d.syntax, &d.bytes[i..limit]);
         return Extent {
             end: stop,
-            length: i - from + plain_length(y, d, i, stop),
+            length: i - from + plain_length(d, i, stop),
         };
     }
     Extent {
@@ -80,73 +42,16 @@ pub fn component_from(y: Syntax, d: &[u8], from: usize, end: usize) -> Extent
     }
 }
 
-// The place of the first byte from `from` on that ends something or is the release character; `limit` or a place behind it, if none stands before
-// `limit`. Eight bytes are tested at once while eight stand there.
-fn next_service(y: Syntax, d: &[u8], from: usize, limit: usize) -> usize
-    requires { limit ≤ length d.now }
-    ensures { Service y d.now from limit result }
+// How many bytes the component has with which these begin, where any of them may be released.
+fn released_length(y: Syntax, bytes: &[u8]) -> usize
+    ensures { result ≡ length (component y bytes.now 0 0) }
 {
-    if d.len() < 8 {
-        return rest_service(y, d, from, limit);
-    }
-    let last = d.len() - 8;
-    let mut i = from;
-    while i < limit {
-        if last < i {
-            return rest_service(y, d, i, limit);
-        }
-        let m = services_in(y, bytewise::eight_at(d, i));
-        if m != 0 {
-            return i + bytewise::first_of(m);
-        }
-        i += 8;
-    }
-    i
-}
-
-// Which of eight bytes end something or are the release character.
-pub fn services_in(y: Syntax, w: u64) -> u64
-    ensures { Flagged w (is_service y) result }
-{
-    bytewise::alike(w, y.terminator)
-        | bytewise::alike(w, y.element)
-        | bytewise::alike(w, y.component)
-        | bytewise::alike(w, y.release)
-}
-
-// The same as `next_service`, a byte at a time.
-fn rest_service(y: Syntax, d: &[u8], from: usize, limit: usize) -> usize
-    requires { limit ≤ length d.now }
-    ensures { Service y d.now from limit result }
-{
-    let mut i = from;
-    while i < limit {
-        let x = d[i];
-        if !stays_in(y, false, x) {
-            return i;
-        }
-        if x == y.release {
-            return i;
-        }
-        i += 1;
-    }
-    i
-}
-
-// The place after the last byte of the component that begins at the place `from`, where any byte may be released.
-fn released_end(y: Syntax, d: &[u8], from: usize, end: usize) -> usize
-    requires { end ≤ length d.now }
-    ensures { result ≡ from + length (component y (part from end d.now) 0 0) }
-{
-    let mut i = from;
     let mut released = false;
-    while i < end {
-        let x = d[i];
-        if !stays_in(y, released, x) {
+    for (i, x) in bytes.iter().enumerate() {
+        if ending_of(y, released, *x).is_some() {
             return i;
         }
-        released = frees_next(y, released, x);
-        i += 1;
+        released = frees_next(y, released, *x);
     }
-    i
+    bytes.len()
 }

@@ -12,9 +12,7 @@ use Rattle.element.specs.Elements.{ending_of, stays, releases, before, split_fro
 use Rattle.plain.specs.Plain.{unless_mark, plain, same}
 use Rattle.value.specs.Digits.{padded, is_count, count_of}
 use Rattle.value.specs.Numeral.{some, none, is_digit, behind_digits, decimal}
-use Rattle.envelope.specs.declared.judging.Enveloped.{Enveloped}
-use Rattle.envelope.specs.declared.judging.Enveloped.TheVariants.{Complete, Refused}
-use Rattle.envelope.specs.Envelope.{stands, last_of, counts, lacks, paired, closed_by, opened_by, envelope_of}
+use Rattle.envelope.specs.Envelope.{Enveloped, Complete, Refused, stands, last_of, counts, lacks, paired, closed_by, opened_by, envelope_of}
 
 unfoldable pub answer_on : String → Enveloped
 unfolding

@@ -13,10 +13,8 @@ use Rattle.cut.specs.declared.service.Syntax.{Syntax}
 use Rattle.cut.specs.Segments.{Segment}
 use Rattle.messages.specs.Messages.{messages}
 use Rattle.value.specs.Text.{text_of}
-use Rattle.envelope.specs.declared.judging.Enveloped.{Enveloped}
-use Rattle.envelope.specs.declared.judging.Enveloped.TheVariants.{Complete, Refused}
 use Rattle.envelope.specs.Required.{in_UNB}
-use Rattle.envelope.specs.Envelope.{envelope_of}
+use Rattle.envelope.specs.Envelope.{Enveloped, Complete, Refused, envelope_of}
 use Rattle.envelope.specs.Broken.{First, Lacks, Broken, FirstBroken}
 use Rattle.envelope.specs.Broken.{too_long, unreadable, no_UNB, no_UNZ, other_reference, other_count, stray, missing}
 use Rattle.envelope.specs.Broken.{none_first, not_UNB, none_last, not_UNZ, of_UNB, of_UNZ}

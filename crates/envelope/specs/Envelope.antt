@@ -1,18 +1,37 @@
 -- Whether a delivery is complete: "Judge UNB and UNZ by ISO 9735 syntax version 3". Item 8.
-use Rattle.std.specs.Prelude.{ℕ, zero, suc, Bool, false, cond, not, ◌&&◌, ◌||◌, List, [], ◌∷◌, length, eqb}
+use Rattle.std.specs.Prelude.{ℕ, zero, suc, Bool, false, cond, not, ◌&&◌, ◌||◌, List, [], ◌∷◌, Option, Some, None, Result, Ok, Err, ⊤, length, eqb}
 use Rattle.bytewise.specs.Bytes.{begins}
 use Rattle.cut.specs.declared.service.Syntax.{Syntax}
 use Rattle.cut.specs.Segments.{Segment}
-use Rattle.cut.specs.Admission.{admission_of, segments}
+use Rattle.cut.specs.Admission.{admission_of, number_of, segments}
 use Rattle.messages.specs.Messages.{messages, others, outside}
 use Rattle.plain.specs.Plain.{same}
-use Rattle.value.specs.declared.counts.Count.{Count}
-use Rattle.value.specs.declared.counts.Count.TheVariants as count
 use Rattle.value.specs.Digits.{count_of}
 use Rattle.value.specs.Numeral.{none}
-use Rattle.envelope.specs.declared.judging.Enveloped.{Enveloped}
-use Rattle.envelope.specs.declared.judging.Enveloped.TheVariants.{Complete, Refused}
+use Rattle.envelope.specs.declared.judging.Reason.{Reason}
+use Rattle.envelope.specs.declared.judging.Reason.TheVariants.{Delivery, NoUnb, NoUnz, OtherReference, OtherCount, Stray, Lacking}
+use Rattle.envelope.specs.declared.judging.Incomplete.{Incomplete}
 use Rattle.envelope.specs.Required.{UNB, UNZ, Place, at, in_UNB, in_UNZ, text}
+
+-- all is well; or the number and the place of the first refusal
+pub data Enveloped : Type 0 where
+  Complete : Enveloped
+  Refused : ℕ → ℕ → Enveloped
+
+-- the number of a reason: 1 and 2 are those of the whole delivery
+abbrev pub reason_number : Reason → ℕ
+reason_number (Delivery e) = number_of e
+reason_number NoUnb = 50
+reason_number NoUnz = 51
+reason_number OtherReference = 52
+reason_number OtherCount = 53
+reason_number Stray = 54
+reason_number Lacking = 55
+
+-- an answer, by its number and its place
+abbrev pub enveloped : Result ⊤ Incomplete → Enveloped
+enveloped (Ok u) = Complete
+enveloped (Err e) = Refused (reason_number e.reason) e.place
 
 -- a segment that is neither "a piece" nor one that "does not begin" with the tag
 unfoldable pub stands : List ℕ → Segment → Bool
@@ -23,9 +42,9 @@ unfoldable pub last_of : Segment → List Segment → Segment
 last_of s [] = s
 last_of s (t ∷ ts) = last_of t ts
 
-abbrev pub is_count_by : Count → ℕ → Bool
-is_count_by (count.Is v) n = eqb v n
-is_count_by count.Nothing n = false
+abbrev pub is_count_by : Option ℕ → ℕ → Bool
+is_count_by (Some v) n = eqb v n
+is_count_by None n = false
 
 -- whether the bytes are the count n: "the count has no leading zeros"
 unfoldable pub counts : List ℕ → ℕ → Bool

@@ -5,4 +5,4 @@ mod judging;
 mod parts;
 mod walking;
 
-pub use judging::{Enveloped, judged};
+pub use judging::{Incomplete, Reason, judged};

@@ -6,60 +6,46 @@ ghost use Rattle.envelope.specs.Required.{at, in_UNB};
 ghost use Rattle.envelope.specs.Envelope.{counts, lacks};
 ghost use Rattle.envelope.specs.workers.Rows.{whole_in, text_in};
 
-use cut::Syntax;
+use cut::Delivery;
 use element::component_at;
 use plain::{plain_length, same_plain};
-use value::{Count, count_of};
+use value::count_of;
+
+// What is required of UNB, each by its element and its component: DE0001, 0002, 0004, 0010, 0017, 0019 and 0020.
+const REQUIRED: [(usize, usize); 7] = [(1, 0), (1, 1), (2, 0), (3, 0), (4, 0), (4, 1), (5, 0)];
 
 // Whether DE0020 of UNB, from a up to e, and of UNZ, from b up to f, are the same.
-pub(crate) fn same_reference(y: Syntax, d: &[u8], a: usize, e: usize, b: usize, f: usize) -> bool
-    ensures { result ≡ same (text_in y d.now a e (at 5 0)) (text_in y d.now b f (at 2 0)) }
+pub(crate) fn same_reference(d: Delivery<'_>, a: usize, e: usize, b: usize, f: usize) -> bool
+    ensures { result ≡ same (text_in d.entry.syntax d.entry.bytes.now a e (at 5 0)) (text_in d.entry.syntax d.entry.bytes.now b f (at 2 0)) }
 {
-    let r = component_at(y, d, a, e, 5, 0);
-    let s = component_at(y, d, b, f, 2, 0);
-    same_plain(y, d, r.start, r.end, s.start, s.end)
+    let r = component_at(d, a, e, 5, 0);
+    let s = component_at(d, b, f, 2, 0);
+    same_plain(d, r.start, r.end, s.start, s.end)
 }
 
 // Whether DE0036 of UNZ, from b up to f, is the count n.
-pub(crate) fn counts_messages(y: Syntax, d: &[u8], b: usize, f: usize, n: usize) -> bool
-    ensures { result ≡ counts (text_in y d.now b f (at 1 0)) n }
+pub(crate) fn counts_messages(d: Delivery<'_>, b: usize, f: usize, n: usize) -> bool
+    ensures { result ≡ counts (text_in d.entry.syntax d.entry.bytes.now b f (at 1 0)) n }
 {
-    let s = component_at(y, d, b, f, 1, 0);
-    let c = count_of(y, d, s.start, s.end);
-    match c {
-        Count::Is(v) => v == n as u64,
-        Count::Nothing => false,
-    }
+    let s = component_at(d, b, f, 1, 0);
+    count_of(d, s.start, s.end) == Some(n as u64)
 }
 
-fn lacks_one(y: Syntax, d: &[u8], a: usize, e: usize, element: usize, component: usize) -> bool
-    ensures { result ≡ none (text_in y d.now a e (at element component)) }
+fn lacks_one(d: Delivery<'_>, a: usize, e: usize, element: usize, component: usize) -> bool
+    ensures { result ≡ none (text_in d.entry.syntax d.entry.bytes.now a e (at element component)) }
 {
-    let s = component_at(y, d, a, e, element, component);
-    plain_length(y, d, s.start, s.end) == 0
+    let s = component_at(d, a, e, element, component);
+    plain_length(d, s.start, s.end) == 0
 }
 
 // Whether UNB, from a up to e, lacks a required component.
-pub(crate) fn lacks_any(y: Syntax, d: &[u8], a: usize, e: usize) -> bool
-    ensures { result ≡ lacks y (whole_in d.now a e) in_UNB }
+pub(crate) fn lacks_any(d: Delivery<'_>, a: usize, e: usize) -> bool
+    ensures { result ≡ lacks d.entry.syntax (whole_in d.entry.bytes.now a e) in_UNB }
 {
-    if lacks_one(y, d, a, e, 1, 0) {
-        return true;
+    for (element, component) in REQUIRED {
+        if lacks_one(d, a, e, element, component) {
+            return true;
+        }
     }
-    if lacks_one(y, d, a, e, 1, 1) {
-        return true;
-    }
-    if lacks_one(y, d, a, e, 2, 0) {
-        return true;
-    }
-    if lacks_one(y, d, a, e, 3, 0) {
-        return true;
-    }
-    if lacks_one(y, d, a, e, 4, 0) {
-        return true;
-    }
-    if lacks_one(y, d, a, e, 4, 1) {
-        return true;
-    }
-    lacks_one(y, d, a, e, 5, 0)
+    false
 }

@@ -1,4 +1,6 @@
 pub mod Basics
+pub mod Options
+pub mod Reasons
 pub mod tables
 pub mod Pairs
 pub mod placing

@@ -5,15 +5,14 @@ use mathlib.Core.Bool.{Bool, false}
 use mathlib.Core.List.{List}
 use lib.ListN.{length}
 use Rattle.bytewise.specs.Bytes.{part}
-use Rattle.cut.specs.Calls.{cut_from}
-use Rattle.cut.specs.declared.scan.Cut.TheVariants as cut
+use Rattle.cut.specs.Calls.{cut_from, some_cut}
 use Rattle.cut.specs.declared.service.Syntax.{Syntax}
 use Rattle.plain.specs.Plain.{plain}
 use Rattle.element.proofs.Cuts.{take_cut, component_cut}
 use Rattle.guide.specs.Views.{view_of}
 
 pub view_cut
-    : (y : Syntax) (d : List ℕ) (a s e : ℕ) (p : Bool) → cut_from y d a false ≡ cut.Segment s e p → 3 ≤ e - a
+    : (y : Syntax) (d : List ℕ) (a s e : ℕ) (p : Bool) → cut_from y d a false ≡ some_cut s e p → 3 ≤ e - a
     → view_of y (part a (length d) d) ≡ view_of y (part a e d)
 unfolding view_of
 view_cut y d a s e p h k =

@@ -8,7 +8,7 @@ use Rattle.cut.specs.Segments.{Segment}
 use Rattle.messages.specs.Messages.{Message}
 use Rattle.clean.specs.Clean.{allowed_bytes, tagged_bytes}
 use Rattle.value.specs.Digits.{count_of}
-use Rattle.value.specs.declared.counts.Count.TheVariants.{Is}
+use Rattle.std.specs.Prelude.{Some}
 use Rattle.guide.specs.Nodes.{View, Guide}
 use Rattle.guide.specs.Views.{view_of}
 use Rattle.guide.specs.Page.{Page}
@@ -65,7 +65,7 @@ module _ (y : Syntax) where
   -- "LIN numbers run 1, 2, 3 over the whole message": from n on
   unfoldable pub Numbered : ℕ → List Segment → Type 0
   Numbered n [] = Unit {0}
-  Numbered n (s ∷ ss) = (count_of (text y s.bytes 1 0) ≡ Is n) × Numbered (suc n) ss
+  Numbered n (s ∷ ss) = (count_of (text y s.bytes 1 0) ≡ Some n) × Numbered (suc n) ss
 
   -- "Where BGM 1001 is not Z04"
   abbrev pub Compared : List Segment → Type 0
@@ -77,7 +77,7 @@ module _ (y : Syntax) where
     pub clean : Each (Clean y) (segments_of m)
     pub holds : Each (λ x. Holds y (pages x.node) x.segment.bytes) (assigned sheet.tree)
     -- "UNT element 1 is the count of segments, UNH and UNT included"
-    pub counted : count_of (text y (last_of m.first m.rest).bytes 1 0) ≡ Is (length (segments_of m))
+    pub counted : count_of (text y (last_of m.first m.rest).bytes 1 0) ≡ Some (length (segments_of m))
     -- "element 2 equals the reference in UNH, releases removed"
     pub referred : text y (last_of m.first m.rest).bytes 2 0 ≡ text y m.first.bytes 1 0
     pub numbered : Numbered 1 (with_tag g (bytes_of "LIN") (assigned sheet.tree))

@@ -1,4 +1,6 @@
 pub mod Choices
+pub mod Options
+pub mod Reasons
 pub mod Answers
 pub mod Nodes
 pub mod Pricat

@@ -8,7 +8,7 @@ use Rattle.cut.specs.Segments.{Segment}
 use Rattle.messages.specs.Messages.{Message, close_of}
 use Rattle.clean.specs.Clean.{allowed_bytes, tagged_bytes}
 use Rattle.value.specs.Digits.{count_of}
-use Rattle.value.specs.declared.counts.Count.TheVariants.{Is}
+use Rattle.std.specs.Prelude.{Some}
 use Rattle.guide.specs.Nodes.{Guide, number_of}
 use Rattle.guide.specs.Page.{Page}
 use Rattle.guide.specs.Content.{text, Holds}
@@ -50,12 +50,12 @@ module _ (y : Syntax) (g : Guide) (pages : ℕ → Page) where
     -- 21, "UNT count or reference differs"
     count :
         {n : ℕ} → Fitting before s n → T (is_tag g (bytes_of "UNT") n) →
-        (count_of (text y s.bytes 1 0) ≡ Is (suc (length before)) → text y s.bytes 2 0 ≡ reference_in y before → ⊥) →
+        (count_of (text y s.bytes 1 0) ≡ Some (suc (length before)) → text y s.bytes 2 0 ≡ reference_in y before → ⊥) →
         FaultAfter before s 21 n
     -- 22, "LIN number is not the next"
     line :
         {n : ℕ} → (f : Fitting before s n) → T (is_tag g (bytes_of "LIN") n) →
-        (count_of (text y s.bytes 1 0) ≡ Is (suc (length (with_tag g (bytes_of "LIN") (assigned f.begins.tree)))) → ⊥) →
+        (count_of (text y s.bytes 1 0) ≡ Some (suc (length (with_tag g (bytes_of "LIN") (assigned f.begins.tree)))) → ⊥) →
         FaultAfter before s 22 n
 
   -- none of the segments has a fault

@@ -4,4 +4,4 @@
 mod next;
 mod reader;
 
-pub use reader::{Reader, opened, step, step_from};
+pub use reader::{Reader, opened, step_from};

@@ -2,35 +2,23 @@
 ghost use Rattle.std.specs.Prelude.{◌≡◌};
 ghost use Rattle.held.specs.Reading.{next_from, place_after};
 
-use cut::{Cursor, Cut, Step, Syntax, characters};
+use cut::{Cursor, Cut, Syntax, characters};
 
-pub(crate) fn next_from(y: Syntax, d: &[u8], at: usize) -> Cut
+#[tactic(auto, unfolding(crate::specs::Reading::next_from))]
+pub(crate) fn next_from(y: Syntax, d: &[u8], at: usize) -> Option<Cut>
     ensures { result ≡ next_from y d.now at }
 {
-    let z = characters(y, d);
-    let c = Cursor { syntax: z, at };
-    let s = c.step(d);
-    match s {
-        Step::Segment {
-            start,
-            end,
-            piece,
-            next: _,
-        } => Cut::Segment { start, end, piece },
-        Step::Nothing => Cut::Nothing,
-    }
+    let cursor = Cursor {
+        syntax: characters(y, d),
+        at,
+    };
+    cursor.step(d).map(|(found, _)| found)
 }
 
 // At none the place stays.
-pub(crate) fn place_after(c: Cut, at: usize) -> usize
-    ensures { result ≡ place_after c at }
+#[tactic(auto, unfolding(crate::specs::Reading::place_after))]
+pub(crate) fn place_after(found: Option<Cut>, at: usize) -> usize
+    ensures { result ≡ place_after found at }
 {
-    match c {
-        Cut::Segment {
-            start: _,
-            end,
-            piece: _,
-        } => end,
-        Cut::Nothing => at,
-    }
+    found.map_or(at, |found| found.end)
 }

@@ -1,5 +1,4 @@
--- The laws of placing that the layers above cite: from the declared answer back to the guide's, what a placed segment's node is, and a step
--- of a run.
+-- The laws of placing that the layers above cite: what a placed segment's node is, and a step of a run.
 use Prim.Native.Nat.{ℕ, suc, ◌<◌}
 use mathlib.Core.Path.{◌≡◌, refl, sym}
 use mathlib.Core.Bool.{Bool, true, false, cond}
@@ -9,25 +8,12 @@ use lib.ListN.{length, get_or}
 use lib.Dec.{eqb, ltb}
 use borrow.Author.Tests.{eqb-false}
 use Rattle.guide.specs.Nodes.{View, Guide, node, over}
-use Rattle.guide.specs.Answers.{Answer, placed, refused}
+use Rattle.guide.specs.Answers.{placed, refused}
 use Rattle.guide.specs.workers.Placing.{levels, seek, missing, place, counts_after, last_after, State, fault, run}
 use Rattle.guide.specs.declared.edition.Edition.{Edition}
-use Rattle.judge.specs.declared.placing.Placed.TheVariants.{At, Refused}
 use Rattle.guide.specs.Editions.{guide_of}
-use Rattle.judge.specs.Answers.{answer_of}
+use Rattle.guide.proofs.Options.{some_unless_0}
 use Rattle.judge.proofs.placing.Outcomes.{found_inside}
-
-pub answer-at : (a : Answer) (n : ℕ) → answer_of a ≡ At n → a ≡ placed n
-answer-at (placed m) n h = cc
-answer-at (refused k m) n h =
-    let z : ◌≡◌ {A = ℕ} 0 1 = cc in
-    absurd (omega arith)
-
-pub answer_refused : (a : Answer) (k m : ℕ) → answer_of a ≡ Refused k m → a ≡ refused k m
-answer_refused (placed n) k m h =
-    let z : ◌≡◌ {A = ℕ} 0 1 = cc in
-    absurd (omega arith)
-answer_refused (refused j n) k m h = cc
 
 -- an answer that is a node is the one that was sought, and one was found
 placed_only
@@ -66,7 +52,7 @@ module _ (e : Edition) (v : View) (last : ℕ) (cs : List ℕ) (n : ℕ) (h : pl
   unfolding sought
   placed_inside =
       let s = placed_some in
-      found_inside e v last n (sym found.1) (λ (z : n ≡ 0). omega arith)
+      found_inside e v last n (some_unless_0 n _ (sym found.1) (λ z. omega arith))
 
 -- a step of a run
 module _ (g : Guide) (i : ℕ) (v : View) (vs : List View) (st : State) where

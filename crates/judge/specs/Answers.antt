@@ -1,18 +1,19 @@
--- What placing a segment answers, as the declared enum has it, and the counts that it leaves.
-use Rattle.std.specs.Prelude.{ℕ, List}
+-- What placing a segment answers, and the counts that it leaves.
+use Rattle.std.specs.Prelude.{ℕ, List, Result, Ok, Err}
 use Rattle.bytewise.specs.Bytes.{part}
 use Rattle.cut.specs.declared.service.Syntax.{Syntax}
 use Rattle.guide.specs.Answers.{Answer, placed, refused}
 use Rattle.guide.specs.Editions.{guide_of}
+use Rattle.guide.specs.Reasons.{number_of_reason}
 use Rattle.guide.specs.Views.{view_of}
 use Rattle.guide.specs.declared.edition.Edition.{Edition}
 use Rattle.guide.specs.workers.Placing.{place, counts_after}
-use Rattle.judge.specs.declared.placing.Placed.{Placed}
-use Rattle.judge.specs.declared.placing.Placed.TheVariants.{At, Refused}
+use Rattle.judge.specs.declared.placing.Misplaced.{Misplaced}
 
-abbrev pub answer_of : Answer → Placed
-answer_of (placed n) = At n
-answer_of (refused k m) = Refused k m
+-- the answer that a Result gives
+abbrev pub answer_of : Result ℕ Misplaced → Answer
+answer_of (Ok n) = placed n
+answer_of (Err m) = refused (number_of_reason m.reason) m.node
 
 module _ (y : Syntax) (ed : Edition) (d : List ℕ) (start end last : ℕ) (cs : List ℕ) where
   -- what comes of the bytes from start to end after the node `last`, where cs are the counts

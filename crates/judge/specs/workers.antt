@@ -1,4 +1,5 @@
 pub mod Words
 pub mod Rows
 pub mod Sets
+pub mod NodeSets
 pub mod Searches

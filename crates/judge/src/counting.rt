@@ -4,18 +4,15 @@ ghost use Rattle.guide.specs.workers.Placing.{recounted};
 ghost use Rattle.guide.specs.Editions.{guide_of};
 ghost use Rattle.judge.specs.workers.Searches.{cleared};
 
-use crate::sets::{children, first_in, without_first};
+use crate::sets::{NodeSet, children};
 use guide::Edition;
 
 // None of these nodes has come yet.
 fn clear(nodes: u32, counts: &mut [u32; 96])
     ensures { counts.new ≡ cleared nodes 0 counts.old }
 {
-    let mut rest = nodes;
-    while rest != 0 {
-        let m = first_in(rest);
+    for m in NodeSet(nodes) {
         counts[m] = 0;
-        rest = without_first(rest);
     }
 }
 

@@ -1,4 +1,5 @@
-// The tables of the editions.
+// The tables of the editions. Here and in the files of words each edition has a table of its own, and one function chooses: a trait for two unit types would
+// hold the same matches and still need that choice, and one match over edition and number would be too long a function.
 ghost use Rattle.std.specs.Prelude.{◌≡◌, length};
 ghost use Rattle.guide.specs.Editions.{guide_of};
 

@@ -2,12 +2,13 @@
 ghost use Rattle.std.specs.Prelude.{suc, ◌<◌, ◌≡◌, true, length};
 ghost use Rattle.guide.specs.workers.Placing.{first_node, levels, lacking, missing};
 ghost use Rattle.guide.specs.Editions.{guide_of};
+ghost use Rattle.guide.specs.Options.{unless_0};
 ghost use Rattle.judge.specs.workers.Sets.{some_level, follows_in};
 ghost use Rattle.judge.specs.workers.Searches.{missed, lacks_due};
 
 use crate::pairs::is_wanted;
 use crate::rows::{counter_of, first_due, next_due, parent_of};
-use crate::sets::{due, first_in, preceding, without_first};
+use crate::sets::{NodeSet, due, preceding};
 use guide::Edition;
 
 // Whether node m, which is required or one of a pair, has not come though it must.
@@ -35,55 +36,53 @@ fn lacks(edition: Edition, counts: &[u32; 96], n: usize, p: usize, m: usize) -> 
     counter_of(edition, m) < counter_of(edition, n)
 }
 
-// The lowest node that the instance p lacks when n comes, or 0.
-fn lacking_in(edition: Edition, counts: &[u32; 96], n: usize, p: usize) -> usize
+// The lowest node that the instance p lacks when n comes. The links stay numbers, with 0 at the end, as the packed words have them.
+fn lacking_in(edition: Edition, counts: &[u32; 96], n: usize, p: usize) -> Option<usize>
     requires { (n < length (guide_of edition)) × (p < length (guide_of edition)) }
-    ensures { result ≡ first_node (guide_of edition) (lacking (guide_of edition) counts.now n p) }
+    ensures { result ≡ unless_0 (first_node (guide_of edition) (lacking (guide_of edition) counts.now n p)) }
 {
     let mut m = first_due(edition, p);
     while m != 0 {
         if lacks(edition, counts, n, p, m) {
-            return m;
+            return Some(m);
         }
         m = next_due(edition, m);
     }
-    0
+    None
 }
 
-// The lowest missing node, looked for from the innermost open instance outward level by level, up to the one that takes n; 0 if none is
-// missing. The level is the open instance's node: a parent has a lower number, so it falls. The first gap ends the search, so the call
+// The lowest missing node, looked for from the innermost open instance outward level by level, up to the one that takes n. The level
+// is the open instance's node: a parent has a lower number, so it falls. The first gap ends the search, so the call
 // for the parent stands last, which the compiler can turn into a jump.
-fn missing_for(edition: Edition, counts: &[u32; 96], n: usize, level: usize) -> usize
+fn missing_for(edition: Edition, counts: &[u32; 96], n: usize, level: usize) -> Option<usize>
     requires { (n < length (guide_of edition)) × (level < length (guide_of edition)) }
-    ensures { result ≡ missing (guide_of edition) counts.now n (levels (guide_of edition) (suc level) level 0) }
+    ensures { result ≡ unless_0 (missing (guide_of edition) counts.now n (levels (guide_of edition) (suc level) level 0)) }
 {
-    let taker = parent_of(edition, n);
-    let gap = lacking_in(edition, counts, n, level);
-    if gap != 0 {
-        return gap;
+    if let Some(gap) = lacking_in(edition, counts, n, level) {
+        return Some(gap);
     }
-    if level == taker {
-        return 0;
-    }
-    if level == 0 {
-        return 0;
+    if level == parent_of(edition, n) || level == 0 {
+        return None;
     }
     missing_for(edition, counts, n, parent_of(edition, level))
 }
 
-// The lowest missing node when n comes after the node `last`, or 0. The levels are walked only where one of the nodes that n must come behind is missed, so
+// The lowest missing node when n comes after the node `last`. The levels are walked only where one of the nodes that n must come behind is missed, so
 // once in a message at most.
-pub(crate) fn missing_node(edition: Edition, counts: &[u32; 96], n: usize, last: usize) -> usize
+pub(crate) fn missing_node(
+    edition: Edition,
+    counts: &[u32; 96],
+    n: usize,
+    last: usize,
+) -> Option<usize>
     requires n_in_bounds { (n < length (guide_of edition)) × (last < length (guide_of edition)) }
     requires last_value { some_level (follows_in (guide_of edition) n) (levels (guide_of edition) (suc last) last 0) ≡ true }
-    ensures { result ≡ missing (guide_of edition) counts.now n (levels (guide_of edition) (suc last) last 0) }
+    ensures { result ≡ unless_0 (missing (guide_of edition) counts.now n (levels (guide_of edition) (suc last) last 0)) }
 {
-    let mut gaps = due(edition, last) & preceding(edition, n);
-    while gaps != 0 {
-        if is_missed(edition, counts, first_in(gaps)) {
+    for m in NodeSet(due(edition, last) & preceding(edition, n)) {
+        if is_missed(edition, counts, m) {
             return missing_for(edition, counts, n, last);
         }
-        gaps = without_first(gaps);
     }
-    0
+    None
 }

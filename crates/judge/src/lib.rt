@@ -21,5 +21,5 @@ mod words;
 
 pub use guide::Edition;
 pub use pairs::number_of;
-pub use placing::{Placed, place};
+pub use placing::{Misplaced, place};
 pub use tags::has_tag;

@@ -13,13 +13,11 @@ fn has_code(edition: Edition, n: usize, key: u64) -> bool
     requires { n < length (guide_of edition) }
     ensures { result ≡ holds key (map packed (node (guide_of edition) n).selector.codes) }
 {
-    let mut j = codes_from(edition, n);
-    let end = j + codes_count(edition, n);
-    while j < end {
+    let from = codes_from(edition, n);
+    for j in from..from + codes_count(edition, n) {
         if code(edition, j) == key {
             return true;
         }
-        j += 1;
     }
     false
 }

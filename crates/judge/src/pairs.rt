@@ -4,33 +4,35 @@ ghost use Rattle.guide.specs.Nodes.{node, number_of, over};
 ghost use Rattle.guide.specs.Pricat.{pricat20d, pricat20c};
 ghost use Rattle.guide.specs.workers.Placing.{tally};
 ghost use Rattle.guide.specs.Editions.{guide_of};
+ghost use Rattle.guide.specs.Options.{unless_0};
+ghost use Rattle.guide.specs.Reasons.{number_of_reason};
 ghost use Rattle.judge.specs.workers.Searches.{wanted};
 
-use guide::Edition;
+use guide::{Edition, Reason};
 
-fn partner_20d(n: usize) -> usize
-    ensures { result ≡ (node pricat20d n).partner }
+fn partner_20d(n: usize) -> Option<usize>
+    ensures { result ≡ unless_0 (node pricat20d n).partner }
 {
     match n {
-        21 => 27, // DTM/163
-        27 => 21, // DTM/164
-        _ => 0,
+        21 => Some(27), // DTM/163
+        27 => Some(21), // DTM/164
+        _ => None,
     }
 }
 
-fn partner_20c(n: usize) -> usize
-    ensures { result ≡ (node pricat20c n).partner }
+fn partner_20c(n: usize) -> Option<usize>
+    ensures { result ≡ unless_0 (node pricat20c n).partner }
 {
     match n {
-        19 => 25, // DTM/163
-        25 => 19, // DTM/164
-        _ => 0,
+        19 => Some(25), // DTM/163
+        25 => Some(19), // DTM/164
+        _ => None,
     }
 }
 
-// The other row of the pair, or 0.
-fn partner_of(edition: Edition, n: usize) -> usize
-    ensures { result ≡ (node (guide_of edition) n).partner }
+// The other row of the pair.
+fn partner_of(edition: Edition, n: usize) -> Option<usize>
+    ensures { result ≡ unless_0 (node (guide_of edition) n).partner }
 {
     match edition {
         Edition::D => partner_20d(n),
@@ -42,37 +44,29 @@ fn partner_of(edition: Edition, n: usize) -> usize
 pub(crate) fn is_wanted(edition: Edition, counts: &[u32; 96], m: usize) -> bool
     ensures { result ≡ wanted (guide_of edition) counts.now m }
 {
-    let other = partner_of(edition, m);
-    if other == 0 {
-        return true;
+    match partner_of(edition, m) {
+        Some(other) => counts[other] != 0,
+        None => true,
     }
-    counts[other] != 0
 }
 
-// The number given when node n comes once more than its limit.
-pub(crate) fn number_over(edition: Edition, counts: &[u32; 96], n: usize) -> u32
-    ensures { result ≡ over (guide_of edition) n (tally counts.now) }
+// The reason given when node n comes once more than its limit.
+pub(crate) fn reason_over(edition: Edition, counts: &[u32; 96], n: usize) -> Reason
+    ensures { number_of_reason result ≡ over (guide_of edition) n (tally counts.now) }
 {
-    let other = partner_of(edition, n);
-    if other == 0 {
-        return 15;
+    match partner_of(edition, n) {
+        Some(other) if counts[other] == 0 => Reason::SecondOfPair,
+        Some(_) => Reason::OverLimit,
+        None => Reason::OverLimit,
     }
-    if counts[other] == 0 {
-        return 25;
-    }
-    15
 }
 
 // The number that a row has as a node of the guide: both rows of a pair have that of the lower.
 pub fn number_of(edition: Edition, n: usize) -> usize
     ensures { result ≡ number_of (guide_of edition) n }
 {
-    let other = partner_of(edition, n);
-    if other == 0 {
-        return n;
+    match partner_of(edition, n) {
+        Some(other) => other.min(n),
+        None => n,
     }
-    if other < n {
-        return other;
-    }
-    n
 }

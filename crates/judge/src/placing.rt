@@ -4,55 +4,48 @@ ghost use Rattle.judge.specs.Answers.{answer_of, placed_in, counts_in};
 
 use crate::counting::enter;
 use crate::lacking::missing_node;
-use crate::pairs::number_over;
+use crate::pairs::reason_over;
 use crate::rows::limit_of;
 use crate::seeking::node_for;
-use cut::Syntax;
-use guide::Edition;
+use cut::Delivery;
+use guide::{Edition, Reason};
 
-// The row of the segment's node, or a refusal with its number and row.
-#[derive(Clone, Copy)]
-pub enum Placed {
-    At(usize),
-    Refused { number: u32, node: usize },
+// Why a segment has no place, and the row of the node that is named; 0 for none.
+#[derive(Clone, Copy, PartialEq, Eq, Debug)]
+pub struct Misplaced {
+    pub reason: Reason,
+    pub node: usize,
 }
 
-// The segment from start up to end comes after the node `last`; `counts` says how often each node has come in the open instance of its
-// parent. A refusal leaves the counts as they are.
+// The row of the node of the segment from start up to end, which comes after the node `last`; `counts` says how often each node has come in the
+// open instance of its parent. A refusal leaves the counts as they are.
 pub fn place(
-    y: Syntax,
     edition: Edition,
-    d: &[u8],
+    d: Delivery<'_>,
     start: usize,
     end: usize,
     last: usize,
     counts: &mut [u32; 96],
-) -> Placed
-    ensures value { result ≡ answer_of (placed_in y edition d.now start end last counts.old) }
-    ensures counts_after { counts.new ≡ counts_in y edition d.now start end last counts.old }
+) -> Result<usize, Misplaced>
+    ensures value { answer_of result ≡ placed_in d.entry.syntax edition d.entry.bytes.now start end last counts.old }
+    ensures counts_after { counts.new ≡ counts_in d.entry.syntax edition d.entry.bytes.now start end last counts.old }
 {
-    let n = node_for(y, edition, d, start, end, last);
-    if n == 0 {
-        return Placed::Refused {
-            number: 13,
+    let Some(n) = node_for(d.syntax, edition, d.bytes, start, end, last) else {
+        return Err(Misplaced {
+            reason: Reason::NoNode,
             node: 0,
-        };
+        });
+    };
+    if limit_of(edition, n) <= counts[n] {
+        let reason = reason_over(edition, counts, n);
+        return Err(Misplaced { reason, node: n });
     }
-    let full = limit_of(edition, n) <= counts[n];
-    let m = missing_node(edition, counts, n, last);
-    if full {
-        let over = number_over(edition, counts, n);
-        return Placed::Refused {
-            number: over,
-            node: n,
-        };
-    }
-    if m != 0 {
-        return Placed::Refused {
-            number: 14,
+    if let Some(m) = missing_node(edition, counts, n, last) {
+        return Err(Misplaced {
+            reason: Reason::NodeMissing,
             node: m,
-        };
+        });
     }
     enter(edition, n, counts);
-    Placed::At(n)
+    Ok(n)
 }

@@ -1,7 +1,5 @@
 // Sets of nodes, bit n for row n.
-ghost use Rattle.std.specs.Prelude.{◌-◌, ◌<◌, ◌≡◌, length};
-ghost use Rattle.std.specs.Int.Bits.{bit_and};
-ghost use Rattle.std.specs.Int.Count.{count_trailing_zeros};
+ghost use Rattle.std.specs.Prelude.{◌<◌, ◌≡◌, length};
 ghost use Rattle.guide.specs.Editions.{guide_of};
 ghost use Rattle.judge.specs.workers.Sets.{followers_of, due_after, coded_of, preceding_of, children_of};
 
@@ -9,19 +7,27 @@ use crate::after_words::after;
 use crate::entry_words::entry;
 use guide::Edition;
 
-// The lowest node of a set that is not empty.
-pub(crate) fn first_in(set: u32) -> usize
-    ensures { result ≡ count_trailing_zeros 32 set }
-{
-    u32::trailing_zeros(set) as usize
-}
+// The nodes of a set that are left, from the lowest on.
+#[derive(Clone, Drop)]
+pub(crate) struct NodeSet(pub(crate) u32);
 
-// The set without it.
-pub(crate) fn without_first(set: u32) -> u32
-    requires { 0 < set }
-    ensures { result ≡ bit_and set (set - 1) }
-{
-    set & set - 1
+impl Iterator for NodeSet {
+    ghost use Rattle.judge.specs.workers.NodeSets.{TakesLowest, left_in};
+
+    type Item = usize;
+
+    ghost next_gives = { TakesLowest };
+
+    ghost remaining = { left_in };
+
+    fn next(&mut self) -> Option<usize> {
+        if self.0 == 0 {
+            return None;
+        }
+        let lowest = self.0.trailing_zeros() as usize;
+        self.0 &= self.0 - 1;
+        Some(lowest)
+    }
 }
 
 // The nodes that can come after the node `last`, by parent and counter alone.

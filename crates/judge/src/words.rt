@@ -4,53 +4,26 @@ ghost use Rattle.bytewise.specs.Bytes.{part};
 ghost use Rattle.guide.specs.Views.{view_of};
 ghost use Rattle.judge.specs.workers.Words.{packed, letters, word_of};
 
-use cut::Syntax;
+use cut::{Delivery, Syntax};
+use element::Span;
 
-fn wide(x: u8) -> u32
-    ensures { (result ≡ x) × (result < 256) }
+// The word of the first three bytes, or of fewer where there are no more: with a 1 behind the last.
+pub(crate) fn pack(bytes: &[u8]) -> u32
+    ensures { result ≡ packed (take 3 bytes.now) }
 {
-    x as u32
+    match bytes {
+        [a, b, c, ..] => u32::from_le_bytes([*a, *b, *c, 1]),
+        [a, b] => u32::from_le_bytes([*a, *b, 1, 0]),
+        [a] => u32::from_le_bytes([*a, 1, 0, 0]),
+        [] => 1,
+    }
 }
 
-// A word of three bytes.
-pub(crate) fn three(a: u8, b: u8, c: u8) -> u32
-    ensures { result ≡ packed (a ∷ b ∷ c ∷ []) }
-{
-    wide(a) + 256 * (wide(b) + 256 * (wide(c) + 256))
-}
-
-// The bytes from a up to e, at most three.
-pub(crate) fn pack(d: &[u8], a: usize, e: usize) -> u32
-    requires { (e ≤ length d.now) × (e ≤ a + 3) }
-    ensures { result ≡ packed (part a e d.now) }
-{
-    if e <= a {
-        return 1;
-    }
-    let first = wide(d[a]);
-    let more = e - a;
-    if more == 1 {
-        return first + 256;
-    }
-    let second = wide(d[a + 1]);
-    if more == 2 {
-        return first + 256 * (second + 256);
-    }
-    three(d[a], d[a + 1], d[a + 2])
-}
-
-// The tag of the segment from start up to end: its first three bytes, or fewer where it is shorter.
+// The tag of the segment from start up to end.
 pub(crate) fn tag_number(d: &[u8], start: usize, end: usize) -> u32
     ensures { result ≡ packed (take 3 (part start end d.now)) }
 {
-    let limit = bytewise::limit_of(d, end);
-    if limit <= start {
-        return 1;
-    }
-    if limit - start < 3 {
-        return pack(d, start, limit);
-    }
-    pack(d, start, start + 3)
+    pack(Span { start, end }.part(d))
 }
 
 // The word of component 0 of element 1 where eight bytes tell it: the service characters are the usual ones, which no letter of the tag is, and the
@@ -93,6 +66,10 @@ pub(crate) fn key_number(y: Syntax, d: &[u8], start: usize, end: usize) -> u64
     if key != 0 {
         return key;
     }
-    let span = element::component_at(y, d, start, end, 1, 0);
-    plain::word_of(y, d, span.start, span.end)
+    let delivery = Delivery {
+        syntax: y,
+        bytes: d,
+    };
+    let span = element::component_at(delivery, start, end, 1, 0);
+    plain::word_of(delivery, span.start, span.end)
 }

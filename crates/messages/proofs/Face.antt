@@ -1,6 +1,10 @@
 -- The message that a search finds, and those from its end on: what the crates above cite of it.
+use Rattle.std.specs.Prelude.{None}
+use Rattle.messages.specs.Calls.{some_message}
+use Rattle.std.specs.Prelude.{None}
+use Rattle.messages.proofs.Sames.{start-same, end-same}
 use Prim.Native.Nat.{ℕ, ◌≤◌, ◌<◌}
-use mathlib.Core.Path.{◌≡◌, refl, sym, ap₂, subst, subst₂}
+use mathlib.Core.Path.{◌≡◌, refl, sym, subst, subst₂}
 use mathlib.Core.Bool.{Bool, true, false, cond}
 use mathlib.Core.List.{List, [], ◌∷◌}
 use native.Mathlib.Omega.{arith}
@@ -8,7 +12,6 @@ use lib.ListN.{length}
 use lib.Dec.{eqb, leb}
 use borrow.Author.Tests.{eq-eqb, ne_eqb, le-leb, lt-leb, leb-true, leb-false, eqb-true}
 use Rattle.cut.specs.declared.service.Syntax.{Syntax}
-use Rattle.messages.specs.declared.found.Found.TheVariants as found
 use Rattle.messages.specs.declared.tags.Tag.TheVariants.{Unh}
 use Rattle.bytewise.specs.Bytes.{part}
 use Rattle.cut.specs.Segments.{segments_of, segments_at}
@@ -36,10 +39,6 @@ from_all q p (m ∷ ms) h k =
     let l : q ≤ start_of m = omega (arith, k.0) in
     rw (le-leb _ _ l, from_all q (close_of m) ms (omega (arith, k.1)) k.2)
 
--- from the delivery's begin on: all
-pub from_zero : (y : Syntax) (d : List ℕ) → messages_from 0 (messages y d) ≡ messages y d
-from_zero y d = from_all 0 0 (messages y d) (omega arith) (messages_in_order y d)
-
 -- what the next message from a place on is, in a list of messages
 record Picked (P : Message → Type 0) (ms : List Message) (from s e : ℕ) : Type 0 where
   message : Message
@@ -49,7 +48,7 @@ record Picked (P : Message → Type 0) (ms : List Message) (from s e : ℕ) : Ty
   later : from ≤ s
   some : s < e
   next : messages_from from ms ≡ message ∷ messages_from e ms
-  here : found_at s ms ≡ found.Message s e
+  here : found_at s ms ≡ some_message s e
 
 Picked-first
     : (P : Message → Type 0) (m : Message) (ms : List Message) (from q s e : ℕ) → InOrder q (m ∷ ms) → P m → from ≤ start_of m → start_of m ≡ s → close_of m ≡ e
@@ -67,7 +66,7 @@ Picked-first P m ms from q s e k p h a b =
       later = omega arith;
       some = omega (arith, k.1);
       next = rw (le-leb _ _ h, all, lt-leb _ _ n, rest);
-      here = rw (eq-eqb _ _ (sym a)) (ap₂ found.Message a b);
+      here = rw (eq-eqb _ _ (sym a)) (cc);
     }
 
 picked_later : (P : Message → Type 0) (m : Message) (ms : List Message) (from s e : ℕ) → start_of m < from → Picked P ms from s e → Picked P (m ∷ ms) from s e
@@ -87,32 +86,32 @@ picked_later P m ms from s e h k =
     }
 
 picked
-    : (P : Message → Type 0) (q : ℕ) (ms : List Message) (from s e : ℕ) → InOrder q ms → Each P ms → found_from from ms ≡ found.Message s e
+    : (P : Message → Type 0) (q : ℕ) (ms : List Message) (from s e : ℕ) → InOrder q ms → Each P ms → found_from from ms ≡ some_message s e
     → Picked P ms from s e
 unfolding found_from InOrder Each
 picked P q [] from s e k p h = absurd (let z : ◌≡◌ {A = ℕ} 0 1 = cc in omega arith)
 picked P q (m ∷ ms) from s e k p h = go (leb from (start_of m)) refl h (picked P (close_of m) ms from s e k.2 p.1)
   where
     go
-        : (b : Bool) → leb from (start_of m) ≡ b → cond b (as_found m) (found_from from ms) ≡ found.Message s e
-        → (found_from from ms ≡ found.Message s e → Picked P ms from s e) → Picked P (m ∷ ms) from s e
-    go true l f ih = Picked-first P m ms from q s e k p.0 (leb-true _ _ l) (cc) (cc)
+        : (b : Bool) → leb from (start_of m) ≡ b → cond b (as_found m) (found_from from ms) ≡ some_message s e
+        → (found_from from ms ≡ some_message s e → Picked P ms from s e) → Picked P (m ∷ ms) from s e
+    go true l f ih = Picked-first P m ms from q s e k p.0 (leb-true _ _ l) (start-same _ _ _ _ f) (end-same _ _ _ _ f)
     go false l f ih = picked_later P m ms from s e (leb-false _ _ l) (ih f)
 
 at-found
-    : (q : ℕ) (ms : List Message) (at s e : ℕ) → InOrder q ms → found_at at ms ≡ found.Message s e
-    → (q ≤ at) × (s ≡ at) × (found_from at ms ≡ found.Message s e)
+    : (q : ℕ) (ms : List Message) (at s e : ℕ) → InOrder q ms → found_at at ms ≡ some_message s e
+    → (q ≤ at) × (s ≡ at) × (found_from at ms ≡ some_message s e)
 unfolding found_at found_from InOrder
 at-found q [] at s e k h = absurd (let z : ◌≡◌ {A = ℕ} 0 1 = cc in omega arith)
 at-found q (m ∷ ms) at s e k h = go (eqb at (start_of m)) refl h (at-found (close_of m) ms at s e k.2)
   where
     go
-        : (b : Bool) → eqb at (start_of m) ≡ b → cond b (as_found m) (found_at at ms) ≡ found.Message s e
-        → (found_at at ms ≡ found.Message s e → (close_of m ≤ at) × (s ≡ at) × (found_from at ms ≡ found.Message s e))
-        → (q ≤ at) × (s ≡ at) × (found_from at (m ∷ ms) ≡ found.Message s e)
+        : (b : Bool) → eqb at (start_of m) ≡ b → cond b (as_found m) (found_at at ms) ≡ some_message s e
+        → (found_at at ms ≡ some_message s e → (close_of m ≤ at) × (s ≡ at) × (found_from at ms ≡ some_message s e))
+        → (q ≤ at) × (s ≡ at) × (found_from at (m ∷ ms) ≡ some_message s e)
     go true l f ih =
         let a = eqb-true at (start_of m) l in
-        let b : start_of m ≡ s = cc in
+        let b = start-same _ _ _ _ f in
         let n : at ≤ start_of m = omega arith in
         (omega (arith, k.0), omega arith, rw (le-leb _ _ n) f)
     go false l f ih =
@@ -132,7 +131,7 @@ pub record Next (y : Syntax) (d : List ℕ) (from s e : ℕ) : Type 0 where
   pub begins : begins_segment y d s ≡ true
   pub begins_UNH : tag_of message.first.bytes ≡ Unh
   -- it is the message at its own place
-  pub here : message_at y d s ≡ found.Message s e
+  pub here : message_at y d s ≡ some_message s e
   -- its bytes alone hold its segments
   pub alone : segments_of y s (part s e d) ≡ message.first ∷ message.rest
   -- its segments are those that the message takes from its place on
@@ -141,7 +140,7 @@ pub record Next (y : Syntax) (d : List ℕ) (from s e : ℕ) : Type 0 where
   pub next : messages_from from (messages y d) ≡ message ∷ messages_from e (messages y d)
 
 module _ (y : Syntax) (d : List ℕ) where
-  begins-here : (s e : ℕ) → message_at y d s ≡ found.Message s e → begins_segment y d s ≡ true
+  begins-here : (s e : ℕ) → message_at y d s ≡ some_message s e → begins_segment y d s ≡ true
   begins-here s e h = go (begins_segment y d s) refl
     where
       go : (b : Bool) → begins_segment y d s ≡ b → begins_segment y d s ≡ true
@@ -150,7 +149,7 @@ module _ (y : Syntax) (d : List ℕ) where
           let n = at-nowhere y d s k in
           absurd (let z : ◌≡◌ {A = ℕ} 0 1 = cc in omega arith)
 
-  pub next-message : (from s e : ℕ) → next_message y d from ≡ found.Message s e → Next y d from s e
+  pub next-message : (from s e : ℕ) → next_message y d from ≡ some_message s e → Next y d from s e
   unfolding next_message message_at
   next-message from s e h =
       let k = picked (Lies y d) 0 (messages y d) from s e (messages_in_order y d) (messages_lie y d) h in
@@ -170,24 +169,24 @@ module _ (y : Syntax) (d : List ℕ) where
         next = k.next;
       }
 
-  none_from : (from : ℕ) (ms : List Message) → found_from from ms ≡ found.Nothing → messages_from from ms ≡ []
+  none_from : (from : ℕ) (ms : List Message) → found_from from ms ≡ None → messages_from from ms ≡ []
   unfolding found_from messages_from
   none_from from [] h = refl
   none_from from (m ∷ ms) h = go (leb from (start_of m)) h (none_from from ms)
     where
       go
-          : (b : Bool) → cond b (as_found m) (found_from from ms) ≡ found.Nothing → (found_from from ms ≡ found.Nothing → messages_from from ms ≡ [])
+          : (b : Bool) → cond b (as_found m) (found_from from ms) ≡ None → (found_from from ms ≡ None → messages_from from ms ≡ [])
           → keep_message b m (messages_from from ms) ≡ []
       go true f ih = absurd (let z : ◌≡◌ {A = ℕ} 0 1 = cc in omega arith)
       go false f ih = ih f
 
   -- where there is no next message, none is left
-  pub next-nothing : (from : ℕ) → next_message y d from ≡ found.Nothing → messages_from from (messages y d) ≡ []
+  pub next-nothing : (from : ℕ) → next_message y d from ≡ None → messages_from from (messages y d) ≡ []
   unfolding next_message
   next-nothing from h = none_from from (messages y d) h
 
   -- the message at a place begins there, and is the next one from there on
-  pub message-at : (at s e : ℕ) → message_at y d at ≡ found.Message s e → (s ≡ at) × (next_message y d at ≡ found.Message s e)
+  pub message-at : (at s e : ℕ) → message_at y d at ≡ some_message s e → (s ≡ at) × (next_message y d at ≡ some_message s e)
   unfolding message_at next_message
   message-at at s e h =
       let k = at-found 0 (messages y d) at s e (messages_in_order y d) h in

@@ -1,15 +1,16 @@
 -- The answers of the two calls that find messages, from what their workers answer.
+use Rattle.std.specs.Prelude.{None}
+use Rattle.messages.specs.Calls.{some_message}
+use Rattle.std.specs.Prelude.{None}
 use Prim.Native.Nat.{ℕ, suc}
-use mathlib.Core.Path.{◌≡◌, refl, sym, ◌∙◌, ap, ap₂}
+use mathlib.Core.Path.{◌≡◌, refl, sym, ◌∙◌, ap}
 use mathlib.Core.Bool.{Bool, true, false}
 use mathlib.Core.List.{List}
 use native.Mathlib.Omega.{arith}
 use lib.ListN.{drop}
 use Rattle.cut.specs.declared.service.Syntax.{Syntax}
 use Rattle.messages.specs.declared.tags.Tag.{Tag}
-use Rattle.messages.specs.declared.tags.Spot.TheVariants as spot
-use Rattle.messages.specs.declared.found.Found.TheVariants as found
-use Rattle.cut.specs.Segments.{Segment, segments_at, last_end}
+use Rattle.cut.specs.Segments.{Segment, end_of, segments_at, last_end}
 use Rattle.cut.specs.Admission.{admission_of, opening_of, segments}
 use Rattle.messages.specs.Messages.{body, messages_in, messages}
 use Rattle.cut.specs.Calls.{begins_segment}
@@ -26,7 +27,7 @@ module _ (y : Syntax) (d : List ℕ) where
   pub all-rising : Rising 0 (segments y d)
   all-rising = of_segments y d (Rising 0) (rising_none 0) (rising_weaken 0 (opening_of y d) _ (omega arith) (segments-rising y (opening_of y d) _))
 
-  pub next_refused : (from : ℕ) → (admission_of y d ≡ 0 → ⊥) → next_message y d from ≡ found.Nothing
+  pub next_refused : (from : ℕ) → (admission_of y d ≡ 0 → ⊥) → next_message y d from ≡ None
   unfolding next_message messages messages_in found_from
   next_refused from n = rw (refused y d n)
 
@@ -37,7 +38,7 @@ module _ (y : Syntax) (d : List ℕ) where
   next-found from p r e o h = rw (admitted y d e, ← o, ← h) (found-since from p _ (segments-rising y p (drop p d)))
 
   module _ (at : ℕ) where
-    pub at-nowhere : begins_segment y d at ≡ false → message_at y d at ≡ found.Nothing
+    pub at-nowhere : begins_segment y d at ≡ false → message_at y d at ≡ None
     unfolding message_at messages begins_segment
     at-nowhere b = found_nowhere at (segments y d) b
 
@@ -45,7 +46,7 @@ module _ (y : Syntax) (d : List ℕ) where
     unfolding message_at messages
     at_list b = found-at-since at 0 (segments y d) all-rising ∙ rw (since-begins y d at b)
 
-    pub at_none : begins_segment y d at ≡ true → head_spot (segments_at y d at) ≡ spot.Nothing → message_at y d at ≡ found.Nothing
+    pub at_none : begins_segment y d at ≡ true → head_spot (segments_at y d at) ≡ None → message_at y d at ≡ None
     unfolding messages_in found_at
     at_none b h = at_list b ∙ rw (unspotted y d at h)
 
@@ -56,14 +57,16 @@ module _ (y : Syntax) (d : List ℕ) where
       after_first : Rising (suc at) (segments_at y d e)
       after_first = rising_weaken (suc at) e (segments_at y d e) (omega (arith, q.later, q.some)) (segments-rising y e (drop e d))
 
-      pub at_here : (m : ℕ) → is_unh t ≡ true → m ≡ last_end e (body (segments_at y d e)) → message_at y d at ≡ found.Message s m
+      pub at_here : (m : ℕ) → is_unh t ≡ true → m ≡ last_end e (body (segments_at y d e)) → message_at y d at ≡ some_message s m
       at_here m u l =
+          let ends : last_end (end_of q.segment) (body (segments_at y d e)) ≡ m =
+          ap (λ (n : ℕ). last_end n (body (segments_at y d e))) q.closes ∙ sym l in
           at_list b
           ∙ ap (λ (ss : List Segment). found_at at (messages_in ss)) q.list
           ∙ found_first at q.segment _ after_first here (ap is_unh q.tag ∙ u)
-          ∙ ap₂ found.Message q.starts (ap (λ (n : ℕ). last_end n (body (segments_at y d e))) q.closes ∙ sym l)
+          ∙ (cc)
 
-      pub at_other : is_unh t ≡ false → message_at y d at ≡ found.Nothing
+      pub at_other : is_unh t ≡ false → message_at y d at ≡ None
       at_other u = at_list b ∙ rw q.list (found-other at q.segment _ after_first here (ap is_unh q.tag ∙ u))
 
       pub at-begins : (b : Bool) → b ≡ is_unh t → b ≡ is_found (message_at y d at)

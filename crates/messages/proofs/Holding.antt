@@ -1,4 +1,6 @@
 -- Going through one message: what `head_at` says of the list, what the whole message is, and what follows it.
+use Rattle.messages.specs.Held.{some_head}
+use Rattle.std.specs.Prelude.{None}
 use Prim.Native.Nat.{ℕ, ◌≤◌}
 use mathlib.Core.Path.{◌≡◌, refl, ap}
 use mathlib.Core.Bool.{Bool, true, false, cond}
@@ -8,7 +10,6 @@ use lib.ListN.{length, drop}
 use Rattle.cut.specs.declared.service.Syntax.{Syntax}
 use Rattle.messages.specs.declared.tags.Tag.{Tag}
 use Rattle.messages.specs.declared.tags.Tag.TheVariants.{Unh, Unt, Unz, Other}
-use Rattle.messages.specs.declared.head.Head.TheVariants as head
 use Rattle.bytewise.specs.Bytes.{part}
 use Rattle.cut.specs.Segments.{Segment, segments_at, segments_of, last_end}
 use Rattle.messages.specs.Messages.{tag_of, follow, body}
@@ -56,18 +57,18 @@ module _ (y : Syntax) (d : List ℕ) (at : ℕ) (b : Bool) where
   ahead = segments_at y d at
 
   -- what the answer says of the list
-  by-none : (ss : List Segment) → head_in b ss ≡ head.Nothing → members b ss ≡ []
+  by-none : (ss : List Segment) → head_in b ss ≡ None → members b ss ≡ []
   unfolding head_in
   by-none [] h = members-none b
   by-none (x ∷ xs) h = go (belongs b (tag_of x.bytes)) refl h
     where
       go
-          : (u : Bool) → belongs b (tag_of x.bytes) ≡ u → cond u (head.Inside x.start (is_unt (tag_of x.bytes))) head.Nothing ≡ head.Nothing
+          : (u : Bool) → belongs b (tag_of x.bytes) ≡ u → cond u (some_head x.start (is_unt (tag_of x.bytes))) None ≡ None
           → members b (x ∷ xs) ≡ []
       go true k f = absurd (let z : ◌≡◌ {A = ℕ} 0 1 = cc in omega arith)
       go false k f = members-not b x xs k
 
-  pub no_member : head_in b ahead ≡ head.Nothing → members b ahead ≡ []
+  pub no_member : head_in b ahead ≡ None → members b ahead ≡ []
   no_member h = by-none ahead h
 
 unless-front : (b : Bool) (ss : List Segment) → ss ≡ unless b (body ss) ++ drop (length (unless b (body ss))) ss

@@ -1,3 +1,4 @@
+pub mod Sames
 pub mod walks
 pub mod Finding
 pub mod Outside

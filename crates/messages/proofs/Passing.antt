@@ -1,14 +1,16 @@
 -- Going from message to message: what a message or a segment outside leaves for the place behind it.
+use Rattle.std.specs.Prelude.{Some, None}
+use Rattle.std.specs.Prelude.{Some, None}
 use Prim.Native.Nat.{ℕ, ◌≤◌, ◌<◌}
 use mathlib.Core.Path.{◌≡◌, refl, sym, ◌∙◌, ap, subst}
-use mathlib.Core.Bool.{Bool, true, false, true≢false, false≢true}
+use mathlib.Core.Bool.{Bool, true, false, false≢true}
 use mathlib.Core.List.{List, [], ◌∷◌}
 use native.Mathlib.Omega.{arith}
 use lib.ListN.{length, drop}
 use Rattle.cut.specs.declared.service.Syntax.{Syntax}
 use Rattle.messages.specs.declared.tags.Tag.{Tag}
 use Rattle.messages.specs.declared.tags.Tag.TheVariants.{Unh, Unt, Unz, Other}
-use Rattle.cut.specs.declared.scan.Cut.TheVariants as cut
+use Rattle.cut.specs.Calls.{some_cut}
 use Rattle.messages.specs.declared.outer.Outer.TheVariants as outer
 use Rattle.bytewise.specs.Bytes.{part}
 use Rattle.cut.specs.Segments.{Segment, end_of, segments_at, past_at, last_end, keep_if}
@@ -27,22 +29,10 @@ outer_message Unz e u = absurd (false≢true u)
 outer_message Other e u = absurd (false≢true u)
 
 -- the first of these segments begins a message
-pub outer_unh : (ss : List Segment) → is_unh (first_tag ss) ≡ true → outer.Message ≡ head_outer ss
+pub outer_unh : (ss : List Segment) → is_unh (first_tag ss) ≡ true → Some outer.Message ≡ head_outer ss
 unfolding first_tag head_outer
 outer_unh [] u = absurd (false≢true u)
-outer_unh (s ∷ ss) u = outer_message (tag_of s.bytes) (end_of s) u
-
-pub outer_segment : (t : Tag) (e : ℕ) → is_unh t ≡ false → outer.Segment e ≡ outer_by t e
-outer_segment Unh e u = absurd (true≢false u)
-outer_segment Unt e u = refl
-outer_segment Unz e u = refl
-outer_segment Other e u = refl
-
--- the tag alone tells that a message begins
-pub outer_begins : (ss : List Segment) (t : Tag) → t ≡ first_tag ss → is_unh t ≡ true → outer.Message ≡ head_outer ss
-unfolding first_tag head_outer
-outer_begins [] t k u = absurd (let z : ◌≡◌ {A = ℕ} 0 1 = cc in omega arith)
-outer_begins (s ∷ ss) t k u = rw (← k) (outer_message t (end_of s) u)
+outer_unh (s ∷ ss) u = ap Some (outer_message (tag_of s.bytes) (end_of s) u)
 
 -- the segments behind an open message
 unfoldable behind : List Segment → List Segment
@@ -116,17 +106,17 @@ module _ (y : Syntax) (d : List ℕ) where
       go Other e ih r = rw e ih
 
   module _ (at : ℕ) where
-    pub outer_none : segment_at y d at ≡ cut.Nothing → outer.Nothing ≡ head_outer (from at)
+    pub outer_none : segment_at y d at ≡ None → None ≡ head_outer (from at)
     unfolding head_outer
     outer_none h = rw (none_ahead y d at h)
 
     pub outer_some
-        : (s e : ℕ) (p : Bool) → segment_at y d at ≡ cut.Segment s e p → (t : Tag) → t ≡ tag_of (part s e d) → (o : _) → o ≡ outer_by t e → o
+        : (s e : ℕ) (p : Bool) → segment_at y d at ≡ some_cut s e p → (t : Tag) → t ≡ tag_of (part s e d) → (o : _) → o ≡ outer_by t e → Some o
         ≡ head_outer (from at)
     unfolding head_outer
     outer_some s e p h t k o g =
         let q = cut_ahead y d at s e p h in
-        rw (q.list, found_end y d at s e p q, ← k) g
+        rw (q.list, found_end y d at s e p q, ← k) (ap Some g)
 
     -- a message begins at the place, line breaks aside
     pub record Begun : Type 0 where
@@ -185,44 +175,44 @@ module _ (y : Syntax) (d : List ℕ) where
             fits = here.fits;
           }
 
-    by-begun : (ss : List Segment) → from at ≡ ss → head_outer ss ≡ outer.Message → Begun
+    by-begun : (ss : List Segment) → from at ≡ ss → head_outer ss ≡ Some outer.Message → Begun
     unfolding head_outer
     by-begun [] h o = absurd (let z : ◌≡◌ {A = ℕ} 0 1 = cc in omega arith)
     by-begun (x ∷ xs) h o = go (tag_of x.bytes) refl o
       where
-        go : (t : Tag) → tag_of x.bytes ≡ t → outer_by t (end_of x) ≡ outer.Message → Begun
+        go : (t : Tag) → tag_of x.bytes ≡ t → Some (outer_by t (end_of x)) ≡ Some outer.Message → Begun
         go Unh e k = begun-here x xs h e
         go Unt e k = absurd (let z : ◌≡◌ {A = ℕ} 0 1 = cc in omega arith)
         go Unz e k = absurd (let z : ◌≡◌ {A = ℕ} 0 1 = cc in omega arith)
         go Other e k = absurd (let z : ◌≡◌ {A = ℕ} 0 1 = cc in omega arith)
 
-    by_left : (c : ℕ) (ss : List Segment) → from at ≡ ss → head_outer ss ≡ outer.Segment c → Left c
+    by_left : (c : ℕ) (ss : List Segment) → from at ≡ ss → head_outer ss ≡ Some (outer.Segment c) → Left c
     unfolding head_outer
     by_left c [] h o = absurd (let z : ◌≡◌ {A = ℕ} 0 1 = cc in omega arith)
     by_left c (x ∷ xs) h o = go (tag_of x.bytes) refl o
       where
-        go : (t : Tag) → tag_of x.bytes ≡ t → outer_by t (end_of x) ≡ outer.Segment c → Left c
+        go : (t : Tag) → tag_of x.bytes ≡ t → Some (outer_by t (end_of x)) ≡ Some (outer.Segment c) → Left c
         go Unh e k = absurd (let z : ◌≡◌ {A = ℕ} 0 1 = cc in omega arith)
         go Unt e k = subst Left (cc) (left_other x xs h Unt e refl refl)
         go Unz e k = subst Left (cc) (left_other x xs h Unz e refl refl)
         go Other e k = subst Left (cc) (left_other x xs h Other e refl refl)
 
-    by-none : (ss : List Segment) → head_outer ss ≡ outer.Nothing → ss ≡ []
+    by-none : (ss : List Segment) → head_outer ss ≡ None → ss ≡ []
     unfolding head_outer
     by-none [] o = refl
     by-none (x ∷ xs) o = go (tag_of x.bytes) o
       where
-        go : (t : Tag) → outer_by t (end_of x) ≡ outer.Nothing → x ∷ xs ≡ []
+        go : (t : Tag) → Some (outer_by t (end_of x)) ≡ None → x ∷ xs ≡ []
         go Unh k = absurd (let z : ◌≡◌ {A = ℕ} 0 1 = cc in omega arith)
         go Unt k = absurd (let z : ◌≡◌ {A = ℕ} 0 1 = cc in omega arith)
         go Unz k = absurd (let z : ◌≡◌ {A = ℕ} 0 1 = cc in omega arith)
         go Other k = absurd (let z : ◌≡◌ {A = ℕ} 0 1 = cc in omega arith)
 
-    pub begun : head_outer (from at) ≡ outer.Message → Begun
+    pub begun : head_outer (from at) ≡ Some outer.Message → Begun
     begun h = by-begun (from at) refl h
 
-    pub left : (e : ℕ) → head_outer (from at) ≡ outer.Segment e → Left e
+    pub left : (e : ℕ) → head_outer (from at) ≡ Some (outer.Segment e) → Left e
     left e h = by_left e (from at) refl h
 
-    pub none_left : head_outer (from at) ≡ outer.Nothing → from at ≡ []
+    pub none_left : head_outer (from at) ≡ None → from at ≡ []
     none_left h = by-none (from at) h

@@ -1,60 +1,44 @@
-// Where the last segment ends before the next one that can end a message: one that begins with U (85), as UNH, UNT and UNZ do.
-ghost use Rattle.std.specs.Prelude.{◌≤◌, ◌<◌, ◌&&◌, ◌≡◌, length, get_or, eqb};
-ghost use Rattle.bytewise.specs.Bytes.{part};
-ghost use Rattle.cut.specs.Segments.{segments_of};
-ghost use Rattle.cut.specs.Fronts.{whole};
-ghost use Rattle.messages.specs.workers.Walks.{NoU, Skipped};
+// Where the last segment ends before the next one that can end a message: one that begins with U, as UNH, UNT and UNZ do.
+ghost use Rattle.std.specs.Prelude.{◌≡◌};
+ghost use Rattle.messages.specs.workers.Walks.{Skipped};
 
-use bytewise::{alike, eight_at, first_of};
-use cut::{Syntax, before_breaks, follows_end};
+use bytewise::{ByteTest, alike, first_that};
+use cut::{Delivery, before_breaks, follows_end};
+
+// The test of the letter that they begin with.
+struct LetterU;
+
+impl ByteTest for LetterU {
+    ghost use Rattle.std.specs.Prelude.{eqb};
+
+    ghost holds = { λ _ x. eqb x 85 };
+
+    fn flags(&self, w: u64) -> u64 {
+        alike(w, b'U')
+    }
+
+    fn passes(&self, x: u8) -> bool {
+        x == b'U'
+    }
+}
 
 // Where the segments from `from` on end before the first that begins with U, or the last of all; `from`, if there is none before it.
 // Each byte is passed once.
-pub(crate) fn next_u(y: Syntax, d: &[u8], from: usize) -> usize
-    ensures { Skipped y d.now from result }
+pub(crate) fn next_u(d: Delivery<'_>, from: usize) -> usize
+    ensures { Skipped d.entry.syntax d.entry.bytes.now from result }
 {
-    if d.len() <= from {
+    if d.bytes.len() <= from {
         return from;
     }
     let mut i = from;
     loop {
-        let k = find_u(d, i);
-        if d.len() <= k {
-            if follows_end(y, d, from, k) {
-                return before_breaks(y, d, from, k);
-            }
-            return k;
+        let k = first_that(&LetterU, d.bytes, i, d.bytes.len());
+        if follows_end(d, from, k) {
+            return before_breaks(d, from, k);
         }
-        if begins_u(y, d, from, k) {
-            return before_breaks(y, d, from, k);
+        if d.bytes.len() <= k {
+            return k;
         }
         i = k + 1;
     }
-}
-
-// The next place from `from` on at which U stands. Eight bytes are tested at once; if they show none, the first place that is not tested.
-fn find_u(d: &[u8], from: usize) -> usize
-    requires { from ≤ length d.now }
-    ensures { NoU d.now from result }
-{
-    let mut i = from;
-    while 8 <= d.len() - i {
-        let m = alike(eight_at(d, i), 85);
-        if m != 0 {
-            return i + first_of(m);
-        }
-        i += 8;
-    }
-    i
-}
-
-// Whether a segment begins with U at `at`, behind those from `from` on.
-fn begins_u(y: Syntax, d: &[u8], from: usize, at: usize) -> bool
-    requires { (from ≤ at) × (at < length d.now) }
-    ensures { result ≡ (eqb (get_or d.now at 0) 85 && whole (segments_of y from (part from at d.now))) }
-{
-    if d[at] != 85 {
-        return false;
-    }
-    follows_end(y, d, from, at)
 }

@@ -8,6 +8,6 @@ mod head;
 mod outer;
 mod tags;
 
-pub use found::{Found, message_at, message_begins, message_end, next_message};
+pub use found::{Message, message_at, message_begins, message_end, next_message};
 pub use head::{Head, head_at};
 pub use outer::{Outer, outer_at};

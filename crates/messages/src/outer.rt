@@ -4,58 +4,43 @@ ghost use Rattle.cut.specs.Segments.{segments_at};
 ghost use Rattle.messages.specs.Held.{outer_by, head_outer};
 ghost use Rattle.messages.specs.workers.Walks.{tag_at, is_unh};
 
-use crate::found::begins_message;
-use crate::tags::{Tag, tag_of};
-use cut::{Cut, Syntax, past_breaks, segment_at};
+use crate::tags::Tag;
+use cut::{Cut, Delivery, past_breaks, segment_at};
 
-// A message begins there; or a segment outside, which ends at `end`; or nothing.
-#[derive(Clone, Copy)]
+// A message begins there; or a segment outside, which ends at `end`.
+#[derive(Clone, Copy, PartialEq, Eq, Debug)]
 pub enum Outer {
     Message,
     Segment { end: usize },
-    Nothing,
 }
 
 fn by_tag(tag: Tag, end: usize) -> Outer
     ensures { result ≡ outer_by tag end }
 {
-    if begins_message(tag) {
-        return Outer::Message;
+    if tag.begins_message() {
+        Outer::Message
+    } else {
+        Outer::Segment { end }
     }
-    Outer::Segment { end }
 }
 
 // Whether what is cut at `at` surely begins a message: where neither U nor N ends a segment, three bytes tell it, and nothing is cut.
-fn begins_unh(y: Syntax, d: &[u8], at: usize) -> bool
-    ensures { result ≡ true → is_unh (tag_at y d.now at) ≡ true }
+fn begins_unh(d: Delivery<'_>, at: usize) -> bool
+    ensures { result ≡ true → is_unh (tag_at d.entry.syntax d.entry.bytes.now at) ≡ true }
 {
-    if y.terminator == 85 {
+    if d.syntax.terminator == b'U' || d.syntax.terminator == b'N' || d.bytes.len() <= at {
         return false;
     }
-    if y.terminator == 78 {
-        return false;
-    }
-    if d.len() <= at {
-        return false;
-    }
-    begins_message(tag_of(d, at, d.len()))
+    Tag::of(&d.bytes[at..]).begins_message()
 }
 
 // What stands from `at` on, where no message is open.
-pub fn outer_at(y: Syntax, d: &[u8], at: usize) -> Outer
-    ensures { result ≡ head_outer (segments_at y d.now at) }
+pub fn outer_at(d: Delivery<'_>, at: usize) -> Option<Outer>
+    ensures { result ≡ head_outer (segments_at d.entry.syntax d.entry.bytes.now at) }
 {
-    if begins_unh(y, d, past_breaks(y, d, at)) {
-        return Outer::Message;
+    if begins_unh(d, past_breaks(d, at)) {
+        return Some(Outer::Message);
     }
-    let c = segment_at(y, d, at);
-    let Cut::Segment {
-        start,
-        end,
-        piece: _,
-    } = c
-    else {
-        return Outer::Nothing;
-    };
-    by_tag(tag_of(d, start, end), end)
+    let Cut { start, end, .. } = segment_at(d, at)?;
+    Some(by_tag(Tag::of(&d.bytes[start..end]), end))
 }

@@ -5,11 +5,11 @@ use mathlib.Core.Bool.{Bool, true, false, not, ◌||◌}
 use mathlib.Core.List.{List, [], ◌∷◌}
 use native.Mathlib.Omega.{arith}
 use lib.ListN.{drop}
+use Rattle.std.specs.Prelude.{Option, Some, None, Ok}
 use Rattle.bytewise.specs.Bytes.{part}
-use Rattle.cut.specs.Calls.{cut_at}
+use Rattle.cut.specs.Calls.{cut_at, some_cut}
 use Rattle.cut.specs.Segments.{Segment as Piece}
 use Rattle.cut.specs.declared.scan.Cut.{Cut}
-use Rattle.cut.specs.declared.scan.Cut.TheVariants.{Segment, Nothing}
 use Rattle.cut.specs.declared.service.Syntax.{Syntax}
 use Rattle.clean.specs.Clean.{allowed_bytes, tagged_bytes}
 use Rattle.element.specs.Components.{component_at}
@@ -83,41 +83,46 @@ unfolding bytes_fault
 bytes_early y s = few_picked s.piece (not (allowed_bytes s.bytes)) (not (tagged_bytes y s.bytes))
 
 module _ (y : Syntax) (ed : Edition) (node : ℕ) (d : List ℕ) (start : ℕ) (x : Reading) where
-  abbrev cuts : Cut
+  abbrev cuts : Option Cut
   cuts = cut_at y d start
 
   -- a segment without a fault
   pub record Sound : Type 0 where
     pub place : ℕ
     pub piece : Bool
-    pub cut : cuts ≡ Segment place x.end piece
+    pub cut : cuts ≡ some_cut place x.end piece
     pub bytes : bytes_fault y (segment_in start x.end piece d) ≡ 0
     pub page : page_fault y (pages_of ed node) (part start x.end d) ≡ 0
     pub first : x.first ≡ component_at y d start x.end 1 0
     pub third : x.third ≡ component_at y d start x.end 3 0
 
-  pub sound : x ≡ reading_of y ed node d start → x.number ≡ 0 → Sound
+  pub sound : Ok x ≡ reading_of y ed node d start → Sound
   unfolding reading_of reading_by read_fault examined_by
-  sound reads none = go cuts refl reads
+  sound reads = go cuts refl reads
     where
       by_faults
-          : (s e : ℕ) (p : Bool) (b f : ℕ) → cuts ≡ Segment s e p → bytes_fault y (segment_in start e p d) ≡ b
-          → page_fault y (pages_of ed node) (part start e d) ≡ f
-          → x ≡ read_to e (examined_by (or_else b f) (component_at y d start e 1 0) (component_at y d start e 3 0) start) → Sound
-      by_faults s e p zero zero c g h r =
-          let n : e ≡ x.end = sym (ap (λ (z : Reading). z.end) r) in
+          : (k : Cut) (b f : ℕ) → cuts ≡ Some k → bytes_fault y (segment_in start k.end k.piece d) ≡ b
+          → page_fault y (pages_of ed node) (part start k.end d) ≡ f
+          → Ok x ≡ read_to k.end (examined_by (or_else b f) (component_at y d start k.end 1 0) (component_at y d start k.end 3 0)) → Sound
+      by_faults k zero zero c g h r =
+          let e : ◌≡◌ {A = Reading} x (record {
+            first = component_at y d start k.end 1 0;
+            third = component_at y d start k.end 3 0;
+            end = k.end;
+          }) = cc in
+          let n : k.end ≡ x.end = sym (ap (λ (z : Reading). z.end) e) in
           record {
-            place = s;
-            piece = p;
-            cut = c ∙ ap (λ (k : ℕ). Segment s k p) n;
+            place = k.start;
+            piece = k.piece;
+            cut = c ∙ ap (λ (m : ℕ). some_cut k.start m k.piece) n;
             bytes = rw n at g;
             page = rw n at h;
-            first = ap (λ (z : Reading). z.first) r ∙ ap (λ (k : ℕ). component_at y d start k 1 0) n;
-            third = ap (λ (z : Reading). z.third) r ∙ ap (λ (k : ℕ). component_at y d start k 3 0) n;
+            first = ap (λ (z : Reading). z.first) e ∙ ap (λ (m : ℕ). component_at y d start m 1 0) n;
+            third = ap (λ (z : Reading). z.third) e ∙ ap (λ (m : ℕ). component_at y d start m 3 0) n;
           }
-      by_faults s e p zero (suc f) c g h r = absurd (let z = ap (λ (z : Reading). z.number) r in omega arith)
-      by_faults s e p (suc b) f c g h r = absurd (let z = ap (λ (z : Reading). z.number) r in omega arith)
+      by_faults k zero (suc f) c g h r = absurd cc
+      by_faults k (suc b) f c g h r = absurd cc
 
-      go : (c : Cut) → cuts ≡ c → x ≡ reading_by y ed node d start c → Sound
-      go Nothing h r = absurd (let z = ap (λ (z : Reading). z.number) r in omega arith)
-      go (Segment s e p) h r = by_faults s e p _ _ h refl refl r
+      go : (c : Option Cut) → cuts ≡ c → Ok x ≡ reading_by y ed node d start c → Sound
+      go None h r = absurd cc
+      go (Some k) h r = by_faults k _ _ h refl refl r

@@ -1,1 +1,3 @@
 pub mod Clean
+pub mod Flags
+pub mod Releases

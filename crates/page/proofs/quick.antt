@@ -2,3 +2,4 @@ pub mod Onward
 pub mod Start
 pub mod Tags
 pub mod Loop
+pub mod FourBytes

@@ -9,7 +9,7 @@ ghost use Rattle.page.specs.workers.Keys.{key_among};
 ghost use Rattle.page.specs.workers.Words.{span, codes_in};
 
 use crate::words::code_word;
-use cut::Syntax;
+use cut::{Delivery, Syntax};
 use plain::word_of;
 
 // Whether the number is that of a code from one place up to another. All are compared: which of them it is cannot be foreseen, so that a loop that ends at
@@ -18,10 +18,8 @@ pub(crate) fn has_code(key: u64, from: usize, next: usize) -> bool
     ensures { result ≡ key_among key (span all_codes [] from (next - from)) }
 {
     let mut found = false;
-    let mut n = from;
-    while n < next {
-        found = found | (key == code_word(n));
-        n += 1;
+    for n in from..next {
+        found |= key == code_word(n);
     }
     found
 }
@@ -52,26 +50,27 @@ pub(crate) fn front_word(d: &[u8], a: usize, n: usize) -> u64
 }
 
 // The number of a component of n bytes. One without release marks is the beginning of the eight bytes that begin with it, where eight stand there.
-fn key_of(y: Syntax, d: &[u8], a: usize, b: usize, n: usize) -> u64
-    requires { n ≡ length (decoded y a b d.now) }
-    ensures { result ≡ word_of (decoded y a b d.now) }
+fn key_of(d: Delivery<'_>, a: usize, b: usize, n: usize) -> u64
+    requires { n ≡ length (decoded d.syntax a b d.bytes.now) }
+    ensures { result ≡ word_of (decoded d.entry.syntax a b d.entry.bytes.now) }
 {
     if 6 < n {
         return 0;
     }
-    if d.len() < 8 {
-        return word_of(y, d, a, b);
+    if d.bytes.len() < 8 {
+        return word_of(d, a, b);
     }
-    if d.len() - 8 < a {
-        return word_of(y, d, a, b);
+    if d.bytes.len() - 8 < a {
+        return word_of(d, a, b);
     }
     if a + n != b {
-        return word_of(y, d, a, b);
+        return word_of(d, a, b);
     }
-    front_word(d, a, n)
+    front_word(d.bytes, a, n)
 }
 
-// Whether a component of n bytes is on the row that has a word; a row without codes takes any text.
+// Whether a component of n bytes is on the row that has a word; a row without codes takes any text. The characters and the bytes come apart: of a slice it
+// is known that no byte is above 255, and that is lost behind a struct's reference.
 pub(crate) fn listed(y: Syntax, d: &[u8], a: usize, b: usize, n: usize, row: usize) -> bool
     requires { n ≡ length (decoded y a b d.now) }
     ensures { result ≡ chosen (codes_in row) (decoded y a b d.now) }
@@ -81,5 +80,9 @@ pub(crate) fn listed(y: Syntax, d: &[u8], a: usize, b: usize, n: usize, row: usi
         return true;
     }
     let from = row % 1024;
-    has_code(key_of(y, d, a, b, n), from, from + many)
+    let delivery = Delivery {
+        syntax: y,
+        bytes: d,
+    };
+    has_code(key_of(delivery, a, b, n), from, from + many)
 }

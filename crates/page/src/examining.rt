@@ -1,29 +1,30 @@
-// The segment's first fault against the page of a node of an edition, 18, 17, 19 or 20, or 0 and the places of two of its components.
+// The segment's first fault against the page of a node of an edition, 18, 17, 19 or 20, or the places of two of its components.
 ghost use Rattle.std.specs.Prelude.{◌≡◌};
+ghost use Rattle.guide.specs.Reasons.{numbered};
 ghost use Rattle.guide.specs.Editions.{pages_of};
 ghost use Rattle.page.specs.Examined.{examined_of};
 
 use crate::pages::{absent, pass};
-use crate::places::{Examined, nowhere, told};
+use crate::places::{Places, nowhere};
 use crate::words::node_word;
 use bytewise::limit_of;
-use cut::Syntax;
-use guide::Edition;
+use cut::Delivery;
+use guide::{Edition, Reason};
 
 pub(crate) fn examined(
-    y: Syntax,
     edition: Edition,
     node: usize,
-    d: &[u8],
+    d: Delivery<'_>,
     start: usize,
     end: usize,
-) -> Examined
-    ensures { result ≡ examined_of y (pages_of edition node) d.now start end }
+) -> Result<Places, Reason>
+    ensures { numbered result ≡ examined_of d.entry.syntax (pages_of edition node) d.entry.bytes.now start end }
 {
     let page = node_word(edition, node);
-    let limit = limit_of(d, end);
+    let limit = limit_of(d.bytes, end);
     if limit <= start {
-        return told(absent(page, 0), nowhere(start), start);
+        absent(page, 0)?;
+        return Ok(nowhere(start));
     }
-    pass(y, d, start, limit, page)
+    pass(d, start, limit, page)
 }

@@ -12,7 +12,6 @@ mod quick;
 mod reads;
 mod right;
 mod rows;
-mod scan;
 mod words;
 
-pub use reads::{Reading, bytes_fault, read};
+pub use reads::{Faulty, Reading, bytes_fault, read};

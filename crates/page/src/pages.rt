@@ -1,141 +1,147 @@
-// The first fault of a segment against its page, in one pass over its components from left to right. The pass keeps plain numbers: the place of the
-// component that comes next, its element's number, its own, the word of its element, and the mood: 0 idle, 1 asking, 2 owing, 3 in the tag, of which
-// nothing is asked; and the places of two components.
+// The first fault of a segment against its page, in one pass over its components from left to right. The pass keeps the place of the component that comes
+// next, its element's number, its own, the word of its element, and the mood; and the places of two components.
 ghost use Rattle.std.specs.Prelude.{◌+◌, ◌^◌, ◌≤◌, ◌<◌, ◌≡◌, length, drop};
 ghost use Rattle.plain.specs.Plain.{decoded};
+ghost use Rattle.guide.specs.Reasons.{fault_number, numbered};
 ghost use Rattle.guide.specs.workers.Moods.{opened, absent_fault};
 ghost use Rattle.page.specs.Examined.{examined_of};
-ghost use Rattle.page.specs.workers.Walk.{inside, stand_of, stand_fault, MoodAfter, EndFault, stop_of};
+ghost use Rattle.page.specs.workers.Walk.{inside, stand_in, stand_fault, MoodAfter, EndFault};
 ghost use Rattle.page.specs.workers.Words.{row_in, element_in, page_in, NodeWord};
 
 use crate::formed::{is_must, text_fault};
-use crate::places::{Examined, nowhere, places_on, told};
+use crate::places::{Places, nowhere, places_on};
 use crate::rows::{element_behind, row_at};
-use cut::Syntax;
-use element::component_from;
+use cut::Delivery;
+use element::{Ending, component_from, ending_at};
+use guide::Reason;
+
+// What is known of the element so far: that it asks for its must components; that it does not, and none of its must components was empty, or that one was;
+// or that it is the tag, of which nothing is asked.
+#[derive(Clone, Copy, PartialEq, Eq, Debug)]
+enum Mood {
+    Asking,
+    Idle,
+    Owing,
+    Tag,
+}
 
 // The fault of the elements behind element e of the page that has a word, where none of them stands.
-pub(crate) fn absent(page: usize, e: usize) -> u32
+pub(crate) fn absent(page: usize, e: usize) -> Result<(), Reason>
     requires { NodeWord page (page_in page) }
-    ensures { result ≡ absent_fault (drop e (page_in page)) }
+    ensures { fault_number result ≡ absent_fault (drop e (page_in page)) }
 {
     if e < page / 32768 {
-        return 17;
+        return Err(Reason::ComponentMissing);
     }
-    0
+    Ok(())
 }
 
 // The mood of the element that has a word before its first component.
-fn opening(word: usize) -> usize
-    ensures { stand_of result ≡ inside (opened (element_in word)) }
+fn opening(word: usize) -> Mood
+    ensures { stand_in result ≡ inside (opened (element_in word)) }
 {
     if word / 1048576 == 1 {
-        return 1;
+        return Mood::Asking;
     }
-    0
+    Mood::Idle
 }
 
 // The fault that is known where the element that has a word ends behind component c.
-fn ending(word: usize, c: usize, mood: usize) -> u32
+fn ended(word: usize, c: usize, mood: Mood) -> Result<(), Reason>
     requires { c + 1 < 2 ^ 64 }
-    ensures { EndFault word c mood result }
+    ensures { EndFault word c (stand_in mood) (fault_number result) }
 {
-    if mood != 1 {
-        return 0;
+    match mood {
+        Mood::Asking => {
+            if c + 1 < word / 32768 % 32 {
+                return Err(Reason::ComponentMissing);
+            }
+            Ok(())
+        }
+        Mood::Idle | Mood::Owing | Mood::Tag => Ok(()),
     }
-    if c + 1 < word / 32768 % 32 {
-        return 17;
-    }
-    0
 }
 
 // The fault that is known at a component of n bytes.
-fn known_fault(y: Syntax, d: &[u8], a: usize, b: usize, n: usize, row: usize, mood: usize) -> u32
-    requires { n ≡ length (decoded y a b d.now) }
-    ensures { result ≡ stand_fault y (stand_of mood) (row_in row) (decoded y a b d.now) }
+fn known_fault(
+    d: Delivery<'_>,
+    a: usize,
+    b: usize,
+    n: usize,
+    row: usize,
+    mood: Mood,
+) -> Result<(), Reason>
+    requires { n ≡ length (decoded d.syntax a b d.bytes.now) }
+    ensures { fault_number result ≡ stand_fault d.entry.syntax (stand_in mood) (row_in row) (decoded d.entry.syntax a b d.entry.bytes.now) }
 {
-    if mood < 2 {
-        return text_fault(y, d, a, b, n, row, mood == 1);
+    match mood {
+        Mood::Asking => text_fault(d, a, b, n, row, true),
+        Mood::Idle => text_fault(d, a, b, n, row, false),
+        Mood::Owing => {
+            if 0 < n {
+                return Err(Reason::ComponentMissing);
+            }
+            Ok(())
+        }
+        Mood::Tag => Ok(()),
     }
-    if n == 0 {
-        return 0;
-    }
-    if mood == 2 {
-        return 17;
-    }
-    0
 }
 
 // The mood after a component of n bytes.
-fn mood_after(n: usize, row: usize, mood: usize) -> usize
-    ensures { MoodAfter n mood (row_in row) result }
+fn mood_after(n: usize, row: usize, mood: Mood) -> Mood
+    ensures { MoodAfter n (stand_in mood) (row_in row) (stand_in result) }
 {
-    if 0 < mood {
-        return mood;
+    match mood {
+        Mood::Idle => {
+            if 0 < n {
+                return Mood::Asking;
+            }
+            if is_must(row) {
+                return Mood::Owing;
+            }
+            Mood::Idle
+        }
+        Mood::Asking | Mood::Owing | Mood::Tag => mood,
     }
-    if 0 < n {
-        return 1;
-    }
-    if is_must(row) {
-        return 2;
-    }
-    0
-}
-
-// What ends where a component ends, at the place `at` of a part up to `limit`: 0 the segment, 1 the element, 2 the component alone.
-fn stop_at(y: Syntax, d: &[u8], at: usize, limit: usize) -> usize
-    requires { limit ≤ length d.now }
-    ensures { result ≡ stop_of y d.now at limit }
-{
-    if limit <= at {
-        return 0;
-    }
-    let x = d[at];
-    if x == y.terminator {
-        return 0;
-    }
-    if x == y.element {
-        return 1;
-    }
-    2
 }
 
 // The pass over a part that has a byte, against the page that has a word.
-pub(crate) fn pass(y: Syntax, d: &[u8], start: usize, limit: usize, page: usize) -> Examined
-    requires { (start < limit) × (limit ≤ length d.now) × NodeWord page (page_in page) }
-    ensures { result ≡ examined_of y (page_in page) d.now start limit }
+pub(crate) fn pass(
+    d: Delivery<'_>,
+    start: usize,
+    limit: usize,
+    page: usize,
+) -> Result<Places, Reason>
+    requires { (start < limit) × (limit ≤ length d.bytes.now) × NodeWord page (page_in page) }
+    ensures { numbered result ≡ examined_of d.entry.syntax (page_in page) d.entry.bytes.now start limit }
 {
     let mut a = start;
     let mut places = nowhere(start);
     let mut e = 0;
     let mut c = 0;
     let mut word = 0;
-    let mut mood = 3;
+    let mut mood = Mood::Tag;
     loop {
-        let p = component_from(y, d, a, limit);
+        let p = component_from(d, a, limit);
         let row = row_at(word, c);
-        let fault = known_fault(y, d, a, p.end, p.length, row, mood);
-        if 0 < fault {
-            return told(fault, places, start);
-        }
+        known_fault(d, a, p.end, p.length, row, mood)?;
         places = places_on(e, c, a, p.end, places);
         mood = mood_after(p.length, row, mood);
         a = p.end + 1;
-        let stop = stop_at(y, d, p.end, limit);
-        if stop == 2 {
-            c += 1;
-            continue;
+        match ending_at(d, p.end, limit) {
+            Ending::Component => c += 1,
+            Ending::Element => {
+                ended(word, c, mood)?;
+                word = element_behind(page, e);
+                e += 1;
+                c = 0;
+                mood = opening(word);
+            }
+            Ending::Segment => {
+                ended(word, c, mood)?;
+                absent(page, e)?;
+                return Ok(places);
+            }
         }
-        let lack = ending(word, c, mood);
-        if 0 < lack {
-            return told(lack, places, start);
-        }
-        if stop == 0 {
-            return told(absent(page, e), places, start);
-        }
-        word = element_behind(page, e);
-        e += 1;
-        c = 0;
-        mood = opening(word);
     }
 }

@@ -1,5 +1,6 @@
 // The pass over a segment that has no fault, from state to state of a table.
-ghost use Rattle.std.specs.Prelude.{◌/◌, ◌%◌, true, ◌≡◌};
+ghost use Rattle.std.specs.Prelude.{◌/◌, ◌%◌, true, ◌≡◌, IfSome};
+ghost use Rattle.guide.specs.Options.{unless_0};
 ghost use Rattle.guide.specs.Page.{Page};
 ghost use Rattle.page.specs.workers.Cells.{is_tag_word, FirstCell, steps_of, may_end, next_of, keep_of};
 ghost use Rattle.page.specs.workers.Quick.{Begun, FaultlessAt};
@@ -7,27 +8,12 @@ ghost use Rattle.page.specs.workers.Quick.{Begun, FaultlessAt};
 use crate::cells::cell;
 use crate::marks::clean_on;
 use crate::places::{Places, nowhere};
+use crate::reads::Reading;
 use crate::right::is_right;
-use crate::scan::untested;
-use cut::Syntax;
-use element::Span;
+use cut::{Delivery, Syntax};
+use element::{Scan, Span};
 
-#[derive(Clone, Copy)]
-pub(crate) struct Faultless {
-    pub(crate) end: usize,
-    pub(crate) places: Places,
-}
-
-fn untold(start: usize) -> Faultless
-    ensures { result.end ≡ 0 }
-{
-    Faultless {
-        end: 0,
-        places: nowhere(start),
-    }
-}
-
-// The places once a component from a up to b is known, by what its row keeps of it.
+// The places once a component from a up to b is known, by what its row keeps of it: a field of a packed word, read here only.
 fn keep(kept: usize, a: usize, b: usize, places: Places) -> Places
     ensures { result ≡ keep_of kept (record { start = a; end = b }) places }
 {
@@ -68,21 +54,26 @@ fn may_end(w: u64, n: usize) -> bool
     w / 0x1_0000_0000 % 2 == 1
 }
 
-// The state behind a separator; 0 where the byte x is none, or the component is the last.
-fn next_state(y: Syntax, x: u8, t: u64) -> usize
-    ensures { result ≡ next_of y x t }
+// The state behind a separator; none where the byte x is none, or the component is the last.
+fn next_state(y: Syntax, x: u8, t: u64) -> Option<usize>
+    ensures { result ≡ unless_0 (next_of y x t) }
 {
-    if x == y.element {
-        return (t / 0x100 % 256) as usize;
+    let s = if x == y.element {
+        t / 0x100 % 256
+    } else if x == y.component {
+        t % 256
+    } else {
+        0
+    };
+    if s == 0 {
+        return None;
     }
-    if x == y.component {
-        return (t % 256) as usize;
-    }
-    0
+    Some(s as usize)
 }
 
 // Whether the segment begins with the four bytes of a word, a tag and the element separator; false too, where the service characters are not the usual
-// ones or fewer than eight bytes are left.
+// ones or fewer than eight bytes are left. The characters and the bytes come apart: of a slice it is known that no byte is above 255, and that is lost
+// behind a struct's reference.
 fn is_begun(y: Syntax, d: &[u8], start: usize, tag: u64) -> bool
     requires { is_tag_word tag ≡ true }
     ensures { result ≡ true → Begun y d.now start }
@@ -99,46 +90,41 @@ fn is_begun(y: Syntax, d: &[u8], start: usize, tag: u64) -> bool
     bytewise::eight_at(d, start) % 0x1_0000_0000 == tag
 }
 
-// The segment that begins at `start`, against the tag and the page of a first word; the end 0, where it is not told that there is no fault.
-pub(crate) fn faultless_from(y: Syntax, d: &[u8], start: usize, first: u64) -> Faultless
+// The segment that begins at `start`, against the tag and the page of a first word; none, where it is not told that there is no fault.
+pub(crate) fn faultless_from(d: Delivery<'_>, start: usize, first: u64) -> Option<Reading>
     requires { is_tag_word (first / 0x1_0000_0000) ≡ true }
-    ensures { (page : Page) → FirstCell (first % 0x1_0000_0000) page → (result.end ≡ 0 → ⊥) → FaultlessAt y page d.now start result }
+    ensures { (page : Page) → FirstCell (first % 0x1_0000_0000) page → IfSome result (FaultlessAt d.entry.syntax page d.entry.bytes.now start) }
 {
-    if !is_begun(y, d, start, first / 0x1_0000_0000) {
-        return untold(start);
+    if !is_begun(d.syntax, d.bytes, start, first / 0x1_0000_0000) {
+        return None;
     }
-    let mut scan = untested(start + 4);
+    let mut scan = Scan::untested(start + 4);
     let mut places = nowhere(start);
     let mut s = (first % 0x1_0000_0000) as usize;
     loop {
         let w = cell(s);
         let a = scan.at;
-        let p = clean_on(y, d, scan);
+        let p = clean_on(d, scan)?;
         let end = p.end;
-        if end == 0 {
-            return untold(start);
-        }
         let row = (w / 0x4_0000_0000) as usize;
         places = keep(row / 65536 % 4, a, end, places);
         if 0 < p.length {
-            if !is_right(y, d, a, end, p.length, row) {
-                return untold(start);
+            if !is_right(d, a, end, p.length, row) {
+                return None;
             }
         }
-        let x = d[end];
-        if x == y.terminator {
+        let x = d.bytes[end];
+        if x == d.syntax.terminator {
             if may_end(w, p.length) {
-                return Faultless {
+                return Some(Reading {
+                    first: places.first,
+                    third: places.third,
                     end: end + 1,
-                    places,
-                };
+                });
             }
-            return untold(start);
+            return None;
         }
-        s = next_state(y, x, steps(w, p.length));
-        if s == 0 {
-            return untold(start);
-        }
+        s = next_state(d.syntax, x, steps(w, p.length))?;
         scan = p.scan;
     }
 }

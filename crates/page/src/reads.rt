@@ -1,96 +1,84 @@
 // The segment that begins at a place: its end, and its first fault in the order 12, 10, 11, then the page's.
 ghost use Rattle.std.specs.Prelude.{◌≡◌};
+ghost use Rattle.guide.specs.Reasons.{fault_number};
 ghost use Rattle.guide.specs.workers.Judging.{bytes_fault};
-ghost use Rattle.page.specs.Reading.{segment_in, empty_at, reading_of};
+ghost use Rattle.page.specs.Reading.{segment_in, reading_of, numbers_of};
 
 use crate::cells::first_cell;
 use crate::examining::examined;
 use crate::quick::faultless_from;
 use clean::{allowed, tagged};
-use cut::{Cut, Syntax, cut_at};
+use cut::{Delivery, cut_at};
 use element::Span;
-use guide::Edition;
+use guide::{Edition, Reason};
 
-// The first fault or 0, where two components stand that the rules of a message ask for, as in `Examined`, and the byte after the segment.
-#[derive(Clone, Copy)]
+// Where two components of a segment without a fault stand that the rules of a message ask for, the first behind the tag and the first of element 3, and the
+// byte after the segment.
+#[derive(Clone, Copy, PartialEq, Eq, Debug)]
 pub struct Reading {
-    pub number: u32,
     pub first: Span,
     pub third: Span,
     pub end: usize,
 }
 
-// 12, 10, 11, in this order; 0 if none.
-pub fn bytes_fault(y: Syntax, d: &[u8], start: usize, end: usize, piece: bool) -> u32
-    ensures { result ≡ bytes_fault y (segment_in start end piece d.now) }
-{
-    if piece {
-        return 12;
-    }
-    if !allowed(d, start, end) {
-        return 10;
-    }
-    if !tagged(y, d, start, end) {
-        return 11;
-    }
-    0
+// The first fault of a segment, and the byte after it.
+#[derive(Clone, Copy, PartialEq, Eq, Debug)]
+pub struct Faulty {
+    pub reason: Reason,
+    pub end: usize,
 }
 
-// A fault of the segment from `start` to `end`: both places are the empty part at its start.
-fn stopped(number: u32, start: usize, end: usize) -> Reading
-    ensures { result ≡ record { number = number; first = empty_at start; third = empty_at start; end = end } }
+// 12, 10, 11, in this order.
+pub fn bytes_fault(d: Delivery<'_>, start: usize, end: usize, piece: bool) -> Result<(), Reason>
+    ensures { fault_number result ≡ bytes_fault d.entry.syntax (segment_in start end piece d.entry.bytes.now) }
 {
-    Reading {
-        number,
-        first: Span { start, end: start },
-        third: Span { start, end: start },
-        end,
+    if piece {
+        return Err(Reason::Unterminated);
     }
+    if !allowed(d.bytes, start, end) {
+        return Err(Reason::ByteNotAllowed);
+    }
+    if !tagged(d, start, end) {
+        return Err(Reason::NoTag);
+    }
+    Ok(())
 }
 
 // The segment at `start` cut first, then its bytes tested, then its components.
-fn read_through(y: Syntax, edition: Edition, node: usize, d: &[u8], start: usize) -> Reading
-    ensures { result ≡ reading_of y edition node d.now start }
+fn read_through(
+    edition: Edition,
+    node: usize,
+    d: Delivery<'_>,
+    start: usize,
+) -> Result<Reading, Faulty>
+    ensures { numbers_of result ≡ reading_of d.entry.syntax edition node d.entry.bytes.now start }
 {
-    let s = cut_at(y, d, start);
-    let Cut::Segment {
-        start: _,
-        end,
-        piece,
-    } = s
-    else {
-        return stopped(12, start, start);
+    let Some(cut) = cut_at(d, start) else {
+        return Err(Faulty {
+            reason: Reason::Unterminated,
+            end: start,
+        });
     };
-    let fault = bytes_fault(y, d, start, end, piece);
-    if fault != 0 {
-        return stopped(fault, start, end);
+    let end = cut.end;
+    if let Err(reason) = bytes_fault(d, start, end, cut.piece) {
+        return Err(Faulty { reason, end });
     }
-    let page = examined(y, edition, node, d, start, end);
-    let first = page.first;
-    let third = page.third;
-    Reading {
-        number: page.fault,
-        first,
-        third,
-        end,
+    match examined(edition, node, d, start, end) {
+        Ok(places) => Ok(Reading {
+            first: places.first,
+            third: places.third,
+            end,
+        }),
+        Err(reason) => Err(Faulty { reason, end }),
     }
 }
 
 // What is read of the segment at `start`, against the page of a node of an edition: in one pass, where it is told so that there is no fault.
-pub fn read(y: Syntax, edition: Edition, node: usize, d: &[u8], start: usize) -> Reading
-    ensures { result ≡ reading_of y edition node d.now start }
+pub fn read(edition: Edition, node: usize, d: Delivery<'_>, start: usize) -> Result<Reading, Faulty>
+    ensures { numbers_of result ≡ reading_of d.entry.syntax edition node d.entry.bytes.now start }
 {
-    let quick = faultless_from(y, d, start, first_cell(edition, node));
-    if quick.end == 0 {
-        return read_through(y, edition, node, d, start);
-    }
-    let places = quick.places;
-    let first = places.first;
-    let third = places.third;
-    Reading {
-        number: 0,
-        first,
-        third,
-        end: quick.end,
+    match faultless_from(d, start, first_cell(edition, node)) {
+        Some(reading) => Ok(reading),
+        None => read_through(edition, node, d, start),
     }
 }

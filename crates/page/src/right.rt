@@ -8,7 +8,7 @@ ghost use Rattle.guide.specs.workers.PageFault.{text_fault};
 ghost use Rattle.page.specs.workers.Words.{codes_in, format_in, free_row};
 
 use crate::coded::{front_word, has_code};
-use cut::Syntax;
+use cut::{Delivery, Syntax};
 use value::plain_digits;
 
 // Whether the n bytes from a on surely are on the row that has a word.
@@ -46,9 +46,9 @@ fn has_digits(digits: usize, size: usize, kind: usize) -> bool
 }
 
 // Whether the n bytes from a up to b, not none, have the format of the row that has a word.
-fn is_sized(y: Syntax, d: &[u8], a: usize, b: usize, n: usize, row: usize) -> bool
-    requires { (n ≡ length (part a b d.now)) × (0 < n) }
-    ensures { result ≡ fits_format y (format_in row) (part a b d.now) }
+fn is_sized(d: Delivery<'_>, a: usize, b: usize, n: usize, row: usize) -> bool
+    requires { (n ≡ length (part a b d.bytes.now)) × (0 < n) }
+    ensures { result ≡ fits_format d.entry.syntax (format_in row) (part a b d.entry.bytes.now) }
 {
     let size = row / 1048576;
     let kind = row / 262144 % 4;
@@ -58,7 +58,7 @@ fn is_sized(y: Syntax, d: &[u8], a: usize, b: usize, n: usize, row: usize) -> bo
     if kind == 1 {
         return n == size;
     }
-    has_digits(plain_digits(y, d, a, b), size, kind)
+    has_digits(plain_digits(d, a, b), size, kind)
 }
 
 // Whether the row that has a word takes any text of n bytes, not none.
@@ -76,15 +76,16 @@ fn is_free(n: usize, row: usize) -> bool
 }
 
 // Whether the component from a up to b, of n bytes and not none, surely has no fault on the row that has a word. One without release marks is its bytes.
-pub(crate) fn is_right(y: Syntax, d: &[u8], a: usize, b: usize, n: usize, row: usize) -> bool
-    requires { (a ≤ b) × (b ≤ length d.now) × (0 < n) }
-    ensures { result ≡ true → n ≡ length (decoded y a b d.now) → text_fault y false (free_row row) (decoded y a b d.now) ≡ 0 }
+pub(crate) fn is_right(d: Delivery<'_>, a: usize, b: usize, n: usize, row: usize) -> bool
+    requires { (a ≤ b) × (b ≤ length d.bytes.now) × (0 < n) }
+    ensures { result ≡ true → n ≡ length (decoded d.entry.syntax a b d.entry.bytes.now)
+        → text_fault d.entry.syntax false (free_row row) (decoded d.entry.syntax a b d.entry.bytes.now) ≡ 0 }
 {
     if b - a != n {
         return is_free(n, row);
     }
-    if !is_sized(y, d, a, b, n, row) {
+    if !is_sized(d, a, b, n, row) {
         return false;
     }
-    is_listed(d, a, n, row)
+    is_listed(d.bytes, a, n, row)
 }

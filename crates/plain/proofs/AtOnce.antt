@@ -25,6 +25,7 @@ use Rattle.std.proofs.Common.{
   eqb→eq,
   le-leb,
 }
+use Rattle.std.specs.Prelude.{Option, Some, None, IfSome}
 use native.Mathlib.Nat.{one-le-pow, pow-le-pow_right}
 use lib.Bits.{bit_and, and_le_r}
 use Rattle.bytewise.specs.Eights.{number, on_from, eight_at, byte_of}
@@ -34,7 +35,8 @@ use Rattle.bytewise.proofs.Bytewise.{number_like, byte_there, front_bytes, front
 use Rattle.bytewise.proofs.Every.{every-at}
 use Rattle.plain.specs.workers.Fronts.{FrontWord}
 use Rattle.plain.specs.Plain.{decoded}
-use Rattle.plain.specs.Words.{packed, word_of}
+use Rattle.plain.specs.Words.{Bytes, packed, word_of}
+use Rattle.plain.proofs.Packing.{decoded-bytes}
 use Rattle.plain.proofs.Decoding.{decoded-none, decoded-byte, unmarked}
 
 -- ---- the first n of eight bytes
@@ -58,13 +60,13 @@ module _ (n : ℕ) (h : n ≤ 6) (scale : ℕ) (s : scale ≡ 1 * 2 ^ (8 * n) % 
   front-worth w = rw (s ∙ scale_is n h) (ap (λ (v : ℕ). v + 256 ^ n) (front_bytes n w))
 
   pub front-word
-      : (y : Syntax) (w : ℕ) → ((k : ℕ) → k < 8 → byte_of (bit_and w (scale - 1)) k ≡ y.release → ⊥) → FrontWord y w n (bit_and w (scale - 1) + scale)
+      : (y : Syntax) (w : ℕ) → ((k : ℕ) → k < 8 → byte_of (bit_and w (scale - 1)) k ≡ y.release → ⊥) → FrontWord y w n (Some (bit_and w (scale - 1) + scale))
   front-word y w f =
       let q = s ∙ scale_is n h in
       let o : (k : ℕ) → k < n → byte_of (bit_and w (scale - 1)) k ≡ byte_of w k = λ k l. rw q (front-byte n w k l) in
       record {
-        worth = λ _. front-worth w;
-        plain = λ _ k l e. f k (omega arith) (o k l ∙ e);
+        worth = front-worth w;
+        plain = λ k l e. f k (omega arith) (o k l ∙ e);
       }
 
 -- ---- the bytes of a part
@@ -92,5 +94,8 @@ module _ (y : Syntax) (d : List ℕ) (e : ℕ) (h : e ≤ length d) where
         let o : length (decoded y a e d) ≤ 6 = omega arith in
         ap (λ (v : ℕ). v + 256 ^ n) (number_like n (byte_of w) (on_from d a) q) ∙ sym (rw (le-leb (length (decoded y a e d)) 6 o) t.1)
 
-    pub word-at-once : (r : ℕ) → FrontWord y w n r → (r ≡ 0 → ⊥) → r ≡ word_of (decoded y a e d)
-    word-at-once r f s = f.worth s ∙ word-plain (f.plain s)
+    pub word-at-once : (r : Option ℕ) → FrontWord y w n r → IfSome r (λ v. Bytes (decoded y a e d) × (v ≡ 0 → ⊥) × (v ≡ word_of (decoded y a e d)))
+    word-at-once None f = tt
+    word-at-once (Some v) f =
+        let q : 1 ≤ 256 ^ n = one-le-pow n 256 (lit< tt) in
+        (decoded-bytes y d a e b, (λ z. omega (arith, f.worth)), f.worth ∙ word-plain f.plain)

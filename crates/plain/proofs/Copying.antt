@@ -17,7 +17,6 @@ use Rattle.std.proofs.Common.{
   drop,
   set,
   sym,
-  refl,
   ap,
   ◌∙◌,
   add-one,
@@ -40,9 +39,6 @@ pub record Copying (s row out : List ℕ) (n : ℕ) (rest : List ℕ) : Type 0 w
   pub had : n ≤ length s
   pub left : drop n s ≡ rest
   pub made : out ≡ take n s ++ drop n row
-
-pub copying_start : (s row rest : List ℕ) → s ≡ rest → Copying s row row 0 rest
-copying_start s row rest p = record { room = omega arith; had = omega arith; left = p; made = refl }
 
 module _ {s row out rest : List ℕ} {n : ℕ} (c : Copying s row out n rest) where
   pub copying_length : length out ≡ length row

@@ -19,7 +19,6 @@ use Rattle.std.proofs.Common.{
   get_or,
   take,
   drop,
-  ap,
   ◌∙◌,
   arith,
   length-take,
@@ -117,26 +116,6 @@ module _ (y : Syntax) (d : List ℕ) where
   pub decoded_limited : (a e r : ℕ) → r ≡ min e (length d) → decoded y a r d ≡ decoded y a e d
   unfolding decoded
   decoded_limited a e r h = rw (limited d a e r h)
-
--- one byte more is counted
-pub count_more : {s t : List ℕ} {x : ℕ} (n m : ℕ) → n + length s ≡ m → s ≡ x ∷ t → n + 1 + length t ≡ m
-count_more n m h p =
-    let l = ap length p in
-    omega arith
-
--- the same where the bytes up to i from a on are all counted
-pub count-start : (a n : ℕ) → a - a + n ≡ n
-count-start a n = omega arith
-
-pub count-passed : {s t : List ℕ} {x : ℕ} (a i m : ℕ) → a ≤ i → i - a + length s ≡ m → s ≡ x ∷ t → i + 1 - a + length t ≡ m
-count-passed a i m k h p =
-    let l = ap length p in
-    omega arith
-
-pub count-all : {s : List ℕ} (n m : ℕ) → n + length s ≡ m → s ≡ [] → n ≡ m
-count-all n m h p =
-    let l = ap length p in
-    omega arith
 
 -- no more bytes are left than stood there
 plain_fits : (y : Syntax) (r : Bool) (xs : List ℕ) → length (plain y r xs) ≤ length xs

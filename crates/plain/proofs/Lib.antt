@@ -1,6 +1,8 @@
 pub mod Decoding
 pub mod LiteralPlaces
+pub mod Reading
 pub mod Sameness
+pub mod Comparing
 pub mod Copying
 pub mod Packing
 pub mod Summing

@@ -8,6 +8,9 @@ use Rattle.std.proofs.Common.{
   ◌^◌,
   ◌<◌,
   ◌≤◌,
+  Bool,
+  true,
+  false,
   cond,
   leb,
   List,
@@ -16,6 +19,9 @@ use Rattle.std.proofs.Common.{
   length,
   refl,
   ap,
+  ◌∙◌,
+  leb-true,
+  leb-false,
   mul_assoc,
   mul-le-mul_left,
   pow-suc,
@@ -54,6 +60,28 @@ module _ {n sum scale : ℕ} (b : Begun n sum scale) where
   pub begun-small : scale ≤ 256 ^ 6
   begun-small = rw b.scaled (pow-le-pow_right (lit< tt) b.few)
 
+  -- it counts just that where six are read
+  begun_before : n ≤ 5 → scale ≤ 256 ^ 5
+  begun_before h = rw b.scaled (pow-le-pow_right (lit< tt) h)
+
+  pub begun-six : scale ≡ 256 ^ 6 → 6 ≤ n
+  begun-six h = go (leb 6 n) refl
+    where
+      go : (t : Bool) → leb 6 n ≡ t → 6 ≤ n
+      go true e = leb-true 6 n e
+      go false e =
+          let k : n ≤ 5 = omega (arith, leb-false 6 n e) in
+          absurd (omega (arith, begun_before k))
+
+  pub begun-fewer : (scale ≡ 256 ^ 6 → ⊥) → n < 6
+  begun-fewer h = go (leb 6 n) refl
+    where
+      go : (t : Bool) → leb 6 n ≡ t → n < 6
+      go true e =
+          let k : n ≡ 6 = omega (arith, leb-true 6 n e, b.few) in
+          absurd (h (b.scaled ∙ ap (λ (m : ℕ). 256 ^ m) k))
+      go false e = leb-false 6 n e
+
   pub word_end : (s : List ℕ) → s ≡ [] → sum + scale ≡ word_from n sum scale s
   unfolding word_from packed
   word_end s p =
@@ -79,7 +107,7 @@ module _ {n sum scale : ℕ} (b : Begun n sum scale) where
     pub begun-fits : (sum + scale * x < 256 ^ 6) × (scale * 256 ≤ 256 ^ 6)
     begun-fits =
         let k : n ≤ 5 = omega arith in
-        let l : scale ≤ 256 ^ 5 = rw b.scaled (pow-le-pow_right (lit< tt) k) in
+        let l : scale ≤ 256 ^ 5 = begun_before k in
         (omega (arith, begun-byte), omega arith)
 
     pub begun_more : Begun (n + 1) (sum + scale * x) (scale * 256)

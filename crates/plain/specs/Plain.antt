@@ -3,6 +3,7 @@ use Rattle.std.specs.Prelude.{ℕ, ◌+◌, min, Bool, true, false, cond, ◌&&�
 use Rattle.cut.specs.declared.service.Syntax.{Syntax}
 use Rattle.cut.specs.Segments.{frees}
 use Rattle.bytewise.specs.Bytes.{part}
+use Rattle.plain.specs.declared.literals.Literals.{Literals}
 
 -- the byte x before the bytes xs, unless it is a release mark
 unfoldable pub unless_mark : Bool → ℕ → List ℕ → List ℕ
@@ -17,6 +18,10 @@ plain y r (x ∷ xs) = unless_mark (frees y r x) x (plain y (frees y r x) xs)
 -- the part of d from a up to e, "releases removed"
 unfoldable pub decoded : Syntax → ℕ → ℕ → List ℕ → List ℕ
 decoded y a e d = plain y false (part a e d)
+
+-- what is left to read of a part, "releases removed"
+unfoldable pub literals_left : Literals → List ℕ
+literals_left s = plain s.syntax false s.rest.now
 
 -- where the first byte stands that the part of d from i up to e has, "releases removed": at i, or behind it if a release mark stands there
 unfoldable pub literal_of : Syntax → List ℕ → ℕ → ℕ → ℕ

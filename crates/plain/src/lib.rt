@@ -6,6 +6,6 @@ mod literals;
 mod plain;
 mod words;
 
-pub use literals::literal;
+pub use literals::{Literals, literal};
 pub use plain::{copy_plain, is_code, plain_length, same_plain};
 pub use words::word_of;

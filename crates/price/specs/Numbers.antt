@@ -1,5 +1,5 @@
 -- The eight numbers of a price. Document 01, 'What is handed out'; which component is which stands on the pages of LIN and PRI.
-use Rattle.std.specs.Prelude.{ℕ, ◌-◌, false, cond, List, [], ◌∷◌, ltb, ℤ, pos, negsuc}
+use Rattle.std.specs.Prelude.{ℕ, ◌-◌, false, cond, List, [], ◌∷◌, ltb, ℤ, pos, negsuc, Option, Some, None}
 use Rattle.cut.specs.declared.service.Syntax.{Syntax}
 use Rattle.bytewise.specs.Bytes.{bytes_of}
 use Rattle.cut.specs.Segments.{Segment}
@@ -8,8 +8,7 @@ use Rattle.element.specs.Components.{components, span_in}
 use Rattle.plain.specs.Plain.{plain, same}
 use Rattle.value.specs.Number.{number_of}
 use Rattle.element.specs.declared.components.Span.{Span}
-use Rattle.value.specs.declared.prices.Number.{Number}
-use Rattle.value.specs.declared.prices.Number.TheVariants.{Amount, Nothing}
+use Rattle.value.specs.declared.prices.Amount.{Amount}
 use Rattle.guide.specs.Sheet.{Price}
 use Rattle.price.specs.declared.numbers.Numbers.{Numbers}
 
@@ -32,17 +31,17 @@ unfoldable pub article_length : Span → ℤ
 article_length a = pos (a.end - a.start)
 
 -- the price of a PRI: its 5118, the second component of element 1
-unfoldable pub price_in : Syntax → List ℕ → Number
+unfoldable pub price_in : Syntax → List ℕ → Option Amount
 price_in y pri = number_of y (plain y false (component y pri 1 1))
 
 -- "amount; decimals": of what is no price, 0 and 0
-abbrev pub amount_of : Number → ℤ
-amount_of (Amount v n) = v
-amount_of Nothing = pos 0
+abbrev pub amount_of : Option Amount → ℤ
+amount_of (Some a) = a.amount
+amount_of None = pos 0
 
-abbrev pub decimals_of : Number → ℤ
-decimals_of (Amount v n) = pos n
-decimals_of Nothing = pos 0
+abbrev pub decimals_of : Option Amount → ℤ
+decimals_of (Some a) = pos a.decimals
+decimals_of None = pos 0
 
 -- "unit's rank on its page from 1, or 0": PRI's 6411, the sixth component of element 1; the page has ANN alone
 unfoldable pub unit_rank : Syntax → List ℕ → ℤ

@@ -4,10 +4,10 @@ ghost use Rattle.bytewise.specs.Bytes.{part};
 ghost use Rattle.cut.specs.Segments.{segments_at};
 ghost use Rattle.price.specs.Cursors.{first_cursor, next_price, next_in, price_here};
 
-use crate::kinds::is_pri;
+use crate::kinds::Kind;
 use crate::numbers::{amount_in, decimals_in};
-use crate::spots::{Held, Spot, moved, spot_at};
-use cut::Syntax;
+use crate::spots::{Held, Spot, spot_at};
+use cut::Delivery;
 use element::component_at;
 use value::number_of;
 
@@ -18,79 +18,73 @@ pub struct Cursor {
     pub held: Held,
 }
 
-// A price: its position, where its article stands, its amount and decimals, and the cursor behind it; or that there is none.
-#[derive(Clone, Copy)]
-pub enum Next {
-    Price {
-        position: usize,
-        start: usize,
-        end: usize,
-        amount: i64,
-        decimals: i64,
-        next: Cursor,
-    },
-    Nothing,
+// A price: its position, where its article stands, its amount and decimals.
+#[derive(Clone, Copy, PartialEq, Eq, Debug)]
+pub struct Price {
+    pub position: usize,
+    pub start: usize,
+    pub end: usize,
+    pub amount: i64,
+    pub decimals: i64,
 }
 
 // Before the first price of the message that begins at a place.
 pub fn first_price(start: usize) -> Cursor
     ensures { result ≡ first_cursor start }
 {
-    let held = Held {
-        number: 0,
-        start,
-        end: start,
-    };
-    Cursor { at: start, held }
+    Cursor {
+        at: start,
+        held: Held::first(start),
+    }
 }
 
-// The next price of a message that ends at `end`. A cursor with more positions than bytes before it is none of a message: nothing comes.
-pub fn next_price(y: Syntax, d: &[u8], end: usize, c: Cursor) -> Next
-    ensures { result ≡ next_price y (part 0 end d.now) c }
+// The next price of a message that ends at `end`, with the cursor behind it. A cursor with more positions than bytes before it is none of a message:
+// nothing comes.
+pub fn next_price(d: Delivery<'_>, end: usize, c: Cursor) -> Option<(Price, Cursor)>
+    ensures { result ≡ next_price d.entry.syntax (part 0 end d.entry.bytes.now) c }
 {
-    let p = c.held;
-    if c.at < p.number {
-        return Next::Nothing;
+    if c.at < c.held.number {
+        return None;
     }
-    if d.len() <= end {
-        return next_from(y, d, c.at, p);
-    }
-    next_from(y, &d[0..end], c.at, p)
+    next_from(d.until(end), c.at, c.held)
 }
 
 // The same for all segments from `from` on.
-fn next_from(y: Syntax, d: &[u8], from: usize, held: Held) -> Next
+fn next_from(d: Delivery<'_>, from: usize, held: Held) -> Option<(Price, Cursor)>
     requires { held.number ≤ from }
-    ensures { result ≡ next_in y d.now held (segments_at y d.now from) }
+    ensures { result ≡ next_in d.entry.syntax d.entry.bytes.now held (segments_at d.entry.syntax d.entry.bytes.now from) }
 {
     let mut at = from;
     let mut p = held;
-    loop {
-        let s = spot_at(y, d, at);
-        let Spot::At { start, kind, end } = s else {
-            return Next::Nothing;
-        };
-        if is_pri(kind) {
-            return price_here(y, d, p, start, end);
+    while let Some(spot) = spot_at(d, at) {
+        if spot.kind == Kind::Pri {
+            return Some(price_here(d, p, spot));
         }
-        p = moved(p, kind, start, end);
-        at = end;
+        p = p.moved(spot);
+        at = spot.end;
     }
+    None
 }
 
-// The price whose PRI stands from `start` to `end`, in the position p.
-fn price_here(y: Syntax, d: &[u8], p: Held, start: usize, end: usize) -> Next
-    ensures { result ≡ price_here y d.now p (part start end d.now) end }
+// The price of the PRI that stands at a spot, in the position p.
+fn price_here(d: Delivery<'_>, p: Held, spot: Spot) -> (Price, Cursor)
+    ensures { result ≡ price_here d.entry.syntax d.entry.bytes.now p (part spot.start spot.end d.entry.bytes.now) spot.end }
 {
-    let a = component_at(y, d, p.start, p.end, 3, 0);
-    let s = component_at(y, d, start, end, 1, 1);
-    let n = number_of(y, d, s.start, s.end);
-    Next::Price {
+    let a = component_at(d, p.lin.start, p.lin.end, 3, 0);
+    let s = component_at(d, spot.start, spot.end, 1, 1);
+    let n = number_of(d, s.start, s.end);
+    let price = Price {
         position: p.number,
         start: a.start,
         end: a.end,
         amount: amount_in(n),
         decimals: decimals_in(n),
-        next: Cursor { at: end, held: p },
-    }
+    };
+    (
+        price,
+        Cursor {
+            at: spot.end,
+            held: p,
+        },
+    )
 }

@@ -10,6 +10,6 @@ mod rows;
 mod spots;
 
 pub use articles::article_at;
-pub use cursor::{Cursor, Next, first_price, next_price};
+pub use cursor::{Cursor, Price, first_price, next_price};
 pub use filling::{Filled, fill};
 pub use spots::Held;

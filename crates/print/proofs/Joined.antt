@@ -9,14 +9,14 @@ use lib.Seq.{length-take-le}
 use Rattle.cut.specs.Admission.{admission_of}
 use Rattle.messages.specs.Messages.{Message, start_of, messages}
 use Rattle.schaumtruhe.specs.declared.reading.Reading.{Reading}
-use Rattle.schaumtruhe.specs.declared.surveys.Surveyed.TheVariants.{Counted, Refused}
+use Rattle.std.specs.Prelude.{Option, Some, Result, Ok, Err}
+use Rattle.print.specs.declared.state.Unprinted.{Unprinted}
+use Rattle.print.specs.declared.state.Unprinted.TheVariants.{Short, Foreign}
 use Rattle.schaumtruhe.specs.Readings.{used_in}
 use Rattle.schaumtruhe.specs.Calls.{judged, verdict_at, survey_of}
 use Rattle.schaumtruhe.proofs.keeping.Kept.{verdict-here}
 use Rattle.print.specs.declared.state.Printer.{Printer}
 use Rattle.print.specs.declared.state.Chunk.{Chunk}
-use Rattle.print.specs.declared.state.Printed.{Printed}
-use Rattle.print.specs.declared.state.Printed.TheVariants as printed
 use Rattle.print.specs.Report.{line_of, lines_from, envelope_line, report_by, report_of}
 use Rattle.print.specs.Printing.{left_to, sound, least, Wrote, Stepped, Run, ends, goes}
 
@@ -33,7 +33,7 @@ module _ (d : List ℕ) where
 
   module _ (p : Printer) (row row' : List ℕ) where
     -- from an answer back
-    pub step_wrote : (x : Printed) (r : Chunk) → x ≡ printed.Written r → Stepped d p row row' x → Wrote d (left_to d p) row row' r
+    pub step_wrote : (x : Result (Option Chunk) Unprinted) (r : Chunk) → x ≡ Ok (Some r) → Stepped d p row row' x → Wrote d (left_to d p) row row' r
     unfolding Stepped
     step_wrote x r h s = subst (Stepped d p row row') h s
 
@@ -45,23 +45,23 @@ module _ (d : List ℕ) where
         omega (arith, e, n, s.some)
 
     -- a buffer that is long enough and a printer that was made here are never turned away
-    pub never_short : least ≤ length row → Stepped d p row row' printed.Short → ⊥
+    pub never_short : least ≤ length row → Stepped d p row row' (Err Short) → ⊥
     unfolding Stepped
     never_short h s = omega (arith, s.0)
 
-    pub never_foreign : sound p.counts ≡ true → Stepped d p row row' printed.Foreign → ⊥
+    pub never_foreign : sound p.counts ≡ true → Stepped d p row row' (Err Foreign) → ⊥
     unfolding Stepped
     never_foreign h s = true≢false (sym h ∙ s.0)
 
 -- the last line has survey's counts, the one before it is the envelope's, and a delivery that survey refuses has its number alone
 module _ (how : Reading) (d : List ℕ) where
   pub report_counted
-      : (m a o : ℕ) → survey_of (used_in how d) d ≡ Counted m a o
+      : (m a o : ℕ) → survey_of (used_in how d) d ≡ Ok (record { messages = m; accepted = a; outside = o })
       → report_of how d ≡ lines_from (used_in how d) 1 (messages (used_in how d) d) ++ (envelope_line (used_in how d) d ++ line_of 69 (m ∷ a ∷ o ∷ []))
   unfolding report_of
   report_counted m a o h = ap (report_by (used_in how d) d) h
 
-  pub report_refused : (n : ℕ) → survey_of (used_in how d) d ≡ Refused n → report_of how d ≡ line_of 88 (n ∷ [])
+  pub report_refused : (n : ℕ) → survey_of (used_in how d) d ≡ Err n → report_of how d ≡ line_of 88 (n ∷ [])
   unfolding report_of
   report_refused n h = ap (report_by (used_in how d) d) h
 

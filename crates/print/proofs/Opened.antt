@@ -7,16 +7,18 @@ use native.Mathlib.Nat.{zero-add}
 use native.Mathlib.Omega.{arith}
 use lib.ListN.{length}
 use Rattle.cut.specs.declared.service.Syntax.{Syntax}
-use Rattle.cut.specs.Admission.{admission_of, opening_of, segments}
+use Rattle.cut.specs.declared.admit.Inadmissible.{Inadmissible}
+use Rattle.cut.specs.Admission.{number_of, admission_of, opening_of, segments}
 use Rattle.cut.specs.Segments.{segments_at}
 use Rattle.cut.proofs.Places.{admitted}
 use Rattle.messages.specs.Messages.{messages_in, messages, outside}
 use Rattle.messages.proofs.Finding.{all-rising}
 use Rattle.messages.proofs.Outside.{outside-walk}
 use Rattle.schaumtruhe.specs.declared.reading.Reading.{Reading}
-use Rattle.schaumtruhe.specs.declared.surveys.Surveyed.{Surveyed}
+use Rattle.schaumtruhe.specs.declared.surveys.Survey.{Survey}
 use Rattle.schaumtruhe.specs.Readings.{used_in}
 use Rattle.schaumtruhe.specs.Calls.{accepted, survey_unless, survey_of}
+use Rattle.schaumtruhe.proofs.Refusals.{some_reason}
 use Rattle.print.specs.declared.state.Counts.{Counts}
 use Rattle.print.specs.declared.state.Stage.TheVariants as stage
 use Rattle.print.specs.Report.{line_of, lines_from, report_by, report_of}
@@ -30,20 +32,20 @@ none at = record { at = at; messages = 0; accepted = 0; outside = 0 }
 none-sound : (at : ℕ) → sound (none at) ≡ true
 none-sound at = few-sound (none at) (record { messages = omega arith; accepted = omega arith; outside = omega arith })
 
-refuses_all : (y : Syntax) (d : List ℕ) (n : ℕ) (s : Surveyed) → (n ≡ 0 → ⊥) → line_of 88 (n ∷ []) ≡ report_by y d (survey_unless n s)
+refuses_all : (y : Syntax) (d : List ℕ) (n : ℕ) (s : Survey) → (n ≡ 0 → ⊥) → line_of 88 (n ∷ []) ≡ report_by y d (survey_unless n s)
 refuses_all y d zero s h = absurd (h refl)
 refuses_all y d (suc n) s h = refl
 
-module _ (how : Reading) (d : List ℕ) (y : Syntax) (used : y ≡ used_in how d) (n : ℕ) (admits : n ≡ admission_of y d) (c : Counts) where
+module _ (how : Reading) (d : List ℕ) (y : Syntax) (used : y ≡ used_in how d) (c : Counts) where
   pub opened_refused
-      : (n ≡ 0 → ⊥) → (at : ℕ) → c ≡ none at
-      → (left_to d (record { syntax = y; counts = c; stage = stage.Refused n }) ≡ report_of how d) × (sound c ≡ true)
+      : (e : Inadmissible) → number_of e ≡ admission_of y d → (at : ℕ) → c ≡ none at
+      → (left_to d (record { syntax = y; counts = c; stage = stage.Refused e }) ≡ report_of how d) × (sound c ≡ true)
   unfolding left_to left_in report_of survey_of
-  opened_refused h at k = (rw (← used, ← admits) (refuses_all y d n _ h), rw k (none-sound at))
+  opened_refused e admits at k = (rw (← used, ← admits) (refuses_all y d (number_of e) _ (some_reason e)), rw k (none-sound at))
 
-  module _ (fine : n ≡ 0) (at : ℕ) (opens : at ≡ opening_of y d) where
+  module _ (admits : 0 ≡ admission_of y d) (at : ℕ) (opens : at ≡ opening_of y d) where
     all : segments y d ≡ segments_at y d at
-    all = admitted y d (sym admits ∙ fine) ∙ ap (segments_at y d) (sym opens)
+    all = admitted y d (sym admits) ∙ ap (segments_at y d) (sym opens)
 
     all_left
         : left_from y d (none at)
@@ -56,4 +58,4 @@ module _ (how : Reading) (d : List ℕ) (y : Syntax) (used : y ≡ used_in how d
 
     pub opened-left : c ≡ none at → (left_to d (record { syntax = y; counts = c; stage = stage.Between }) ≡ report_of how d) × (sound c ≡ true)
     unfolding left_to left_in last_lines report_of survey_of
-    opened-left k = (rw (← used, ← admits, fine, k) all_left, rw k (none-sound at))
+    opened-left k = (rw (← used, ← admits, k) all_left, rw k (none-sound at))

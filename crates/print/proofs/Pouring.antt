@@ -1,7 +1,7 @@
 -- A part of the delivery into a lent row, release marks removed.
 use Prim.Native.Nat.{ℕ, ◌+◌, ◌≤◌, ◌<◌, min}
 use mathlib.Core.Path.{◌≡◌, refl, sym, ap, ◌∙◌}
-use mathlib.Core.Bool.{true, false, true≢false, false≢true}
+use Rattle.std.specs.Prelude.{Some, None}
 use mathlib.Core.List.{List, [], ◌∷◌, ◌++◌}
 use native.Mathlib.Nat.{zero-add}
 use native.Mathlib.Omega.{arith}
@@ -32,38 +32,31 @@ module _ (y : Syntax) (d : List ℕ) (from to end stop : ℕ) (row : List ℕ) w
       pub pouring_length : length out ≡ length row
       pouring_length = ap length p.put ∙ put-length 0 p.text row
 
+      -- the row is full
+      pub pouring_full : stop ≤ n → Poured y d from to stop row out (record { length = stop; left = Some i })
+      pouring_full h =
+          record {
+            text = p.text;
+            parts = p.parts ∙ ap (λ (t : List ℕ). p.text ++ t) (decoded_limited y d i to end ends);
+            put = p.put;
+            count = omega (arith, p.count, p.room);
+            room = omega arith;
+            full = λ _. refl;
+          }
+
       module _ (r : ℕ) (lit : r ≡ literal_of y d i end) where
         found : Literal y d i end r
         found = literal-is lit (omega arith)
 
-        pub pouring_onward : i ≤ r
-        pouring_onward = found.onward
-
-        same_left : p.text ++ decoded y i end d ≡ p.text ++ decoded y i to d
-        same_left = ap (λ (t : List ℕ). p.text ++ t) (decoded_limited y d i to end ends)
-
-        pub pouring_all : end ≤ r → Poured y d from to stop row out (record { from = i; length = n; whole = true })
+        pub pouring_all : end ≤ r → Poured y d from to stop row out (record { length = n; left = None })
         pouring_all h =
             record {
               text = p.text;
-              parts = p.parts ∙ same_left;
+              parts = p.parts ∙ ap (λ (t : List ℕ). p.text ++ t) (found.none h);
               put = p.put;
               count = p.count;
               room = p.room;
-              all = λ _. sym (decoded_limited y d i to end ends) ∙ found.none h;
-              full = λ t. absurd (true≢false t);
-            }
-
-        pub pouring_full : stop ≤ n → Poured y d from to stop row out (record { from = i; length = n; whole = false })
-        pouring_full h =
-            record {
-              text = p.text;
-              parts = p.parts ∙ same_left;
-              put = p.put;
-              count = p.count;
-              room = p.room;
-              all = λ t. absurd (false≢true t);
-              full = λ _. omega (arith, p.room);
+              full = λ t. absurd (cc);
             }
 
         pub pouring_on : r < end → n < stop → Pouring (set out n (get_or d r 0)) (r + 1) (n + 1)

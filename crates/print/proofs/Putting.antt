@@ -2,12 +2,14 @@
 use Prim.Native.Nat.{ℕ, suc, ◌+◌, ◌-◌, ◌*◌, ◌≤◌, ◌<◌}
 use mathlib.Core.Path.{◌≡◌, refl, sym, ap, ◌∙◌}
 use mathlib.Core.Bool.{cond}
-use mathlib.Core.List.{List, [], ◌∷◌, ◌++◌, append-nil}
+use mathlib.Core.List.{List, [], ◌∷◌, ◌++◌, append-nil, append_assoc}
 use native.Mathlib.Nat.{add-zero, zero-add}
 use native.Mathlib.Numerals.{add-one}
 use native.Mathlib.Omega.{arith}
 use lib.ListN.{length, get_or, take, drop, set, length-set, length-append, length-drop, take-append-drop, drop_of_length-le}
-use lib.Seq.{drop-cons, append_snoc, length-take-le, take-append_seam, drop-append_seam, set-append_seam}
+use lib.Seq.{drop-cons, drop-drop, append_snoc, length-take-le, take_all, take-length, take-append_seam, drop-append_seam, set-append_seam, paste}
+use borrow.Rule.Slice.PartMut.{put_mid}
+use Rattle.std.proofs.lemmas.Slice.{put_mid-paste}
 use lib.Dec.{ltb}
 use lib.IntN.{ℤ, pos}
 use borrow.Author.Tests.{lt-ltb, le-ltb}
@@ -45,6 +47,30 @@ put_front s row h =
     ap (put_at 0 s) (sym (take-append-drop (length s) row))
     ∙ put-over [] s (take (length s) row) (drop (length s) row) (length-take-le (length s) row h)
 
+-- a part of the row that is replaced by as many bytes
+pub pasted : (at : ℕ) (s row : List ℕ) → at + length s ≤ length row → paste row at s (length s) ≡ put_at at s row
+pasted at s row h =
+    let a = take at row in
+    let n = length s in
+    let m = take n (drop at row) in
+    let c = drop (at + n) row in
+    let rest : m ++ c ≡ drop at row = ap (λ (t : List ℕ). m ++ t) (sym (drop-drop n at row)) ∙ take-append-drop n (drop at row) in
+    let all : a ++ (m ++ c) ≡ row = ap (λ (t : List ℕ). a ++ t) rest ∙ take-append-drop at row in
+    let front : length a ≡ at = length-take-le at row (omega arith) in
+    let middle : length m ≡ length s = length-take-le n (drop at row) (omega (arith, length-drop at row)) in
+    ap (λ (t : List ℕ). (a ++ t) ++ c) (take-length s)
+    ∙ append_assoc a s c
+    ∙ sym (put-over a s m c middle)
+    ∙ ap (put_at (length a) s) all
+    ∙ ap (λ (k : ℕ). put_at k s row) front
+
+pub word-pasted
+    : (at k : ℕ) (t u row : List ℕ) → u ≡ t → k ≡ length t → at + 1 + length t ≤ length row
+    → put_mid (at + 1) k (set row at 32) u ≡ put_at at (32 ∷ t) row
+unfolding put_at
+word-pasted at k t u row e c h =
+    put_mid-paste (at + 1) k (set row at 32) u t (length t) e (sym c) refl ∙ pasted (at + 1) t (set row at 32) (omega (arith, length-set row at 32))
+
 -- what was put there is there, and what stands behind it is as it was
 module _ (s row row' : List ℕ) (n : ℕ) (put : row' ≡ put_at 0 s row) (count : n ≡ length s) (fits : length s ≤ length row) where
   pub put_taken : take n row' ≡ s
@@ -59,12 +85,6 @@ pub record Putting (left : List ℕ) (at : ℕ) (row whole : List ℕ) (stop : �
   pub room : at + length left ≡ stop
 
 module _ {left row whole : List ℕ} {at stop : ℕ} (p : Putting left at row whole stop) where
-  pub putting_byte : (x : ℕ) (next : List ℕ) → left ≡ x ∷ next → Putting next (at + 1) (set row at x) whole stop
-  unfolding put_at
-  putting_byte x next h =
-      let l = ap length h in
-      record { same = ap (λ (s : List ℕ). put_at at s row) (sym h) ∙ p.same; room = omega (arith, p.room) }
-
   pub putting_on
       : (s next row' : List ℕ) (at' : ℕ) → left ≡ s ++ next → at' ≡ at + length s → row' ≡ put_at at s row → Putting next at' row' whole stop
   putting_on s next row' at' h e f =
@@ -89,16 +109,12 @@ module _ (size : ℕ) (row text s : List ℕ) (few : length s ≤ 20) (count : s
   front : length (take (20 - size) row) ≡ 20 - size
   front = length-take-le (20 - size) row (omega arith)
 
-  pub text-within : size ≤ 20
-  text-within = omega arith
-
-  pub text-length : length text ≡ 20
-  text-length =
-      let t = front in
-      ap length put ∙ simp length-append (omega arith)
-
-  pub text_end : drop (20 - size) text ≡ s
-  text_end = rw put (ap (λ (n : ℕ). drop n (take (20 - size) row ++ s)) (sym front) ∙ drop-append_seam (take (20 - size) row) s)
+  -- from there on to its end
+  pub text_end : take (20 - (20 - size)) (drop (20 - size) text) ≡ s
+  text_end =
+      let all : drop (20 - size) text ≡ s =
+      rw put (ap (λ (n : ℕ). drop n (take (20 - size) row ++ s)) (sym front) ∙ drop-append_seam (take (20 - size) row) s) in
+      ap (take (20 - (20 - size))) all ∙ take_all (20 - (20 - size)) s (omega arith)
 
 pub count-text-is : (n : ℕ) → digits_in 20 n ≡ text_of (pos n)
 unfolding text_of
@@ -106,29 +122,16 @@ count-text-is n = refl
 
 pub word-put
     : (z : ℤ) (s : List ℕ) (at r : ℕ) (t row row' : List ℕ) → s ≡ text_of z → length s ≤ 20 → t ≡ s → r ≡ at + 1 + length t
-    → row' ≡ put_at (at + 1) t (set row at 32) → ((r ≡ at + length (word z)) × (r ≤ at + 21)) × (row' ≡ put_at at (word z) row)
+    → row' ≡ put_at at (32 ∷ t) row → ((r ≡ at + length (word z)) × (r ≤ at + 21)) × (row' ≡ put_at at (word z) row)
 unfolding word put_at
 word-put z s at r t row row' is few e h k =
     let l = ap length e in
     let m = ap length is in
-    ((omega arith, omega arith), k ∙ ap (λ (u : List ℕ). put_at (at + 1) u (set row at 32)) (e ∙ is))
+    ((omega arith, omega arith), k ∙ ap (λ (u : List ℕ). put_at at (32 ∷ u) row) (e ∙ is))
 
 pub words-next : (ns : List ℕ) (i : ℕ) → i < length ns → words (drop i ns) ≡ word (pos (get_or ns i 0)) ++ words (drop (suc i) ns)
 unfolding words
 words-next ns i h = rw (drop-cons ns i 0 h)
-
--- the bytes of a text from the place i on
-module _ (text : List ℕ) (i at stop : ℕ) (row whole : List ℕ) (p : Putting (drop i text) at row whole stop) where
-  pub byte-room : i < length text → at < stop
-  byte-room h =
-      let l = length-drop i text in
-      omega (arith, p.room)
-
-  pub byte_next : i < length text → Putting (drop (i + 1) text) (at + 1) (set row at (get_or text i 0)) whole stop
-  byte_next h = rw (add-one i) (putting_byte p (get_or text i 0) (drop (suc i) text) (drop-cons text i 0 h))
-
-  pub byte_last : length text ≤ i → (at ≡ stop) × (row ≡ whole)
-  byte_last h = putting_done p (drop_of_length-le text h)
 
 -- the numbers of a row from the i-th on
 module _ (ns : List ℕ) (i at stop : ℕ) (row whole : List ℕ) (p : Putting (words (drop i ns)) at row whole stop) where

@@ -1,12 +1,12 @@
 -- When counts are sound, and a chunk that was written.
 use Prim.Native.Nat.{ℕ, ◌+◌, ◌*◌, ◌≤◌, ◌<◌}
 use mathlib.Core.Path.{◌≡◌, sym, ap, ◌∙◌, subst}
-use mathlib.Core.Bool.{true, false}
+use mathlib.Core.Bool.{true}
 use mathlib.Core.List.{List, ◌++◌, append-nil}
 use native.Mathlib.Omega.{arith}
 use lib.Dec.{leb}
 use lib.ListN.{length, length-append}
-use borrow.Author.Tests.{leb-true, le-leb, lt-leb}
+use borrow.Author.Tests.{leb-true, le-leb}
 use Rattle.bytewise.proofs.Booleans.{and_both}
 use Rattle.print.specs.declared.state.Counts.{Counts}
 use Rattle.cut.specs.declared.service.Syntax.{Syntax}
@@ -45,20 +45,6 @@ wrote d left row row' text n next put count fits some parts s =
       rest = put-kept text row row' n put count fits;
       sound = s;
     }
-
--- the tests one after the other
-module _ (c : Counts) where
-  pub many_messages : c.at < c.messages → false ≡ sound c
-  unfolding sound
-  many_messages h = rw (lt-leb _ _ h)
-
-  pub many_accepted : c.messages ≤ c.at → c.at < c.accepted → false ≡ sound c
-  unfolding sound
-  many_accepted h k = rw (le-leb _ _ h, lt-leb _ _ k)
-
-  pub few-before : c.messages ≤ c.at → c.accepted ≤ c.at → leb c.outside c.at ≡ sound c
-  unfolding sound
-  few-before h k = rw (le-leb _ _ h, le-leb _ _ k)
 
 -- said of what is the same
 pub wrote_same

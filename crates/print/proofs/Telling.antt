@@ -2,6 +2,7 @@
 use Prim.Native.Nat.{ℕ, ◌+◌, ◌-◌, ◌≤◌, ◌<◌}
 use mathlib.Core.Path.{◌≡◌, refl, sym, ap, ◌∙◌}
 use mathlib.Core.Bool.{true, false, cond}
+use Rattle.std.specs.Prelude.{Option, Some, None, is_some}
 use mathlib.Core.List.{List, [], ◌∷◌, ◌++◌, append_assoc, append-nil}
 use native.Mathlib.Decide.{dec_lt}
 use native.Mathlib.Nat.{zero-add}
@@ -15,7 +16,7 @@ use Rattle.bytewise.specs.Bytes.{part}
 use Rattle.bytewise.proofs.Parts.{part_none, part-part, length_part}
 use Rattle.plain.specs.Plain.{plain, decoded}
 use Rattle.price.specs.declared.cursor.Cursor.{Cursor}
-use Rattle.price.specs.declared.cursor.Next.TheVariants as next
+use Rattle.price.specs.declared.cursor.Price.{Price}
 use Rattle.price.specs.Cursors.{next_price, told_from}
 use Rattle.price.proofs.Face.{Gives, next_gives, next-none}
 use Rattle.print.specs.declared.rows.Copied.{Copied}
@@ -24,7 +25,7 @@ use Rattle.print.specs.declared.state.Rest.{Rest}
 use Rattle.print.specs.declared.state.Stage.TheVariants as stage
 use Rattle.print.specs.Report.{article_text, behind, price_line, price_lines}
 use Rattle.print.specs.Printing.{left_from, left_among, left_within, left_in, left_to, sound, least, Wrote}
-use Rattle.print.specs.workers.Rows.{put_at, opened, Poured}
+use Rattle.print.specs.workers.Rows.{put_at, opened, decoded_from, Poured}
 use Rattle.print.proofs.Putting.{put-append, opened_some, behind-some}
 use Rattle.print.proofs.Sounds.{wrote}
 
@@ -59,32 +60,33 @@ module _ (y : Syntax) (d : List ℕ) (end a e : ℕ) (within : a < e → e ≤ l
 
 -- no price is left
 pub among_none
-    : (y : Syntax) (d : List ℕ) (c : Counts) (cursor : Cursor) → next_price y (part 0 c.at d) cursor ≡ next.Nothing → left_from y d c ≡ left_among y d c cursor
+    : (y : Syntax) (d : List ℕ) (c : Counts) (cursor : Cursor) → next_price y (part 0 c.at d) cursor ≡ None → left_from y d c ≡ left_among y d c cursor
 unfolding left_among price_lines
 among_none y d c cursor h = rw (next-none y (part 0 c.at d) cursor h)
 
 module _ (y : Syntax) (d : List ℕ) (c : Counts) (s : sound c ≡ true) (row : List ℕ) (room : least ≤ length row) where
   -- a price
-  module _ (cursor : Cursor) (k a e : ℕ) (v w v' w' : ℤ) (after : Cursor) (gives : next_price y (part 0 c.at d) cursor ≡ next.Price k a e v w after)
-      (same-v : v' ≡ v) (same_w : w' ≡ w) where
-    g : Gives y (part 0 c.at d) (told_from y (part 0 c.at d) cursor) k a e v w after
-    g = next_gives y (part 0 c.at d) cursor k a e v w after gives
+  module _ (cursor : Cursor) (p : Price) (after : Cursor) (v w : ℤ) (gives : next_price y (part 0 c.at d) cursor ≡ Some (p, after))
+      (same-v : v ≡ p.amount) (same_w : w ≡ p.decimals) where
+    g : Gives y (part 0 c.at d) (told_from y (part 0 c.at d) cursor) p after
+    g = next_gives y (part 0 c.at d) cursor p after gives
 
     abbrev rest : Rest
-    rest = record { from = a; to = e; amount = v'; decimals = w' }
+    rest = record { from = p.start; to = p.end; amount = v; decimals = w }
 
-    among-parts : left_among y d c cursor ≡ opened k a e ++ left_within y d c after rest
+    among-parts : left_among y d c cursor ≡ opened p.position p.start p.end ++ left_within y d c after rest
     unfolding left_among left_within price_lines price_line opened
-    among-parts = rw (g.list, shown y d c.at a e g.within, same-v, same_w) (simp append_assoc refl)
+    among-parts = rw (g.list, shown y d c.at p.start p.end g.within, same-v, same_w) (simp append_assoc refl)
 
     pub among_wrote
-        : (n : ℕ) (row' : List ℕ) → (n ≡ length (opened k a e)) × (n ≤ 24) → row' ≡ put_at 0 (opened k a e) row
+        : (n : ℕ) (row' : List ℕ) → (n ≡ length (opened p.position p.start p.end)) × (n ≤ 24) → row' ≡ put_at 0 (opened p.position p.start p.end) row
         → Wrote d (left_among y d c cursor) row row'
         (record { length = n; next = record { syntax = y; counts = c; stage = stage.Article after rest } })
     unfolding left_to left_in
     among_wrote n row' count put =
         let n' = count.0 in
-        wrote d (left_among y d c cursor) row row' (opened k a e) n _ put count.0 (omega (arith, count.1)) (opened_some k a e) among-parts s
+        wrote d (left_among y d c cursor) row row' (opened p.position p.start p.end) n _ put count.0 (omega (arith, count.1))
+        (opened_some p.position p.start p.end) among-parts s
 
   -- within an article
   module _ (cursor : Cursor) (r : Rest) (row₁ : List ℕ) (p : Copied) (poured : Poured y d r.from r.to (length row - 64) row row₁ p) (v w : ℤ)
@@ -92,12 +94,14 @@ module _ (y : Syntax) (d : List ℕ) (c : Counts) (s : sound c ≡ true) (row : 
     abbrev text : List ℕ
     text = poured.text
 
-    whole_parts : p.whole ≡ true → left_within y d c cursor r ≡ (text ++ behind v w) ++ left_among y d c cursor
+    whole_parts : p.left ≡ None → left_within y d c cursor r ≡ (text ++ behind v w) ++ left_among y d c cursor
     unfolding left_within
-    whole_parts h = rw (poured.parts, poured.all h, append-nil text, same-v, same_w)
+    whole_parts h =
+        let parts = poured.parts ∙ ap (λ (o : Option ℕ). text ++ decoded_from y d o r.to) h in
+        rw (parts, append-nil text, same-v, same_w)
 
     pub whole_wrote
-        : (n : ℕ) (row₂ : List ℕ) → p.whole ≡ true → (n ≡ p.length + length (behind v w)) × (n ≤ p.length + 43)
+        : (n : ℕ) (row₂ : List ℕ) → p.left ≡ None → (n ≡ p.length + length (behind v w)) × (n ≤ p.length + 43)
         → row₂ ≡ put_at p.length (behind v w) row₁
         → Wrote d (left_within y d c cursor r) row row₂ (record { length = n; next = record { syntax = y; counts = c; stage = stage.Prices cursor } })
     unfolding left_to left_in
@@ -109,19 +113,21 @@ module _ (y : Syntax) (d : List ℕ) (c : Counts) (s : sound c ≡ true) (row : 
         wrote d (left_within y d c cursor r) row row₂ (text ++ behind v w) n _ placed (omega (arith, count.0, poured.count))
         (omega (arith, count.0, count.1, poured.count, poured.room)) (omega (arith, behind-some v w)) (whole_parts h) s
 
-    abbrev left : Rest
-    left = record { from = p.from; to = r.to; amount = v; decimals = w }
+    module _ (from : ℕ) (more : p.left ≡ Some from) where
+      abbrev left : Rest
+      left = record { from = from; to = r.to; amount = v; decimals = w }
 
-    part-parts : left_within y d c cursor r ≡ text ++ left_within y d c cursor left
-    unfolding left_within
-    part-parts = rw (poured.parts, same-v, same_w) (simp append_assoc refl)
+      part-parts : left_within y d c cursor r ≡ text ++ left_within y d c cursor left
+      unfolding left_within
+      part-parts =
+          let parts = poured.parts ∙ ap (λ (o : Option ℕ). text ++ decoded_from y d o r.to) more in
+          rw (parts, same-v, same_w) (simp append_assoc refl)
 
-    pub part_wrote
-        : p.whole ≡ false
-        → Wrote d (left_within y d c cursor r) row row₁
-        (record { length = p.length; next = record { syntax = y; counts = c; stage = stage.Article cursor left } })
-    unfolding left_to left_in
-    part_wrote h =
-        let f = poured.full h in
-        wrote d (left_within y d c cursor r) row row₁ text p.length _ poured.put poured.count (omega (arith, f, poured.count))
-        (omega (arith, f, poured.count)) part-parts s
+      pub part_wrote
+          : Wrote d (left_within y d c cursor r) row row₁
+          (record { length = p.length; next = record { syntax = y; counts = c; stage = stage.Article cursor left } })
+      unfolding left_to left_in
+      part_wrote =
+          let f = poured.full (ap is_some more) in
+          wrote d (left_within y d c cursor r) row row₁ text p.length _ poured.put poured.count (omega (arith, f, poured.count))
+          (omega (arith, f, poured.count)) part-parts s

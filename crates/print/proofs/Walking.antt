@@ -11,9 +11,8 @@ use Rattle.bytewise.specs.Bytes.{part}
 use Rattle.cut.specs.Segments as cut
 use Rattle.cut.specs.Segments.{Segment, segments_at, past_at, last_end}
 use Rattle.cut.proofs.Ahead.{first-ahead}
-use Rattle.envelope.specs.Envelope.{envelope_of, envelope_numbers}
-use Rattle.envelope.specs.declared.judging.Enveloped.{Enveloped}
-use Rattle.envelope.specs.declared.judging.Enveloped.TheVariants as envelope
+use Rattle.envelope.specs.Envelope.{Enveloped, Complete, Refused as Incomplete, envelope_of, envelope_numbers}
+use Rattle.std.specs.Prelude.{Some, None, Result, Ok, Err}
 use Rattle.messages.specs.declared.outer.Outer.TheVariants as outer
 use Rattle.messages.specs.Messages.{Message, start_of, close_of, messages_in}
 use Rattle.messages.specs.Held.{held, head_outer}
@@ -21,11 +20,12 @@ use Rattle.messages.specs.workers.Walks.{left_over}
 use Rattle.messages.proofs.Holding.{held_alone}
 use Rattle.messages.proofs.Passing.{Begun, begun, left, none_left}
 use Rattle.guide.specs.Answers.{accepts, refuses, Verdict as Judged}
-use Rattle.verdict.specs.Answers.{declared, judged_as, numbers_of}
+use Rattle.guide.specs.Reasons.{number_of_reason}
+use Rattle.verdict.specs.Answers.{told, judged_as, numbers_of}
 use Rattle.verdict.specs.Verdicts.{verdict_named}
 use Rattle.verdict.specs.declared.answers.Judged.{Judged as JudgedAt}
-use Rattle.verdict.specs.declared.answers.Verdict.{Verdict}
-use Rattle.verdict.specs.declared.answers.Verdict.TheVariants as verdict
+use Rattle.verdict.specs.declared.answers.Accepted.{Accepted}
+use Rattle.verdict.specs.declared.answers.Refused.{Refused}
 use Rattle.price.specs.Listing.{prices_of}
 use Rattle.price.specs.Calls.{prices_in}
 use Rattle.price.specs.Cursors.{told_of, told_from, first_cursor}
@@ -49,24 +49,25 @@ pub last-same
 last-same y d m m' a a' o o' e f g = λ i. last_lines y d (e i) (f i) (g i)
 
 -- the line of a message by its verdict
-module _ (v : Verdict) (k s r : ℕ) (row row' : List ℕ) where
+module _ (v : Result Accepted Refused) (k s r : ℕ) (row row' : List ℕ) where
   abbrev Line : List ℕ → Type 0
   Line ns = ((r ≡ length (line_with 77 ns 10)) × (r ≤ length ns * 21 + 2)) × (row' ≡ put_at 0 (line_with 77 ns 10) row)
 
   abbrev Told : Type 0
-  Told = ((r ≡ length (line_of 77 (k ∷ s ∷ numbers_of v))) × (r ≤ least)) × (row' ≡ put_at 0 (line_of 77 (k ∷ s ∷ numbers_of v)) row)
+  Told = ((r ≡ length (line_of 77 (k ∷ s ∷ numbers_of (told v)))) × (r ≤ least)) × (row' ≡ put_at 0 (line_of 77 (k ∷ s ∷ numbers_of (told v))) row)
 
-  pub accepted-line : (n e : ℕ) → v ≡ verdict.Accepted n e → Line (k ∷ s ∷ 0 ∷ n ∷ e ∷ 0 ∷ []) → Told
+  pub accepted-line : (a : Accepted) → v ≡ Ok a → Line (k ∷ s ∷ 0 ∷ a.segments ∷ a.end ∷ 0 ∷ []) → Told
   unfolding numbers_of
-  accepted-line n e h l =
-      let w = line-is 77 (k ∷ s ∷ 0 ∷ n ∷ e ∷ 0 ∷ []) in
+  accepted-line a h l =
+      let w = line-is 77 (k ∷ s ∷ 0 ∷ a.segments ∷ a.end ∷ 0 ∷ []) in
       rw h ((l.0.0 ∙ ap length w, l.0.1), l.1 ∙ ap (λ (t : List ℕ). put_at 0 t row) w)
 
-  pub refused_line : (x i p n : ℕ) → v ≡ verdict.Refused x i p n → Line (k ∷ s ∷ x ∷ i ∷ p ∷ n ∷ []) → Told
+  pub refused_line
+      : (x : Refused) → v ≡ Err x → (q : ℕ) → q ≡ number_of_reason x.reason → Line (k ∷ s ∷ q ∷ x.segment ∷ x.place ∷ x.node ∷ []) → Told
   unfolding numbers_of
-  refused_line x i p n h l =
-      let w = line-is 77 (k ∷ s ∷ x ∷ i ∷ p ∷ n ∷ []) in
-      rw h ((l.0.0 ∙ ap length w, l.0.1), l.1 ∙ ap (λ (t : List ℕ). put_at 0 t row) w)
+  refused_line x h q e l =
+      let w = line-is 77 (k ∷ s ∷ q ∷ x.segment ∷ x.place ∷ x.node ∷ []) in
+      rw (h, ← e) ((l.0.0 ∙ ap length w, l.0.1), l.1 ∙ ap (λ (t : List ℕ). put_at 0 t row) w)
 
 -- the line of the envelope by its answer
 module _ (x : Enveloped) (r : ℕ) (row row' : List ℕ) where
@@ -81,13 +82,13 @@ module _ (x : Enveloped) (r : ℕ) (row row' : List ℕ) where
       rw h ((l.0.0 ∙ ap length w, l.0.1), l.1 ∙ ap (λ (t : List ℕ). put_at 0 t row) w)
 
   pub complete-line
-      : x ≡ envelope.Complete → Judges (0 ∷ 0 ∷ [])
+      : x ≡ Complete → Judges (0 ∷ 0 ∷ [])
       → ((r ≡ length (line_of 86 (envelope_numbers x))) × (r ≤ 44)) × (row' ≡ put_at 0 (line_of 86 (envelope_numbers x)) row)
   unfolding envelope_numbers
   complete-line h l = by-numbers 0 0 (rw h) l
 
   pub broken-line
-      : (n p : ℕ) → x ≡ envelope.Refused n p → Judges (n ∷ p ∷ [])
+      : (n p : ℕ) → x ≡ Incomplete n p → Judges (n ∷ p ∷ [])
       → ((r ≡ length (line_of 86 (envelope_numbers x))) × (r ≤ 44)) × (row' ≡ put_at 0 (line_of 86 (envelope_numbers x)) row)
   unfolding envelope_numbers
   broken-line n p h l = by-numbers n p (rw h) l
@@ -118,7 +119,7 @@ module _ (y : Syntax) (d : List ℕ) (c : Counts) where
   here = from c.at
 
   -- no segment is left
-  module _ (h : head_outer here ≡ outer.Nothing) where
+  module _ (h : head_outer here ≡ None) where
     pub none-left-over : last_lines y d c.messages c.accepted c.outside ≡ left_from y d c
     unfolding left_from lines_of lines_from messages_in accepted left_over
     none-left-over =
@@ -126,7 +127,7 @@ module _ (y : Syntax) (d : List ℕ) (c : Counts) where
         rw n (last-same y d _ _ _ _ _ _ (sym (add-zero _)) (sym (add-zero _)) (sym (add-zero _)))
 
   -- a segment outside
-  module _ (e : ℕ) (h : head_outer here ≡ outer.Segment e) where
+  module _ (e : ℕ) (h : head_outer here ≡ Some (outer.Segment e)) where
     abbrev pub past : Counts
     past = record { at = e; messages = c.messages; accepted = c.accepted; outside = c.outside + 1 }
 
@@ -159,7 +160,7 @@ module _ (y : Syntax) (d : List ℕ) (c : Counts) where
         })
 
   -- a message
-  module _ (h : head_outer here ≡ outer.Message) where
+  module _ (h : head_outer here ≡ Some outer.Message) where
     abbrev b : Begun y d c.at
     b = begun y d c.at h
 
@@ -189,16 +190,16 @@ module _ (y : Syntax) (d : List ℕ) (c : Counts) where
             let w = held_alone y d (start_of m) in
             rw takes at w
 
-    told : told_from y (part 0 end d) (first_cursor (start_of m)) ≡ map (told_of y) (listed y m)
+    told-prices : told_from y (part 0 end d) (first_cursor (start_of m)) ≡ map (told_of y) (listed y m)
     unfolding prices_in
-    told =
+    told-prices =
         told_message y d (start_of m) end b.fits
         ∙ ap (λ (e : ℕ). map (told_of y) (prices_in y d (start_of m) e)) closes
         ∙ ap (λ (ss : List Segment). map (told_of y) (prices_of (start_of m) ss)) alone
 
     -- the line of the message, and what is left behind it
     abbrev after : Judged → Counts
-    after v = counted_after c (declared v) end
+    after v = counted_after c v end
 
     abbrev later : List ℕ
     later = lines_from y (c.messages + 1 + 1) (messages_in (from end))
@@ -219,14 +220,14 @@ module _ (y : Syntax) (d : List ℕ) (c : Counts) where
     stage_left
         : (v : Judged) → judged y m ≡ v
         → message_lines y (c.messages + 1) m ++ left_from y d (after v)
-        ≡ line_of 77 ((c.messages + 1) ∷ start_of m ∷ numbers_of (declared v)) ++ left_in y d (after v) (stage_after (declared v) (start_of m))
+        ≡ line_of 77 ((c.messages + 1) ∷ start_of m ∷ numbers_of v) ++ left_in y d (after v) (stage_after v (start_of m))
     unfolding message_lines left_in left_among
     stage_left (accepts n e) j =
-        rw (j, told)
-        (append_assoc (line_of 77 ((c.messages + 1) ∷ start_of m ∷ numbers_of (declared (accepts n e)))) (price_lines y (map (told_of y) (listed y m)))
+        rw (j, told-prices)
+        (append_assoc (line_of 77 ((c.messages + 1) ∷ start_of m ∷ numbers_of (accepts n e))) (price_lines y (map (told_of y) (listed y m)))
         (left_from y d (after (accepts n e))))
     stage_left (refuses k i p n) j =
-        rw j (append_assoc (line_of 77 ((c.messages + 1) ∷ start_of m ∷ numbers_of (declared (refuses k i p n)))) [] (left_from y d (after (refuses k i p n))))
+        rw j (append_assoc (line_of 77 ((c.messages + 1) ∷ start_of m ∷ numbers_of (refuses k i p n))) [] (left_from y d (after (refuses k i p n))))
 
     first-left : left_from y d c ≡ message_lines y (c.messages + 1) m ++ left_from y d (after (judged y m))
     unfolding left_from lines_of lines_from accepted
@@ -235,8 +236,8 @@ module _ (y : Syntax) (d : List ℕ) (c : Counts) where
         (append_assoc (message_lines y (c.messages + 1) m) later last ∙ ap (λ (t : List ℕ). message_lines y (c.messages + 1) m ++ t) rest-left)
 
     module _ (s : ℕ) (starts : s ≡ past_at y d c.at) (j : JudgedAt)
-        (judges : j ≡ judged_as (declared (verdict_named y c.at (held here))) (last_end c.at (held here))) where
-      v_same : j.verdict ≡ declared (judged y m)
+        (judges : judged_as j ≡ (verdict_named y c.at (held here), last_end c.at (held here))) where
+      v_same : told j.verdict ≡ judged y m
       v_same = same-verdict y d c.at h j judges
 
       e_same : j.end ≡ end
@@ -244,16 +245,17 @@ module _ (y : Syntax) (d : List ℕ) (c : Counts) where
 
       pub message-left
           : left_from y d c
-          ≡ line_of 77 ((c.messages + 1) ∷ s ∷ numbers_of j.verdict) ++ left_in y d (counted_after c j.verdict j.end) (stage_after j.verdict s)
+          ≡ line_of 77 ((c.messages + 1) ∷ s ∷ numbers_of (told j.verdict)) ++ left_in y d (counted_after c (told j.verdict) j.end) (stage_after
+          (told j.verdict) s)
       message-left = rw (starts ∙ sym b.starts, v_same, e_same) (first-left ∙ stage_left (judged y m) refl)
 
-      pub message-sound : sound c ≡ true → sound (counted_after c j.verdict j.end) ≡ true
+      pub message-sound : sound c ≡ true → sound (counted_after c (told j.verdict) j.end) ≡ true
       message-sound t =
           let f = sound-few c t in
           let e = e_same in
           let l = b.some in
-          let o : one_if j.verdict ≤ 1 = rw v_same (one-few (judged y m)) in
-          few-sound (counted_after c j.verdict j.end)
+          let o : one_if (told j.verdict) ≤ 1 = rw v_same (one-few (judged y m)) in
+          few-sound (counted_after c (told j.verdict) j.end)
           (record {
             messages = omega (arith, f.messages, l, e);
             accepted = omega (arith, f.accepted, l, e, o);
@@ -261,10 +263,10 @@ module _ (y : Syntax) (d : List ℕ) (c : Counts) where
           })
 
       -- its line is written, and its prices or what follows it come next
-      module _ (row row' : List ℕ) (cs : Counts) (st : Stage) (n : ℕ) (counts : cs ≡ counted_after c j.verdict j.end)
-          (stages : st ≡ stage_after j.verdict s) where
+      module _ (row row' : List ℕ) (cs : Counts) (st : Stage) (n : ℕ) (counts : cs ≡ counted_after c (told j.verdict) j.end)
+          (stages : st ≡ stage_after (told j.verdict) s) where
         abbrev pub line : List ℕ
-        line = line_of 77 (cs.messages ∷ s ∷ numbers_of j.verdict)
+        line = line_of 77 (cs.messages ∷ s ∷ numbers_of (told j.verdict))
 
         pub message_wrote
             : (n ≡ length line) × (n ≤ least) → row' ≡ put_at 0 line row → sound c ≡ true → least ≤ length row
@@ -272,8 +274,8 @@ module _ (y : Syntax) (d : List ℕ) (c : Counts) where
         unfolding left_to
         message_wrote k put t room =
             let k' = k.0 in
-            wrote d (left_from y d c) row row' line n _ put k.0 (omega (arith, k.1)) (line-some 77 (cs.messages ∷ s ∷ numbers_of j.verdict))
-            (message-left ∙ λ i. line_of 77 ((sym counts i).messages ∷ s ∷ numbers_of j.verdict) ++ left_in y d (sym counts i) (sym stages i))
+            wrote d (left_from y d c) row row' line n _ put k.0 (omega (arith, k.1)) (line-some 77 (cs.messages ∷ s ∷ numbers_of (told j.verdict)))
+            (message-left ∙ λ i. line_of 77 ((sym counts i).messages ∷ s ∷ numbers_of (told j.verdict)) ++ left_in y d (sym counts i) (sym stages i))
             (rw counts (message-sound t))
 
     pub message-few : sound c ≡ true → length d < 2 ^ 63 → (c.messages < 2 ^ 63) × (c.accepted < 2 ^ 63)

@@ -1,7 +1,8 @@
 -- The printer: what it has still to print, in any state, and what a step does.
-use Rattle.std.specs.Prelude.{ℕ, ◌+◌, ◌≤◌, ◌<◌, ◌≡◌, Bool, true, false, ◌&&◌, List, [], ◌∷◌, ◌++◌, leb, length, take, drop}
+use Rattle.std.specs.Prelude.{ℕ, ◌+◌, ◌≤◌, ◌<◌, ◌≡◌, Bool, true, false, ◌&&◌, List, [], ◌∷◌, ◌++◌, leb, length, take, drop, Option, Some, None, Result, Ok, Err}
 use Rattle.bytewise.specs.Bytes.{part}
 use Rattle.cut.specs.declared.service.Syntax.{Syntax}
+use Rattle.cut.specs.Admission.{number_of}
 use Rattle.cut.specs.Segments.{Segment, segments_at}
 use Rattle.plain.specs.Plain.{decoded}
 use Rattle.messages.specs.Messages.{messages_in}
@@ -15,8 +16,8 @@ use Rattle.print.specs.declared.state.Stage.{Stage}
 use Rattle.print.specs.declared.state.Stage.TheVariants.{Refused, Between, Prices, Article, Ended}
 use Rattle.print.specs.declared.state.Printer.{Printer}
 use Rattle.print.specs.declared.state.Chunk.{Chunk}
-use Rattle.print.specs.declared.state.Printed.{Printed}
-use Rattle.print.specs.declared.state.Printed.TheVariants as printed
+use Rattle.print.specs.declared.state.Unprinted.{Unprinted}
+use Rattle.print.specs.declared.state.Unprinted.TheVariants.{Short, Foreign}
 use Rattle.print.specs.Report.{behind, line_of, price_lines, lines_from, envelope_line}
 
 module _ (y : Syntax) (d : List ℕ) where
@@ -44,7 +45,7 @@ module _ (y : Syntax) (d : List ℕ) where
   left_within c cursor r = (decoded y r.from r.to d ++ behind r.amount r.decimals) ++ left_among c cursor
 
   unfoldable pub left_in : Counts → Stage → List ℕ
-  left_in c (Refused n) = line_of 88 (n ∷ [])
+  left_in c (Refused e) = line_of 88 (number_of e ∷ [])
   left_in c Between = left_from c
   left_in c (Prices cursor) = left_among c cursor
   left_in c (Article cursor r) = left_within c cursor r
@@ -71,15 +72,15 @@ pub record Wrote (d left row row' : List ℕ) (r : Chunk) : Type 0 where
   pub sound : sound r.next.counts ≡ true
 
 -- step: the row before and after; where no chunk is written, the row is as it was
-unfoldable pub Stepped : List ℕ → Printer → List ℕ → List ℕ → Printed → Type 0
-Stepped d p row row' (printed.Written r) = Wrote d (left_to d p) row row' r
-Stepped d p row row' printed.Ended = (left_to d p ≡ []) × (row' ≡ row)
-Stepped d p row row' printed.Short = (length row < least) × (row' ≡ row)
-Stepped d p row row' printed.Foreign = (sound p.counts ≡ false) × (row' ≡ row)
+unfoldable pub Stepped : List ℕ → Printer → List ℕ → List ℕ → Result (Option Chunk) Unprinted → Type 0
+Stepped d p row row' (Ok (Some r)) = Wrote d (left_to d p) row row' r
+Stepped d p row row' (Ok None) = (left_to d p ≡ []) × (row' ≡ row)
+Stepped d p row row' (Err Short) = (length row < least) × (row' ≡ row)
+Stepped d p row row' (Err Foreign) = (sound p.counts ≡ false) × (row' ≡ row)
 
 -- the chunks of steps one after the other, each in any buffer, up to the end: their bytes joined
 pub data Run (d : List ℕ) : Printer → List ℕ → Type 0 where
-  ends : (p : Printer) (row row' : List ℕ) → Stepped d p row row' printed.Ended → Run d p []
+  ends : (p : Printer) (row row' : List ℕ) → Stepped d p row row' (Ok None) → Run d p []
   goes :
-      (p : Printer) (row row' : List ℕ) (r : Chunk) (t : List ℕ) → Stepped d p row row' (printed.Written r) → Run d r.next t
+      (p : Printer) (row row' : List ℕ) (r : Chunk) (t : List ℕ) → Stepped d p row row' (Ok (Some r)) → Run d r.next t
       → Run d p (take r.length row' ++ t)

@@ -1,16 +1,15 @@
 -- What the checking program prints of a delivery: the bytes of all its lines, from what the calls answer. Document 01, 'What is handed out'.
-use Rattle.std.specs.Prelude.{ℕ, ◌+◌, false, List, [], ◌∷◌, ◌++◌, map, ℤ, pos}
+use Rattle.std.specs.Prelude.{ℕ, ◌+◌, false, List, [], ◌∷◌, ◌++◌, map, ℤ, pos, Result, Ok, Err}
 use Rattle.cut.specs.declared.service.Syntax.{Syntax}
 use Rattle.plain.specs.Plain.{plain}
 use Rattle.value.specs.Text.{text_of}
 use Rattle.envelope.specs.Envelope.{envelope_of, envelope_numbers}
 use Rattle.messages.specs.Messages.{Message, start_of, messages}
 use Rattle.guide.specs.Answers.{Verdict, accepts, refuses}
-use Rattle.verdict.specs.Answers.{declared, numbers_of}
+use Rattle.verdict.specs.Answers.{numbers_of}
 use Rattle.price.specs.Cursors.{Told, told_of}
 use Rattle.schaumtruhe.specs.declared.reading.Reading.{Reading}
-use Rattle.schaumtruhe.specs.declared.surveys.Surveyed.{Surveyed}
-use Rattle.schaumtruhe.specs.declared.surveys.Surveyed.TheVariants.{Counted, Refused}
+use Rattle.schaumtruhe.specs.declared.surveys.Survey.{Survey}
 use Rattle.schaumtruhe.specs.Readings.{used_in}
 use Rattle.schaumtruhe.specs.Calls.{judged, listed, survey_of}
 
@@ -54,7 +53,7 @@ if_accepted (refuses k i p n) lines = []
 -- "per message `M number start verdict segment place node` .. and then per price" a line
 unfoldable pub message_lines : Syntax → ℕ → Message → List ℕ
 message_lines y n m =
-    line_of 77 (n ∷ start_of m ∷ numbers_of (declared (judged y m))) ++ if_accepted (judged y m) (price_lines y (map (told_of y) (listed y m)))
+    line_of 77 (n ∷ start_of m ∷ numbers_of (judged y m)) ++ if_accepted (judged y m) (price_lines y (map (told_of y) (listed y m)))
 
 -- the lines of messages, of which the first has the number n
 unfoldable pub lines_from : Syntax → ℕ → List Message → List ℕ
@@ -66,9 +65,9 @@ unfoldable pub envelope_line : Syntax → List ℕ → List ℕ
 envelope_line y d = line_of 86 (envelope_numbers (envelope_of y d))
 
 -- "Last `E messages accepted outside`", with survey's counts; a delivery that is refused as a whole has `X` and the number alone
-abbrev pub report_by : Syntax → List ℕ → Surveyed → List ℕ
-report_by y d (Counted m a o) = lines_from y 1 (messages y d) ++ (envelope_line y d ++ line_of 69 (m ∷ a ∷ o ∷ []))
-report_by y d (Refused n) = line_of 88 (n ∷ [])
+abbrev pub report_by : Syntax → List ℕ → Result Survey ℕ → List ℕ
+report_by y d (Ok s) = lines_from y 1 (messages y d) ++ (envelope_line y d ++ line_of 69 (s.messages ∷ s.accepted ∷ s.outside ∷ []))
+report_by y d (Err n) = line_of 88 (n ∷ [])
 
 -- all that is printed
 unfoldable pub report_of : Reading → List ℕ → List ℕ

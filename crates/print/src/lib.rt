@@ -7,5 +7,5 @@ mod rows;
 mod state;
 mod steps;
 
-pub use state::{Chunk, Counts, Printed, Printer, Rest, Stage};
+pub use state::{Chunk, Counts, Printer, Rest, Stage, Unprinted};
 pub use steps::{printer, step};

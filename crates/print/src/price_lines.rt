@@ -5,9 +5,9 @@ ghost use Rattle.print.specs.workers.Rows.{put_at, opened};
 
 use crate::message_lines::between;
 use crate::rows::{put_behind, put_line, put_plain};
-use crate::state::{Chunk, Counts, Printer, Rest, Stage};
-use cut::Syntax;
-use price::{Cursor, Next, next_price};
+use crate::state::{Chunk, Counts, Rest, Stage};
+use cut::Delivery;
+use price::{Cursor, next_price};
 
 // P, the position, and `-` for an article that is absent.
 fn opening(position: usize, from: usize, to: usize, out: &mut [u8]) -> usize
@@ -25,78 +25,43 @@ fn opening(position: usize, from: usize, to: usize, out: &mut [u8]) -> usize
 }
 
 // The next price from the cursor on, up to its article; behind the last one, what comes behind the message.
-pub(crate) fn among(y: Syntax, d: &[u8], c: Counts, cursor: Cursor, out: &mut [u8]) -> Chunk
+pub(crate) fn among(d: Delivery<'_>, c: Counts, cursor: Cursor, out: &mut [u8]) -> Chunk
     requires { (least ≤ length out.old) × (sound c ≡ true) }
-    ensures { Wrote d.now (left_among y d.now c cursor) out.old out.new result }
+    ensures { Wrote d.entry.bytes.now (left_among d.entry.syntax d.entry.bytes.now c cursor) out.old out.new result }
 {
-    let p = next_price(y, d, c.at, cursor);
-    let Next::Price {
-        position,
-        start,
-        end,
-        amount,
-        decimals,
-        next,
-    } = p
-    else {
-        return between(y, d, c, out);
+    let Some((p, next)) = next_price(d, c.at, cursor) else {
+        return between(d, c, out);
     };
-    let n = opening(position, start, end, out);
+    let n = opening(p.position, p.start, p.end, out);
     let rest = Rest {
-        from: start,
-        to: end,
-        amount,
-        decimals,
+        from: p.start,
+        to: p.end,
+        amount: p.amount,
+        decimals: p.decimals,
     };
-    let stage = Stage::Article { cursor: next, rest };
-    Chunk {
-        length: n,
-        next: Printer {
-            syntax: y,
-            counts: c,
-            stage,
-        },
-    }
+    Chunk::new(n, d.syntax, c, Stage::Article { cursor: next, rest })
 }
 
 // The rest of an article, as much as the buffer takes; where that is all, the rest of its line too.
 pub(crate) fn within(
-    y: Syntax,
-    d: &[u8],
+    d: Delivery<'_>,
     c: Counts,
     cursor: Cursor,
     rest: Rest,
     out: &mut [u8],
 ) -> Chunk
     requires { (least ≤ length out.old) × (sound c ≡ true) }
-    ensures { Wrote d.now (left_within y d.now c cursor rest) out.old out.new result }
+    ensures { Wrote d.entry.bytes.now (left_within d.entry.syntax d.entry.bytes.now c cursor rest) out.old out.new result }
 {
-    let p = put_plain(y, d, rest.from, rest.to, out);
-    if p.whole {
-        let n = put_behind(rest.amount, rest.decimals, out, p.length);
-        let stage = Stage::Prices { cursor };
-        return Chunk {
-            length: n,
-            next: Printer {
-                syntax: y,
-                counts: c,
-                stage,
-            },
-        };
-    }
-    let left = Rest {
-        from: p.from,
-        to: rest.to,
-        amount: rest.amount,
-        decimals: rest.decimals,
-    };
-    let stage = Stage::Article { cursor, rest: left };
-    Chunk {
-        length: p.length,
-        next: Printer {
-            syntax: y,
-            counts: c,
-            stage,
-        },
+    let copied = put_plain(d, rest.from, rest.to, out);
+    match copied.left {
+        None => {
+            let n = put_behind(rest.amount, rest.decimals, out, copied.length);
+            Chunk::new(n, d.syntax, c, Stage::Prices { cursor })
+        }
+        Some(from) => {
+            let rest = Rest { from, ..rest };
+            Chunk::new(copied.length, d.syntax, c, Stage::Article { cursor, rest })
+        }
     }
 }

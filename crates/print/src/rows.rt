@@ -1,38 +1,33 @@
 // Bytes, numbers and articles into a lent row.
-ghost use Rattle.std.specs.Prelude.{◌+◌, ◌-◌, ◌*◌, ◌≤◌, ◌≡◌, pos, length, drop};
+ghost use Rattle.std.specs.Prelude.{◌+◌, ◌-◌, ◌*◌, ◌≤◌, ◌≡◌, ◌∷◌, pos, length};
 ghost use Rattle.print.specs.Report.{word, words, behind};
 ghost use Rattle.print.specs.workers.Rows.{put_at, line_with, Poured};
 
 use bytewise::limit_of;
-use cut::Syntax;
+use cut::Delivery;
 use plain::literal;
 use value::{count_text, decimal_text};
 
-// How far a part was copied, to how many bytes, and whether that is all of it.
-#[derive(Clone, Copy)]
-pub struct Copied {
-    pub from: usize,
+// How many bytes of a part were copied, and where what is left of it begins, if anything is.
+#[derive(Clone, Copy, PartialEq, Eq, Debug)]
+pub(crate) struct Copied {
     pub length: usize,
-    pub whole: bool,
+    pub left: Option<usize>,
 }
 
-// The bytes of a text from a on; the place behind them.
-fn put_from(text: &[u8], a: usize, out: &mut [u8], at: usize) -> usize
-    requires { (a ≤ length text.now) × (at + (length text.now - a) ≤ length out.old) }
-    ensures value { result ≡ at + length (drop a text.now) }
-    ensures out_after { out.new ≡ put_at at (drop a text.now) out.old }
+// A text behind a blank; the place behind it.
+fn put_word(text: &[u8], out: &mut [u8], at: usize) -> usize
+    requires { at + 1 + length text.now ≤ length out.old }
+    ensures value { result ≡ at + 1 + length text.now }
+    ensures out_after { out.new ≡ put_at at (32 ∷ text.now) out.old }
 {
-    let mut i = a;
-    let mut place = at;
-    while i < text.len() {
-        out[place] = text[i];
-        i += 1;
-        place += 1;
-    }
-    place
+    let end = at + 1 + text.len();
+    out[at] = b' ';
+    out[at + 1..end].copy_from_slice(text);
+    end
 }
 
-// A number behind a blank.
+// A number.
 fn put_count(n: usize, out: &mut [u8], at: usize) -> usize
     requires { at + 21 ≤ length out.old }
     ensures value { (result ≡ at + length (word (pos n))) × (result ≤ at + 21) }
@@ -40,8 +35,7 @@ fn put_count(n: usize, out: &mut [u8], at: usize) -> usize
 {
     let mut text = [0u8; 20];
     let size = count_text(n as u64, &mut text);
-    out[at] = b' ';
-    put_from(&text, 20 - size, out, at + 1)
+    put_word(&text[20 - size..], out, at)
 }
 
 // The same with a sign.
@@ -52,8 +46,7 @@ fn put_amount(z: i64, out: &mut [u8], at: usize) -> usize
 {
     let mut text = [0u8; 20];
     let size = decimal_text(z, &mut text);
-    out[at] = b' ';
-    put_from(&text, 20 - size, out, at + 1)
+    put_word(&text[20 - size..], out, at)
 }
 
 // All numbers of a row, each behind a blank.
@@ -63,10 +56,8 @@ fn put_words(ns: &[usize], out: &mut [u8], at: usize) -> usize
     ensures out_after { out.new ≡ put_at at (words ns.now) out.old }
 {
     let mut place = at;
-    let mut i = 0;
-    while i < ns.len() {
-        place = put_count(ns[i], out, place);
-        i += 1;
+    for &n in ns {
+        place = put_count(n, out, place);
     }
     place
 }
@@ -105,32 +96,27 @@ pub(crate) fn put_behind(amount: i64, decimals: i64, out: &mut [u8], at: usize) 
 }
 
 // The bytes of a part of the delivery without release marks, as many as go into all but the last 64 places of the row.
-pub(crate) fn put_plain(y: Syntax, d: &[u8], from: usize, to: usize, out: &mut [u8]) -> Copied
+// They are read by their places, since the place to go on from is answered.
+pub(crate) fn put_plain(d: Delivery<'_>, from: usize, to: usize, out: &mut [u8]) -> Copied
     requires { 64 ≤ length out.old }
-    ensures { Poured y d.now from to (length out.old - 64) out.old out.new result }
+    ensures { Poured d.entry.syntax d.entry.bytes.now from to (length out.old - 64) out.old out.new result }
 {
-    let end = limit_of(d, to);
+    let end = limit_of(d.bytes, to);
     let stop = out.len() - 64;
     let mut i = from;
-    let mut n = 0;
-    loop {
-        let at = literal(y, d, i, end);
+    for n in 0..stop {
+        let at = literal(d, i, end);
         if end <= at {
             return Copied {
-                from: i,
                 length: n,
-                whole: true,
+                left: None,
             };
         }
-        if stop <= n {
-            return Copied {
-                from: i,
-                length: n,
-                whole: false,
-            };
-        }
-        out[n] = d[at];
-        n += 1;
+        out[n] = d.bytes[at];
         i = at + 1;
+    }
+    Copied {
+        length: stop,
+        left: Some(i),
     }
 }

@@ -1,9 +1,12 @@
 // The printer's state, a value; and what a step answers.
-use cut::Syntax;
+ghost use Rattle.std.specs.Prelude.{◌≡◌};
+ghost use Rattle.print.specs.Printing.{sound};
+
+use cut::{Inadmissible, Syntax};
 use price::Cursor;
 
-// How far the walk over the delivery has come, and what it has counted.
-#[derive(Clone, Copy)]
+// How far the walk over the delivery has come, and what it has counted. Anyone can make one, so that its soundness is tested and no invariant.
+#[derive(Clone, Copy, PartialEq, Eq, Debug)]
 pub struct Counts {
     pub at: usize,
     pub messages: usize,
@@ -11,8 +14,29 @@ pub struct Counts {
     pub outside: usize,
 }
 
+impl Counts {
+    // Nothing is counted yet.
+    pub(crate) fn starting(at: usize) -> Counts
+        ensures { result ≡ record { at = at; messages = 0; accepted = 0; outside = 0 } }
+    {
+        Counts {
+            at,
+            messages: 0,
+            accepted: 0,
+            outside: 0,
+        }
+    }
+
+    #[tactic(auto, unfolding(crate::specs::Printing::sound))]
+    pub(crate) fn is_sound(self) -> bool
+        ensures { result ≡ sound self }
+    {
+        self.messages <= self.at && self.accepted <= self.at && self.outside <= self.at
+    }
+}
+
 // What is left of an article that is being printed, and the numbers behind it.
-#[derive(Clone, Copy)]
+#[derive(Clone, Copy, PartialEq, Eq, Debug)]
 pub struct Rest {
     pub from: usize,
     pub to: usize,
@@ -24,7 +48,7 @@ pub struct Rest {
 // of an article; nothing.
 #[derive(Clone, Copy)]
 pub enum Stage {
-    Refused { number: u32 },
+    Refused(Inadmissible),
     Between,
     Prices { cursor: Cursor },
     Article { cursor: Cursor, rest: Rest },
@@ -45,11 +69,23 @@ pub struct Chunk {
     pub next: Printer,
 }
 
-// A chunk; all is printed; the buffer is too short; or the printer is none that was made here. Only a chunk writes.
-#[derive(Clone, Copy)]
-pub enum Printed {
-    Written { chunk: Chunk },
-    Ended,
+impl Chunk {
+    // These bytes, and behind them a printer at this stage.
+    pub(crate) fn new(length: usize, syntax: Syntax, counts: Counts, stage: Stage) -> Chunk
+        ensures { result ≡ record { length = length; next = record { syntax = syntax; counts = counts; stage = stage } } }
+    {
+        let next = Printer {
+            syntax,
+            counts,
+            stage,
+        };
+        Chunk { length, next }
+    }
+}
+
+// Why nothing is printed: the buffer is too short; or the printer is none that was made here.
+#[derive(Clone, Copy, PartialEq, Eq, Debug)]
+pub enum Unprinted {
     Short,
     Foreign,
 }

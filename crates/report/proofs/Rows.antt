@@ -10,8 +10,8 @@ use Rattle.messages.specs.Messages.{start_of}
 use Rattle.price.specs.declared.numbers.Numbers.{Numbers}
 use Rattle.price.specs.Rows.{all_numbers, fitting, filled_row}
 use Rattle.price.specs.Calls.{numbers_from, filled_of, row_after}
-use Rattle.schaumtruhe.specs.declared.pricing.Priced.{Priced}
-use Rattle.schaumtruhe.specs.declared.pricing.Priced.TheVariants as priced
+use Rattle.price.specs.declared.filling.Filled.{Filled}
+use Rattle.std.specs.Prelude.{Result, Ok, Err}
 use Rattle.schaumtruhe.specs.Calls.{Sheet, stands, missing, sheet_at, listed, priced_by, row_by, priced_at, row_at}
 
 -- as many prices as fit whole
@@ -33,11 +33,15 @@ filled-length ps row =
     let f = fitting-fits row ps in
     omega arith
 
+abbrev written_in : Result Filled ℕ → ℕ
+written_in (Ok f) = f.written
+written_in (Err n) = 0
+
 module _ (y : Syntax) (k : ℕ) (row : List ℤ) where
-  written-by : (s : Sheet) (w t : ℕ) → priced_by y s k row ≡ priced.Written w t → w * 8 ≤ length row
+  written-by : (s : Sheet) (w t : ℕ) → priced_by y s k row ≡ Ok (record { written = w; total = t }) → w * 8 ≤ length row
   unfolding filled_of
   written-by (stands m) w t h =
-      let e : w ≡ length (fitting row (numbers_from y (start_of m) k (listed y m))) = cc in
+      let e : w ≡ length (fitting row (numbers_from y (start_of m) k (listed y m))) = sym (ap written_in h) in
       omega (arith, e, fitting-fits row (numbers_from y (start_of m) k (listed y m)))
   written-by (missing n) w t h =
       let z : ◌≡◌ {A = ℕ} 0 1 = cc in
@@ -50,8 +54,8 @@ module _ (y : Syntax) (k : ℕ) (row : List ℤ) where
 
   -- r and out are what the call answers and leaves in the row
   pub written_lies
-      : (d : List ℕ) (at : ℕ) (r : Priced) (out : List ℤ) (w t : ℕ) → r ≡ priced_at y d at k row → out ≡ row_at y d at k row
-      → r ≡ priced.Written w t → w * 8 ≤ length out
+      : (d : List ℕ) (at : ℕ) (r : Result Filled ℕ) (out : List ℤ) (w t : ℕ) → r ≡ priced_at y d at k row → out ≡ row_at y d at k row
+      → r ≡ Ok (record { written = w; total = t }) → w * 8 ≤ length out
   unfolding priced_at row_at
   written_lies d at r out w t h e n =
       let f = written-by (sheet_at y d at) w t (sym h ∙ n) in

@@ -1,22 +1,14 @@
 // The article of a price, as it is printed.
-use crate::writing::put;
-use cut::Syntax;
+use cut::Delivery;
+use plain::Literals;
+use std::io;
 
 // The bytes of a part, releases removed, one after the other, so that a part of any length is written whole.
-fn put_plain(rt: &impl Print, y: Syntax, part: &[u8]) -> bool {
-    let mut i = 0;
-    while i < part.len() {
-        let at = plain::literal(y, part, i, part.len());
-        if part.len() <= at {
-            return true;
-        }
-        let e = at + 1;
-        if !put(rt, &part[at..e]) {
-            return false;
-        }
-        i = e;
+fn put_plain(rt: &impl Print, part: Delivery<'_>) -> io::Result<()> {
+    for x in Literals::of(part, 0, part.bytes.len()) {
+        rt.write_all(&[x])?;
     }
-    true
+    Ok(())
 }
 
 // A number of a row as a place or a length; 0 for one below.
@@ -25,27 +17,24 @@ fn whole(n: i64) -> usize {
 }
 
 // The n bytes of a message from a on, behind a blank; `-` for none, and for a part that does not lie within.
-fn put_part(rt: &impl Print, y: Syntax, message: &[u8], a: usize, n: usize) -> bool {
-    if n == 0 {
-        return put(rt, b" -");
+fn put_part(rt: &impl Print, message: Delivery<'_>, a: usize, n: usize) -> io::Result<()> {
+    if n == 0 || message.bytes.len() < a || message.bytes.len() - a < n {
+        return rt.write_all(b" -");
     }
-    if message.len() < a {
-        return put(rt, b" -");
-    }
-    if message.len() - a < n {
-        return put(rt, b" -");
-    }
-    let e = a + n;
-    put(rt, b" ") && put_plain(rt, y, &message[a..e])
+    rt.write_all(b" ")?;
+    let part = Delivery {
+        bytes: &message.bytes[a..a + n],
+        ..message
+    };
+    put_plain(rt, part)
 }
 
 // The article by its place in the message and its length, as a row has them: an absent one has length 0.
 pub(crate) fn put_article(
     rt: &impl Print,
-    y: Syntax,
-    message: &[u8],
+    message: Delivery<'_>,
     place: i64,
     length: i64,
-) -> bool {
-    put_part(rt, y, message, whole(place), whole(length))
+) -> io::Result<()> {
+    put_part(rt, message, whole(place), whole(length))
 }

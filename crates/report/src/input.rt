@@ -2,7 +2,8 @@
 ghost use Rattle.std.specs.Prelude.{◌≤◌, length};
 
 use crate::lines::{delivery_lines, refusal_line};
-use crate::writing::complain;
+use crate::writing::{Missing, complain};
+use cut::Inadmissible;
 use schaumtruhe::Reading;
 use std::io::Read;
 
@@ -41,11 +42,17 @@ pub fn check(rt: &(impl Print + Eprint), how: Reading, input: &mut impl Read) {
         }
     };
     let written = if more > 0 {
-        refusal_line(rt, 1)
+        refusal_line(rt, Inadmissible::TooLong).map_err(Missing::from)
     } else {
         delivery_lines(rt, how, &buffer[..n])
     };
-    if !written {
+    if let Err(missing) = written {
+        if missing == Missing::NoPrices {
+            complain(
+                rt,
+                "sheetcheck: the prices of an accepted message could not be read\n",
+            );
+        }
         complain(rt, "sheetcheck: not all lines could be written\n");
     }
 }

@@ -13,7 +13,7 @@ use Rattle.guide.specs.Answers.{accepts, refuses}
 use Rattle.verdict.specs.Moves.{moved_verdict}
 use Rattle.schaumtruhe.specs.Calls.{verdict_at, priced_at, row_at}
 use Rattle.schaumtruhe.specs.Demand3.{FromFirst}
-use Rattle.schaumtruhe.specs.declared.pricing.Priced.TheVariants as priced
+use Rattle.std.specs.Prelude.{Ok}
 use Rattle.schaumtruhe.proofs.Demand3.{demand3_una}
 use Rattle.schaumtruhe.proofs.keeping.Tails.{judged_at, filled_at, priced_second, empty, priced-second, empty-verdict, row}
 
@@ -43,7 +43,7 @@ unfolding judged_at
 lines-accepted = refl
 
 lines-priced
-    : (priced_at edifact sheet_lines 0 0 row ≡ priced.Written 1 1)
+    : (priced_at edifact sheet_lines 0 0 row ≡ Ok (record { written = 1; total = 1 }))
     × (row_at edifact sheet_lines 0 0 row ≡ pos 1 ∷ pos 119 ∷ pos 1 ∷ pos 16806 ∷ pos 2 ∷ pos 0 ∷ pos 127 ∷ negsuc 0 ∷ pos 7 ∷ [])
 unfolding filled_at
 lines-priced = (refl, refl)

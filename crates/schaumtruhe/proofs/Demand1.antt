@@ -52,8 +52,8 @@ use Rattle.schaumtruhe.specs.Demands.{
   no_prices,
   no_price,
 }
-use Rattle.schaumtruhe.specs.declared.pricing.Priced.TheVariants as priced
-use Rattle.schaumtruhe.specs.declared.surveys.Surveyed.TheVariants as surveyed
+use Rattle.std.specs.Prelude.{Result, Err}
+use Rattle.schaumtruhe.specs.declared.surveys.Survey.{Survey}
 use Rattle.schaumtruhe.proofs.places.Asked.{
   Admission,
   refused,
@@ -74,21 +74,21 @@ one_or_zero z = absurd (omega arith)
 
 module _ (y : Syntax) (d : List ℕ) where
   -- survey: 1 and 2
-  pub survey_refuses : (n : ℕ) → (survey_of y d ≡ surveyed.Refused n) ↔ DeliveryRefused y d n
+  pub survey_refuses : (n : ℕ) → (survey_of y d ≡ Err n) ↔ DeliveryRefused y d n
   unfolding survey_of
   survey_refuses n = (to (admission y d), from (admission y d))
     where
-      to : Admission y d → survey_of y d ≡ surveyed.Refused n → DeliveryRefused y d n
+      to : Admission y d → survey_of y d ≡ Err n → DeliveryRefused y d n
       to (refused k e r) w =
-          let h : surveyed.Refused (suc k) ≡ surveyed.Refused n = rw e at w in
+          let h : ◌≡◌ {A = Result Survey ℕ} (Err (suc k)) (Err n) = rw e at w in
           let q : suc k ≡ n = cc in
           subst (DeliveryRefused y d) q r
       to (admitted e a) w =
           let h = rw e at w in
           one_or_zero (cc)
 
-      from : Admission y d → DeliveryRefused y d n → survey_of y d ≡ surveyed.Refused n
-      from (refused k e r) t = rw e (ap surveyed.Refused (one-refusal y d (suc k) n r t))
+      from : Admission y d → DeliveryRefused y d n → survey_of y d ≡ Err n
+      from (refused k e r) t = rw e (ap Err (one-refusal y d (suc k) n r t))
       from (admitted e a) t = absurd (none-admitted y d n t a)
 
   module _ (at : ℕ) where
@@ -197,14 +197,14 @@ module _ (y : Syntax) (d : List ℕ) where
             t.sheet ∙ ap (λ (x : Message). sheet_by (judged y x) x) q ∙ rw j
 
     -- prices: they are refused exactly if document 01 says so, and then nothing is written
-    pub prices_refused : (k : ℕ) (row : List ℤ) (n : ℕ) → (priced_at y d at k row ≡ priced.Refused n) ↔ PricesRefused y d at n
+    pub prices_refused : (k : ℕ) (row : List ℤ) (n : ℕ) → (priced_at y d at k row ≡ Err n) ↔ PricesRefused y d at n
     unfolding priced_at
     prices_refused k row n = (
       λ w. (sheet-missing n).0 (lost (sheet_at y d at) w),
       λ r. rw ((sheet-missing n).1 r),
     )
       where
-        lost : (s : Sheet) → priced_by y s k row ≡ priced.Refused n → s ≡ missing n
+        lost : (s : Sheet) → priced_by y s k row ≡ Err n → s ≡ missing n
         lost (stands m) w = one_or_zero (cc)
         lost (missing j) w =
             let q : j ≡ n = cc in

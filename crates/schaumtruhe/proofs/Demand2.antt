@@ -32,11 +32,16 @@ use Rattle.price.proofs.Face.{
 use Rattle.verdict.specs.Named.{edition_of, guide_named, pages_named}
 use Rattle.schaumtruhe.specs.Calls.{listed, priced_at, row_at, article_refusal, article_at}
 use Rattle.schaumtruhe.specs.Demands.{Stands}
-use Rattle.schaumtruhe.specs.declared.pricing.Priced.TheVariants.{Written}
+use Rattle.std.specs.Prelude.{Ok}
+use Rattle.price.specs.declared.filling.Filled.{Filled}
 use Rattle.schaumtruhe.proofs.judging.Verdicts.{stands_alone, Stands as InDelivery}
 use Rattle.schaumtruhe.proofs.pricing.Filling.{listed-in}
 use Rattle.schaumtruhe.proofs.Demand1.{sheet-stands}
 use Rattle.schaumtruhe.proofs.pricing.Named.{named-priced, named_pages}
+
+-- so many are written of so many
+abbrev pub filled : ℕ → ℕ → Filled
+filled w t = record { written = w; total = t }
 
 module _ (y : Syntax) (d : List ℕ) (at : ℕ) (m : Message) (s : Stands y d at m) where
   -- the prices of the message, and what the call gives of them
@@ -55,16 +60,16 @@ module _ (y : Syntax) (d : List ℕ) (at : ℕ) (m : Message) (s : Stands y d at
     pub articles : (k : ℕ) (q : Listed) (qs : List Listed) → drop k (listed y m) ≡ q ∷ qs → ArticleOf y d (start_of m) q (article_at y d at k)
     -- how many are written and how many there are, and the whole row afterwards
     pub answered :
-        (k : ℕ) (row : List ℤ) → priced_at y d at k row ≡ Written (min (length row / 8) (length (listed y m) - k)) (length (listed y m))
+        (k : ℕ) (row : List ℤ) → priced_at y d at k row ≡ Ok (filled (min (length row / 8) (length (listed y m) - k)) (length (listed y m)))
     pub filled : (k : ℕ) (row : List ℤ) → row_at y d at k row ≡ row_after y (start_of m) k (listed y m) row
 
   alone : InDelivery y d m
   alone = stands_alone y d at m ((sheet-stands y d at m).1 s)
 
-  total : (k : ℕ) (row : List ℤ) → priced_at y d at k row ≡ Written (min (length row / 8) (length (listed y m) - k)) (length (listed y m))
+  total : (k : ℕ) (row : List ℤ) → priced_at y d at k row ≡ Ok (filled (min (length row / 8) (length (listed y m) - k)) (length (listed y m)))
   unfolding priced_at filled_of
   total k row =
-      rw ((sheet-stands y d at m).1 s) (ap (λ (w : ℕ). Written w (length (listed y m))) (written_count y (start_of m) k row (listed y m)))
+      rw ((sheet-stands y d at m).1 s) (ap (λ (w : ℕ). Ok (filled w (length (listed y m)))) (written_count y (start_of m) k row (listed y m)))
 
   row-filled : (k : ℕ) (row : List ℤ) → row_at y d at k row ≡ row_after y (start_of m) k (listed y m) row
   unfolding row_at

@@ -15,7 +15,7 @@ use Rattle.guide.specs.Answers.{accepts, refuses}
 use Rattle.verdict.specs.Moves.{moved_verdict}
 use Rattle.schaumtruhe.specs.Calls.{verdict_at, priced_at, row_at}
 use Rattle.schaumtruhe.specs.Demand3.{Kept, FromFirst}
-use Rattle.schaumtruhe.specs.declared.pricing.Priced.TheVariants as priced
+use Rattle.std.specs.Prelude.{Ok}
 use Rattle.schaumtruhe.proofs.Demand3.{demand3_any, demand3_una}
 use Rattle.schaumtruhe.proofs.keeping.Tails.{
   judged_at,
@@ -44,7 +44,7 @@ module _ (front : List ℕ) (t : Tail edifact front priced_second) where
   unfolding moved_verdict
   second_verdict = second_kept.verdict ∙ ap (moved_verdict (length front)) sheet-verdict
 
-  second_priced : priced_at edifact (front ++ priced_second) (length front + 35) 0 row ≡ priced.Written 1 1
+  second_priced : priced_at edifact (front ++ priced_second) (length front + 35) 0 row ≡ Ok (record { written = 1; total = 1 })
   second_priced = second_kept.priced 0 row ∙ sheet-priced.0
 
   second_row : row_at edifact (front ++ priced_second) (length front + 35) 0 row ≡ filled

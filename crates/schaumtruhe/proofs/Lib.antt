@@ -1,9 +1,11 @@
 pub mod ArticlePlaces
 pub mod places
+pub mod Refusals
 pub mod Demand1
 pub mod Unique
 pub mod Unreached
 pub mod Demand2
+pub mod Told
 pub mod Equal
 pub mod keeping
 pub mod Demand3Alone

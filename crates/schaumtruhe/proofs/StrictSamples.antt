@@ -14,7 +14,7 @@ use Rattle.guide.specs.Answers.{accepts}
 use Rattle.verdict.specs.Moves.{moved_verdict}
 use Rattle.schaumtruhe.specs.Calls.{verdict_at, priced_at, row_at}
 use Rattle.schaumtruhe.specs.Demand3.{Kept}
-use Rattle.schaumtruhe.specs.declared.pricing.Priced.TheVariants as priced
+use Rattle.std.specs.Prelude.{Ok}
 use Rattle.schaumtruhe.proofs.Demand3.{demand3_any}
 use Rattle.schaumtruhe.proofs.keeping.Tails.{judged_at, filled_at, priced_second, empty, sheet, row, filled}
 
@@ -34,7 +34,7 @@ strict_verdict : verdict_at strict priced_second 35 ≡ accepts 10 170
 unfolding judged_at
 strict_verdict = refl
 
-strict_priced : (priced_at strict priced_second 35 0 row ≡ priced.Written 1 1) × (row_at strict priced_second 35 0 row ≡ filled)
+strict_priced : (priced_at strict priced_second 35 0 row ≡ Ok (record { written = 1; total = 1 })) × (row_at strict priced_second 35 0 row ≡ filled)
 unfolding filled_at
 strict_priced = (refl, refl)
 

@@ -1,5 +1,5 @@
 -- What each public call answers, for every delivery, place and number, in document 01's order of refusals: 1, 2, 31, 30, 32.
-use Rattle.std.specs.Prelude.{ℕ, zero, suc, cond, List, [], ◌∷◌, ◌++◌, eqb, ltb, ℤ, length, drop}
+use Rattle.std.specs.Prelude.{ℕ, zero, suc, cond, List, [], ◌∷◌, ◌++◌, eqb, ltb, ℤ, length, drop, Result, Ok, Err}
 use Rattle.std.specs.Borrow.{Bor}
 use Rattle.cut.specs.declared.service.Syntax.{Syntax}
 use Rattle.cut.specs.Admission.{admission_of}
@@ -13,10 +13,7 @@ use Rattle.price.specs.Calls.{filled_of, row_after, first_article, IsPart}
 use Rattle.price.specs.Listing.{prices_of}
 use Rattle.price.specs.Numbers.{Listed}
 use Rattle.price.specs.declared.filling.Filled.{Filled}
-use Rattle.schaumtruhe.specs.declared.pricing.Priced.{Priced}
-use Rattle.schaumtruhe.specs.declared.pricing.Priced.TheVariants as priced
-use Rattle.schaumtruhe.specs.declared.surveys.Surveyed.{Surveyed}
-use Rattle.schaumtruhe.specs.declared.surveys.Surveyed.TheVariants as surveyed
+use Rattle.schaumtruhe.specs.declared.surveys.Survey.{Survey}
 
 -- the message among some that begins at a place, if one does
 unfoldable pub beginning_at : ℕ → List Message → List Message
@@ -41,9 +38,9 @@ abbrev pub only_accepted : Verdict → Message → List Message
 only_accepted (accepts n e) m = m ∷ []
 only_accepted (refuses k i p n) m = []
 
-abbrev pub survey_unless : ℕ → Surveyed → Surveyed
-survey_unless zero s = s
-survey_unless (suc n) s = surveyed.Refused (suc n)
+abbrev pub survey_unless : ℕ → Survey → Result Survey ℕ
+survey_unless zero s = Ok s
+survey_unless (suc n) s = Err (suc n)
 
 -- 30, "prices or article asked of a refused message"
 abbrev pub sheet_by : Verdict → Message → Sheet
@@ -53,9 +50,6 @@ sheet_by (refuses k i p n) m = missing 30
 abbrev pub sheet_unless : ℕ → Sheet → Sheet
 sheet_unless zero s = s
 sheet_unless (suc n) s = missing (suc n)
-
-abbrev pub written : Filled → Priced
-written f = priced.Written f.written f.total
 
 abbrev pub at_start : Span
 at_start = record { start = 0; end = 0 }
@@ -84,10 +78,10 @@ module _ (y : Syntax) where
   accepted (m ∷ ms) = only_accepted (judged m) m ++ accepted ms
 
   -- survey: "messages found, accepted, and segments outside"
-  unfoldable pub survey_of : List ℕ → Surveyed
+  unfoldable pub survey_of : List ℕ → Result Survey ℕ
   survey_of d =
       survey_unless (admission_of y d)
-      (surveyed.Counted (length (messages y d)) (length (accepted (messages y d))) (length (outside y d)))
+      (record { messages = length (messages y d); accepted = length (accepted (messages y d)); outside = length (outside y d) })
 
   abbrev pub sheet_in : List Message → Sheet
   sheet_in [] = missing 31
@@ -101,16 +95,16 @@ module _ (y : Syntax) where
   abbrev pub listed : Message → List Listed
   listed m = prices_of (start_of m) (segments_of m)
 
-  abbrev pub priced_by : Sheet → ℕ → List ℤ → Priced
-  priced_by (stands m) k row = written (filled_of y (start_of m) k (listed m) row)
-  priced_by (missing n) k row = priced.Refused n
+  abbrev pub priced_by : Sheet → ℕ → List ℤ → Result Filled ℕ
+  priced_by (stands m) k row = Ok (filled_of y (start_of m) k (listed m) row)
+  priced_by (missing n) k row = Err n
 
   abbrev pub row_by : Sheet → ℕ → List ℤ → List ℤ
   row_by (stands m) k row = row_after y (start_of m) k (listed m) row
   row_by (missing n) k row = row
 
   -- prices: the answer, and the whole row afterwards; a refusal "writes nothing into lent memory"
-  unfoldable pub priced_at : List ℕ → ℕ → ℕ → List ℤ → Priced
+  unfoldable pub priced_at : List ℕ → ℕ → ℕ → List ℤ → Result Filled ℕ
   priced_at d at k row = priced_by (sheet_at d at) k row
 
   unfoldable pub row_at : List ℕ → ℕ → ℕ → List ℤ → List ℤ
@@ -138,10 +132,10 @@ abbrev pub IsSpan : Bor (List ℕ) → Bor (List ℕ) → Span → Type 0
 IsSpan d r s = IsPart d r s.start s.end
 
 -- document 01's numbers for each case; a refusal has 0 in place of the counts
-unfoldable pub priced_numbers : Priced → List ℕ
-priced_numbers (priced.Written w t) = 0 ∷ w ∷ t ∷ []
-priced_numbers (priced.Refused n) = n ∷ 0 ∷ 0 ∷ []
+unfoldable pub priced_numbers : Result Filled ℕ → List ℕ
+priced_numbers (Ok f) = 0 ∷ f.written ∷ f.total ∷ []
+priced_numbers (Err n) = n ∷ 0 ∷ 0 ∷ []
 
-unfoldable pub survey_numbers : Surveyed → List ℕ
-survey_numbers (surveyed.Counted m a o) = 0 ∷ m ∷ a ∷ o ∷ []
-survey_numbers (surveyed.Refused n) = n ∷ 0 ∷ 0 ∷ 0 ∷ []
+unfoldable pub survey_numbers : Result Survey ℕ → List ℕ
+survey_numbers (Ok s) = 0 ∷ s.messages ∷ s.accepted ∷ s.outside ∷ []
+survey_numbers (Err n) = n ∷ 0 ∷ 0 ∷ 0 ∷ []

@@ -3,12 +3,11 @@
 use Rattle.std.specs.Prelude.{ℕ, suc, ◌+◌, ◌≤◌, ◌≡◌, true, ◌⊎◌, ℤ, length, take, drop}
 use mathlib.Core.List.{List, [], ◌∷◌, ◌++◌, map, Memᴰ}
 use Rattle.cut.specs.declared.service.Syntax.{Syntax}
-use Rattle.messages.specs.declared.found.Found.TheVariants as found
 use Rattle.bytewise.specs.Bytes.{part}
 use Rattle.cut.specs.Admission.{admission_of, segments}
 use Rattle.cut.specs.Used.{characters_of}
 use Rattle.messages.specs.Messages.{Message, start_of, close_of, messages}
-use Rattle.messages.specs.Calls.{next_message}
+use Rattle.messages.specs.Calls.{some_message, next_message}
 use Rattle.cut.specs.Fronts.{moved, whole, meet}
 use Rattle.messages.specs.Fronts.{moved_message, begun_in}
 use Rattle.element.specs.declared.components.Span.{Span}
@@ -29,7 +28,7 @@ bytes_at s d = part s.start s.end d
 pub record Kept (y : Syntax) (d' d : List ℕ) (k : ℕ) (m : Message) : Type 0 where
   -- "holds the same messages .. places moved"
   pub held : Memᴰ (moved_message k m) (messages y d')
-  pub next : next_message y d' (k + start_of m) ≡ found.Message (k + start_of m) (k + close_of m)
+  pub next : next_message y d' (k + start_of m) ≡ some_message (k + start_of m) (k + close_of m)
   -- "same verdicts as demand 2 gives each alone"
   pub own : verdict_at y d (start_of m) ≡ judged y m
   pub verdict : verdict_at y d' (k + start_of m) ≡ moved_verdict k (verdict_at y d (start_of m))

@@ -1,4 +1,5 @@
 pub mod Readings
+pub mod Refusals
 pub mod Calls
 pub mod Demands
 pub mod Demand3

@@ -1,50 +1,49 @@
 // Where the article of a price stands.
-ghost use Rattle.std.specs.Prelude.{◌≡◌, length};
+ghost use Rattle.std.specs.Prelude.{◌≡◌, IfOk, Ok, length};
 ghost use Rattle.price.specs.Calls.{prices_in};
-ghost use Rattle.schaumtruhe.specs.Calls.{article_refusal, article_at};
-ghost use Rattle.schaumtruhe.specs.workers.Answers.{refusal_by};
+ghost use Rattle.schaumtruhe.specs.Refusals.{refusal_number};
+ghost use Rattle.schaumtruhe.specs.Calls.{sheet_at, article_refusal, article_at};
+ghost use Rattle.schaumtruhe.specs.workers.Answers.{standing_of};
 
-use crate::sheets::{Standing, sheet_at};
-use cut::Syntax;
+use crate::refusal::Refusal;
+use crate::sheets::{Sheet, sheet_at};
+use cut::Delivery;
 use element::Span;
 use price::fill;
 
 // How many prices a message has.
-fn total(y: Syntax, d: &[u8], start: usize, end: usize) -> usize
-    ensures { result ≡ length (prices_in y d.now start end) }
+fn total(d: Delivery<'_>, sheet: Sheet) -> usize
+    ensures { result ≡ length (prices_in d.entry.syntax d.entry.bytes.now sheet.start sheet.end) }
 {
     let mut none = [0i64; 1];
-    let filled = fill(y, d, start, end, 0, &mut none);
-    filled.total
+    fill(d, sheet.start, sheet.end, 0, &mut none).total
 }
 
-// 1, 2, 31 or 30; 32 if the message has no price k; else 0.
-fn refusal_by(y: Syntax, d: &[u8], sheet: Standing, k: usize) -> u32
-    ensures { result ≡ refusal_by y d.now sheet k }
+// The accepted message at a place, if it has a price k; or 1, 2, 31, 30, 32.
+fn sheet_with_price(d: Delivery<'_>, at: usize, k: usize) -> Result<Sheet, Refusal>
+    ensures refusal { refusal_number result ≡ article_refusal d.entry.syntax d.entry.bytes.now at k }
+    ensures sheet { IfOk result (λ s. Ok s ≡ standing_of (sheet_at d.entry.syntax d.entry.bytes.now at)) }
 {
-    match sheet {
-        Standing::Accepted { start, end } => { if k < total(y, d, start, end) { 0 } else { 32 } }
-        Standing::Refused { number } => number,
+    let sheet = sheet_at(d, at)?;
+    if total(d, sheet) <= k {
+        return Err(Refusal::NoPrice);
     }
+    Ok(sheet)
 }
 
-pub(crate) fn article_refused(y: Syntax, d: &[u8], at: usize, k: usize) -> u32
-    ensures { result ≡ article_refusal y d.now at k }
+pub(crate) fn article_refused(d: Delivery<'_>, at: usize, k: usize) -> Result<(), Refusal>
+    ensures { refusal_number result ≡ article_refusal d.entry.syntax d.entry.bytes.now at k }
 {
-    refusal_by(y, d, sheet_at(y, d, at), k)
+    sheet_with_price(d, at, k)?;
+    Ok(())
 }
 
 // A refused call has the empty part at the delivery's start.
-pub(crate) fn article_in(y: Syntax, d: &[u8], at: usize, k: usize) -> Span
-    ensures { result ≡ article_at y d.now at k }
+pub(crate) fn article_in(d: Delivery<'_>, at: usize, k: usize) -> Span
+    ensures { result ≡ article_at d.entry.syntax d.entry.bytes.now at k }
 {
-    let sheet = sheet_at(y, d, at);
-    let refused = refusal_by(y, d, sheet, k);
-    let Standing::Accepted { start, end } = sheet else {
-        return Span { start: 0, end: 0 };
-    };
-    if refused != 0 {
-        return Span { start: 0, end: 0 };
+    match sheet_with_price(d, at, k) {
+        Ok(sheet) => price::article_at(d, sheet.start, sheet.end, k),
+        Err(_) => Span { start: 0, end: 0 },
     }
-    price::article_at(y, d, start, end, k)
 }

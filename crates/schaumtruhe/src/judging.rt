@@ -1,34 +1,31 @@
 // The verdict of the message that begins at a place.
 ghost use Rattle.std.specs.Prelude.{◌≡◌};
-ghost use Rattle.verdict.specs.Answers.{declared};
-ghost use Rattle.schaumtruhe.specs.Calls.{nowhere, verdict_at};
+ghost use Rattle.schaumtruhe.specs.Refusals.{refusal_number, told};
+ghost use Rattle.schaumtruhe.specs.Calls.{verdict_at};
+ghost use Rattle.schaumtruhe.specs.workers.Answers.{asked};
 
-use cut::Syntax;
-use verdict::{Verdict, judged};
+use crate::refusal::Refusal;
+use crate::unaccepted::Unaccepted;
+use cut::{Delivery, admission};
+use verdict::{Accepted, judged};
 
-// A refusal of the delivery or of the place, which names no segment.
-fn refused(number: u32) -> Verdict
-    ensures { result ≡ declared (nowhere number) }
+// Whether a message begins there; or 1, 2 or 31.
+pub(crate) fn message_begins(d: Delivery<'_>, at: usize) -> Result<(), Refusal>
+    ensures { refusal_number result ≡ asked d.entry.syntax d.entry.bytes.now at }
 {
-    Verdict::Refused {
-        number,
-        segment: 0,
-        place: 0,
-        node: 0,
+    admission(d)?;
+    if messages::message_begins(d, at) {
+        Ok(())
+    } else {
+        Err(Refusal::NoMessage)
     }
 }
 
-// 1 or 2; 31 if no message begins there; else the message's verdict.
-pub(crate) fn verdict_at(y: Syntax, d: &[u8], at: usize) -> Verdict
-    ensures { result ≡ declared (verdict_at y d.now at) }
+// 1, 2 or 31; else the message's verdict.
+pub(crate) fn verdict_at(d: Delivery<'_>, at: usize) -> Result<Accepted, Unaccepted>
+    ensures { told result ≡ verdict_at d.entry.syntax d.entry.bytes.now at }
 {
-    let refusal = cut::admission(y, d);
-    if refusal != 0 {
-        return refused(refusal);
-    }
-    if !messages::message_begins(y, d, at) {
-        return refused(31);
-    }
-    let j = judged(y, d, at);
-    j.verdict
+    message_begins(d, at)?;
+    let accepted = judged(d, at).verdict?;
+    Ok(accepted)
 }

@@ -7,12 +7,15 @@ mod calls;
 mod judging;
 mod pricing;
 mod reading;
+mod refusal;
 mod sheets;
 mod surveys;
+mod unaccepted;
 
 pub use calls::{
     article, article_at, article_refusal, envelope, judge_at, next_message, prices, survey,
 };
-pub use pricing::Priced;
 pub use reading::{Reading, strict, usual};
-pub use surveys::Surveyed;
+pub use refusal::Refusal;
+pub use surveys::Survey;
+pub use unaccepted::Unaccepted;

@@ -1,39 +1,32 @@
 // The accepted message that begins at a place: what prices and articles are asked of.
 ghost use Rattle.std.specs.Prelude.{◌≡◌};
+ghost use Rattle.schaumtruhe.specs.Refusals.{number_of, numbered};
 ghost use Rattle.schaumtruhe.specs.Calls.{sheet_at};
-ghost use Rattle.schaumtruhe.specs.workers.Answers.{standing_of, standing_by};
+ghost use Rattle.schaumtruhe.specs.workers.Answers.{standing_of};
 
-use cut::Syntax;
-use verdict::{Verdict, judged};
+use crate::judging::message_begins;
+use crate::refusal::Refusal;
+use cut::Delivery;
+use verdict::judged;
 
-// The message's start and end; or 1, 2, 31 or 30.
-#[derive(Clone, Copy)]
-pub enum Standing {
-    Accepted { start: usize, end: usize },
-    Refused { number: u32 },
+// An accepted message's first byte and the byte after its last.
+#[derive(Clone, Copy, PartialEq, Eq, Debug)]
+pub(crate) struct Sheet {
+    pub start: usize,
+    pub end: usize,
 }
 
-// The message from start to end by its verdict.
-fn by_verdict(v: Verdict, start: usize, end: usize) -> Standing
-    ensures { result ≡ standing_by v start end }
+// That message; or 1, 2, 31 or 30.
+pub(crate) fn sheet_at(d: Delivery<'_>, at: usize) -> Result<Sheet, Refusal>
+    ensures { numbered number_of result ≡ standing_of (sheet_at d.entry.syntax d.entry.bytes.now at) }
 {
-    match v {
-        Verdict::Accepted { .. } => Standing::Accepted { start, end },
-        Verdict::Refused { .. } => Standing::Refused { number: 30 },
+    message_begins(d, at)?;
+    let j = judged(d, at);
+    match j.verdict {
+        Ok(_) => Ok(Sheet {
+            start: at,
+            end: j.end,
+        }),
+        Err(_) => Err(Refusal::Refused),
     }
-}
-
-pub(crate) fn sheet_at(y: Syntax, d: &[u8], at: usize) -> Standing
-    ensures { result ≡ standing_of (sheet_at y d.now at) }
-{
-    let refusal = cut::admission(y, d);
-    if refusal != 0 {
-        return Standing::Refused { number: refusal };
-    }
-    if !messages::message_begins(y, d, at) {
-        return Standing::Refused { number: 31 };
-    }
-    let j = judged(y, d, at);
-    let verdict = j.verdict;
-    by_verdict(verdict, at, j.end)
 }

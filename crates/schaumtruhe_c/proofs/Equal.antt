@@ -6,7 +6,6 @@ use lib.IntN.{ℤ}
 use Rattle.cut.specs.declared.service.Syntax.{Syntax}
 use Rattle.messages.specs.Calls.{next_message}
 use Rattle.held.specs.Reading.{next_from}
-use Rattle.verdict.specs.Answers.{declared}
 use Rattle.schaumtruhe.specs.Calls.{survey_of, verdict_at, priced_at, row_at, article_refusal, article_at}
 use Rattle.schaumtruhe_c.specs.Answers.{totals_of, next_of, judged_of, prices_of, article_of, segment_of}
 use Rattle.schaumtruhe_c.specs.declared.answers.Totals.{Totals}
@@ -25,7 +24,7 @@ module _ (y : Syntax) (d : List ℕ) where
     one-next r t h k = h ∙ sym k
 
     pub one-judged
-        : (r t : Judged) → r ≡ judged_of (declared (verdict_at y d at)) → t ≡ judged_of (declared (verdict_at y d at)) → r ≡ t
+        : (r t : Judged) → r ≡ judged_of (verdict_at y d at) → t ≡ judged_of (verdict_at y d at) → r ≡ t
     one-judged r t h k = h ∙ sym k
 
     pub one-segment : (r t : Segment) → r ≡ segment_of (next_from y d at) → t ≡ segment_of (next_from y d at) → r ≡ t

@@ -1,12 +1,17 @@
 // Each answer as numbers: first 0 or document 01's refusal number; what a refusal does not give is 0.
-ghost use Rattle.std.specs.Prelude.{cond, ◌≡◌};
+// Whether there is an answer is a number too, since the structs are the C interface.
+ghost use Rattle.std.specs.Prelude.{◌≡◌};
+ghost use Rattle.cut.specs.Admission.{number_of as inadmissible_number};
+ghost use Rattle.envelope.specs.Envelope.{enveloped as judged_envelope};
+ghost use Rattle.schaumtruhe.specs.Refusals.{number_of, numbered, told};
 ghost use Rattle.schaumtruhe_c.specs.Answers.{totals_of, enveloped, next_of, judged_of, prices_of, segment_of};
 
-use cut::Cut;
-use envelope::Enveloped;
-use messages::Found;
-use schaumtruhe::{Priced, Surveyed};
-use verdict::Verdict;
+use cut::{Cut, Inadmissible};
+use envelope::Incomplete;
+use messages::Message;
+use price::Filled;
+use schaumtruhe::{Refusal, Survey, Unaccepted};
+use verdict::Accepted;
 
 // The whole delivery: messages found, accepted, and segments outside.
 #[repr(C)]
@@ -73,120 +78,126 @@ pub struct Segment {
     pub piece: u32,
 }
 
-pub(crate) fn totals_of(s: Surveyed) -> Totals
-    ensures { result ≡ totals_of s }
-{
-    match s {
-        Surveyed::Counted {
-            messages,
-            accepted,
-            outside,
-        } => Totals {
-            number: 0,
-            messages,
-            accepted,
-            outside,
-        },
-        Surveyed::Refused { number } => Totals {
-            number,
-            messages: 0,
-            accepted: 0,
-            outside: 0,
-        },
+impl From<Result<Survey, Inadmissible>> for Totals {
+    ghost from_gives = { λ s t. t ≡ totals_of (numbered inadmissible_number s) };
+
+    fn from(survey: Result<Survey, Inadmissible>) -> Totals {
+        match survey {
+            Ok(s) => Totals {
+                number: 0,
+                messages: s.messages,
+                accepted: s.accepted,
+                outside: s.outside,
+            },
+            Err(reason) => Totals {
+                number: reason.into(),
+                messages: 0,
+                accepted: 0,
+                outside: 0,
+            },
+        }
     }
 }
 
-pub(crate) fn enveloped(e: Enveloped) -> Envelope
-    ensures { result ≡ enveloped e }
-{
-    match e {
-        Enveloped::Complete => Envelope {
-            number: 0,
-            place: 0,
-        },
-        Enveloped::Refused { number, place } => Envelope { number, place },
+impl From<Result<(), Incomplete>> for Envelope {
+    ghost from_gives = { λ e answer. answer ≡ enveloped (judged_envelope e) };
+
+    fn from(envelope: Result<(), Incomplete>) -> Envelope {
+        match envelope {
+            Ok(()) => Envelope {
+                number: 0,
+                place: 0,
+            },
+            Err(e) => Envelope {
+                number: e.reason.into(),
+                place: e.place,
+            },
+        }
     }
 }
 
-pub(crate) fn next_of(f: Found) -> Next
-    ensures { result ≡ next_of f }
-{
-    match f {
-        Found::Message { start, end } => Next {
-            found: 1,
-            start,
-            end,
-        },
-        Found::Nothing => Next {
-            found: 0,
-            start: 0,
-            end: 0,
-        },
+impl From<Option<Message>> for Next {
+    ghost from_gives = { λ found answer. answer ≡ next_of found };
+
+    fn from(found: Option<Message>) -> Next {
+        match found {
+            Some(m) => Next {
+                found: 1,
+                start: m.start,
+                end: m.end,
+            },
+            None => Next {
+                found: 0,
+                start: 0,
+                end: 0,
+            },
+        }
     }
 }
 
-pub(crate) fn judged_of(v: Verdict) -> Judged
-    ensures { result ≡ judged_of v }
-{
-    match v {
-        Verdict::Accepted { segments, end } => Judged {
-            number: 0,
-            segment: segments,
-            place: end,
-            node: 0,
-        },
-        Verdict::Refused {
-            number,
-            segment,
-            place,
-            node,
-        } => Judged {
-            number,
-            segment,
-            place,
-            node,
-        },
+impl From<Result<Accepted, Unaccepted>> for Judged {
+    ghost from_gives = { λ v answer. answer ≡ judged_of (told v) };
+
+    fn from(v: Result<Accepted, Unaccepted>) -> Judged {
+        match v {
+            Ok(a) => Judged {
+                number: 0,
+                segment: a.segments,
+                place: a.end,
+                node: 0,
+            },
+            Err(Unaccepted::Call(refusal)) => Judged {
+                number: refusal.into(),
+                segment: 0,
+                place: 0,
+                node: 0,
+            },
+            Err(Unaccepted::Message(r)) => Judged {
+                number: r.reason.into(),
+                segment: r.segment,
+                place: r.place,
+                node: r.node,
+            },
+        }
     }
 }
 
-pub(crate) fn prices_of(p: Priced) -> Prices
-    ensures { result ≡ prices_of p }
-{
-    match p {
-        Priced::Written { written, total } => Prices {
-            number: 0,
-            written,
-            total,
-        },
-        Priced::Refused { number } => Prices {
-            number,
-            written: 0,
-            total: 0,
-        },
+impl From<Result<Filled, Refusal>> for Prices {
+    ghost from_gives = { λ p answer. answer ≡ prices_of (numbered number_of p) };
+
+    fn from(priced: Result<Filled, Refusal>) -> Prices {
+        match priced {
+            Ok(filled) => Prices {
+                number: 0,
+                written: filled.written,
+                total: filled.total,
+            },
+            Err(refusal) => Prices {
+                number: refusal.into(),
+                written: 0,
+                total: 0,
+            },
+        }
     }
 }
 
-fn flag(b: bool) -> u32
-    ensures { result ≡ cond b 1 0 }
-{
-    if b { 1 } else { 0 }
-}
+impl From<Option<Cut>> for Segment {
+    ghost from_gives = { λ found answer. answer ≡ segment_of found };
 
-pub(crate) fn segment_of(c: Cut) -> Segment
-    ensures { result ≡ segment_of c }
-{
-    match c {
-        Cut::Segment { start, end, piece } => Segment {
-            found: 1,
-            start,
-            end,
-            piece: flag(piece),
-        },
-        Cut::Nothing => Segment {
-            found: 0,
-            start: 0,
-            end: 0,
-            piece: 0,
-        },
+    fn from(found: Option<Cut>) -> Segment {
+        match found {
+            Some(c) => Segment {
+                found: 1,
+                start: c.start,
+                end: c.end,
+                piece: u32::from(c.piece),
+            },
+            None => Segment {
+                found: 0,
+                start: 0,
+                end: 0,
+                piece: 0,
+            },
+        }
     }
 }

@@ -6,16 +6,16 @@ ghost use Rattle.sieve.specs.Articles.{Noted};
 ghost use Rattle.sieve.specs.workers.Words.{word_mixed, gathered_unless, closed_by, begun, print_from, article_print, Gathering};
 
 use crate::came::{came, note};
-use crate::prints::is_mark;
 use bytewise::{alike, eight_at, limit_of};
-use cut::Syntax;
+use cut::{Delivery, Syntax};
+use element::frees_next;
 
 // A print, and behind it fewer than eight bytes that are not in it yet: the number they make, and how much the next one counts.
-#[derive(Clone, Copy)]
-pub struct Gathered {
-    pub print: u32,
-    pub number: u64,
-    pub scale: u64,
+#[derive(Clone, Copy, PartialEq, Eq, Debug)]
+struct Gathered {
+    print: u32,
+    number: u64,
+    scale: u64,
 }
 
 // The print, and then eight bytes. The factors are odd, near 2^32 divided by the golden ratio and by 2, so that every byte changes the upper
@@ -70,12 +70,10 @@ fn print_rest(y: Syntax, d: &[u8], from: usize, end: usize, before: u32) -> u32
         number: 0,
         scale: 1,
     };
-    let mut i = from;
     let mut released = false;
-    while i < end {
+    for i in from..end {
         let x = d[i];
-        i += 1;
-        released = is_mark(y, released, x);
+        released = frees_next(y, released, x);
         g = gather(g, released, x);
     }
     closed(g)
@@ -97,7 +95,8 @@ fn print_last(y: Syntax, d: &[u8], from: usize, end: usize, before: u32) -> u32
     mixed_word(before, w >> passed)
 }
 
-// Eight bytes go into the print at once, up to the first word that has a release mark.
+// Eight bytes go into the print at once, up to the first word that has a release mark. The characters and the bytes come apart, as in `print_last` and
+// `print_rest`: of a slice it is known that no byte is above 255, and that is lost behind a struct's reference.
 fn print_article(y: Syntax, d: &[u8], a: usize, e: usize) -> u32
     ensures { result ≡ article_print (decoded y a e d.now) }
 {
@@ -119,10 +118,10 @@ fn print_article(y: Syntax, d: &[u8], a: usize, e: usize) -> u32
 }
 
 // Notes an article, the part from a up to e without release marks, in the table of those that came; whether it may have come before.
-pub fn note_article(y: Syntax, d: &[u8], a: usize, e: usize, t: &mut [u64; 256]) -> bool
-    ensures { Noted t.old t.new (decoded y a e d.now) result }
+pub fn note_article(d: Delivery<'_>, a: usize, e: usize, t: &mut [u64; 256]) -> bool
+    ensures { Noted t.old t.new (decoded d.entry.syntax a e d.entry.bytes.now) result }
 {
-    let f = print_article(y, d, a, e);
+    let f = print_article(d.syntax, d.bytes, a, e);
     let again = came(t, f);
     note(t, f);
     again

@@ -1,5 +1,6 @@
 // The table of the prints that came: a cell for each value of a print's upper bits, in which a byte made of the lower ones stands, and so
-// again for two more numbers made of the print. What is not marked did not come.
+// again for two more numbers made of the print. What is not marked did not come. The table in `came` differs in cell and rule: one trait over both would
+// be no plainer.
 ghost use Rattle.std.specs.Prelude.{◌≡◌};
 ghost use Rattle.sieve.specs.workers.Marks.{cell_of, mark_of, merged_by, held_in, with_mark, marked_in, mark_in};
 

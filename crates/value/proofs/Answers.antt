@@ -12,9 +12,8 @@ use lib.Pow.{pow-add}
 use borrow.Author.Tests.{ltb-true, ltb-false, lt-leb, le-leb}
 use Rattle.cut.specs.declared.service.Syntax.{Syntax}
 use Rattle.value.specs.declared.numeral.Numeral.{Numeral}
-use Rattle.value.specs.declared.numeral.Numeral.TheVariants.{Short, Long, Other}
-use Rattle.value.specs.declared.prices.Number.{Number}
-use Rattle.value.specs.declared.prices.Number.TheVariants.{Amount, Nothing}
+use Rattle.std.specs.Prelude.{Option, Some, None}
+use Rattle.value.specs.declared.prices.Amount.{Amount}
 use Rattle.value.specs.declared.formats.Format.{Format}
 use Rattle.value.specs.declared.formats.Format.TheVariants.{AnUpTo, An, NUpTo, N}
 use Rattle.value.specs.Format.{fits_format}
@@ -27,21 +26,19 @@ use Rattle.value.proofs.Numerals.{decimal-below}
 
 pub numeral-is
     : (y : Syntax) (s : List ℕ)
-    → numeral_of y s ≡ cond (is_number y s) (counted_as (minus s) (decimal (digits s)) (length (digits s)) (length (fraction s))) Other
+    → numeral_of y s ≡ cond (is_number y s) (Some (counted_as (minus s) (decimal (digits s)) (length (digits s)) (length (fraction s)))) None
 unfolding numeral_of unsigned_of numeral_by is_number digits whole fraction
 numeral-is y s = refl
 
 -- formats: a number has at least one digit, so no digits are those of no number
-counted-by : (m : Bool) (v n k : ℕ) (long b : Bool) → digits_of (cond b (cond long (Long n) (Short m v n k)) Other) ≡ cond b n 0
-counted-by m v n k true true = refl
-counted-by m v n k false true = refl
-counted-by m v n k long false = refl
+counted-by : (m : Bool) (v n k : ℕ) (b : Bool) → digits_of (cond b (Some (counted_as m v n k)) None) ≡ cond b n 0
+counted-by m v n k true = refl
+counted-by m v n k false = refl
 
 pub digits_number : (y : Syntax) (s : List ℕ) → digits_of (numeral_of y s) ≡ digit_count y s
 unfolding digit_count
 digits_number y s =
-    ap digits_of (numeral-is y s)
-    ∙ counted-by (minus s) (decimal (digits s)) (length (digits s)) (length (fraction s)) (ltb 15 (length (digits s))) (is_number y s)
+    ap digits_of (numeral-is y s) ∙ counted-by (minus s) (decimal (digits s)) (length (digits s)) (length (fraction s)) (is_number y s)
 
 some-length : (l : List ℕ) → some l ≡ true → 0 < length l
 unfolding some
@@ -91,45 +88,46 @@ module _ (y : Syntax) (s : List ℕ) (f : Format) (k : ℕ) where
   pub fits-n : (n : ℕ) → f ≡ N k → n ≡ digits_of (numeral_of y s) → leb 1 n && eqb n k ≡ fits_format y f s
   fits-n n p q = rw p (count-exactly y s k n (q ∙ digits_number y s))
 
--- prices: the numeral's amount and decimals
-abbrev pub amount_in : Numeral → Number
-amount_in (Short m v n k) = Amount (signed m v) k
-amount_in (Long n) = Nothing
-amount_in Other = Nothing
+-- prices: the amount of a value, and the numeral's amount and decimals
+abbrev pub amount_by : Bool → ℕ → Option ℕ → Option Amount
+amount_by m k None = None
+amount_by m k (Some v) = Some (record { amount = signed m v; decimals = k })
 
-amount-by : (m : Bool) (v n k : ℕ) (long b : Bool) → ltb 15 n ≡ long
-    → amount_in (cond b (cond long (Long n) (Short m v n k)) Other) ≡ cond (b && leb n 15) (Amount (signed m v) k) Nothing
-amount-by m v n k true true e = rw (lt-leb n 15 (ltb-true 15 n e))
-amount-by m v n k false true e = rw (le-leb n 15 (ltb-false 15 n e))
-amount-by m v n k long false e = refl
+abbrev pub amount_in : Option Numeral → Option Amount
+amount_in None = None
+amount_in (Some n) = amount_by n.minus n.decimals n.value
+
+amount-counted : (m : Bool) (v n k : ℕ) (long b : Bool) → ltb 15 n ≡ long
+    → amount_in (cond b (Some (counted_as m v n k)) None) ≡ cond (b && leb n 15) (Some (record { amount = signed m v; decimals = k })) None
+amount-counted m v n k true true e = rw (e, lt-leb n 15 (ltb-true 15 n e))
+amount-counted m v n k false true e = rw (e, le-leb n 15 (ltb-false 15 n e))
+amount-counted m v n k long false e = refl
 
 amount-number : (y : Syntax) (s : List ℕ) → amount_in (numeral_of y s) ≡ number_of y s
 unfolding number_of
 amount-number y s =
     ap amount_in (numeral-is y s)
-    ∙ amount-by (minus s) (decimal (digits s)) (length (digits s)) (length (fraction s)) (ltb 15 (length (digits s))) (is_number y s) refl
+    ∙ amount-counted (minus s) (decimal (digits s)) (length (digits s)) (length (fraction s)) (ltb 15 (length (digits s))) (is_number y s) refl
 
 module _ (y : Syntax) (s : List ℕ) where
-  pub number_short
-      : (m : Bool) (v n k : ℕ) (z : ℤ) → numeral_of y s ≡ Short m v n k → z ≡ signed m v → Amount z k ≡ number_of y s
-  number_short m v n k z e h = ap (λ (i : ℤ). Amount i k) h ∙ ap amount_in (sym e) ∙ amount-number y s
+  pub number-none : numeral_of y s ≡ None → None ≡ number_of y s
+  number-none e = ap amount_in (sym e) ∙ amount-number y s
 
-  pub number_long : (n : ℕ) → numeral_of y s ≡ Long n → Nothing ≡ number_of y s
-  number_long n e = ap amount_in (sym e) ∙ amount-number y s
+  module _ (n : Numeral) (e : numeral_of y s ≡ Some n) where
+    pub number_long : n.value ≡ None → None ≡ number_of y s
+    number_long h = ap (amount_by n.minus n.decimals) (sym h) ∙ ap amount_in (sym e) ∙ amount-number y s
 
-  pub number-other : numeral_of y s ≡ Other → Nothing ≡ number_of y s
-  number-other e = ap amount_in (sym e) ∙ amount-number y s
+    pub number_short : (v : ℕ) (z : ℤ) → n.value ≡ Some v → z ≡ signed n.minus v → Some (record { amount = z; decimals = n.decimals }) ≡ number_of y s
+    number_short v z h p = rw p (ap (amount_by n.minus n.decimals) (sym h) ∙ ap amount_in (sym e) ∙ amount-number y s)
 
 -- a numeral with its value has at most fifteen digits, so both numbers are small
-abbrev value_in : Numeral → ℕ
-value_in (Short m v n k) = v
-value_in (Long n) = 0
-value_in Other = 0
+abbrev value_in : Option Numeral → Option ℕ
+value_in None = None
+value_in (Some n) = n.value
 
-abbrev decimals_in : Numeral → ℕ
-decimals_in (Short m v n k) = k
-decimals_in (Long n) = 0
-decimals_in Other = 0
+abbrev decimals_in : Option Numeral → ℕ
+decimals_in None = 0
+decimals_in (Some n) = n.decimals
 
 both_below : (s t : List ℕ) → decimal (digits_ahead s ++ digits_ahead t) < 10 ^ length (digits_ahead s ++ digits_ahead t)
 both_below s t =
@@ -144,14 +142,18 @@ both_below s t =
     )
     (omega arith)
 
-small : (m : Bool) (v n k : ℕ) (long b : Bool) → v < 10 ^ n → k ≤ n → ltb 15 n ≡ long
-    → (value_in (cond b (cond long (Long n) (Short m v n k)) Other) < 10 ^ 15)
-    × (decimals_in (cond b (cond long (Long n) (Short m v n k)) Other) ≤ 15)
-small m v n k true true h l e = omega arith
-small m v n k false true h l e =
+small : (m : Bool) (v n k : ℕ) (long b : Bool) (x : ℕ) → v < 10 ^ n → k ≤ n → ltb 15 n ≡ long
+    → value_in (cond b (Some (counted_as m v n k)) None) ≡ Some x → (x < 10 ^ 15) × (decimals_in (cond b (Some (counted_as m v n k)) None) ≤ 15)
+small m v n k true true x h l e q =
+    let z : ◌≡◌ {A = Option ℕ} None (Some x) = rw e at q in
+    absurd (let o : ◌≡◌ {A = ℕ} 0 1 = cc in omega arith)
+small m v n k false true x h l e q =
     let f : n ≤ 15 = ltb-false 15 n e in
-    (lt_of_lt_of_le h (pow-le-pow_right (lit< tt) f), omega arith)
-small m v n k long false h l e = omega arith
+    let w : ◌≡◌ {A = Option ℕ} (Some v) (Some x) = rw e at q in
+    let z : v ≡ x = cc in
+    let p = lt_of_lt_of_le h (pow-le-pow_right {n = 10} (lit< tt) f) in
+    (omega arith, omega arith)
+small m v n k long false x h l e q = absurd (let o : ◌≡◌ {A = ℕ} 0 1 = cc in omega arith)
 
 digits-below : (s : List ℕ) → decimal (digits s) < 10 ^ length (digits s)
 unfolding digits whole fraction
@@ -161,11 +163,11 @@ fraction-within : (s : List ℕ) → length (fraction s) ≤ length (digits s)
 unfolding digits
 fraction-within s = rw (length-append (whole s) (fraction s)) (omega arith)
 
-pub short-bounds : (y : Syntax) (s : List ℕ) {m : Bool} {v n k : ℕ} → numeral_of y s ≡ Short m v n k → (v < 10 ^ 15) × (k ≤ 15)
-short-bounds y s e =
+pub short-bounds
+    : (y : Syntax) (s : List ℕ) (n : Numeral) (x : ℕ) → numeral_of y s ≡ Some n → n.value ≡ Some x → (x < 10 ^ 15) × (n.decimals ≤ 15)
+short-bounds y s n x e h =
     let q = sym (numeral-is y s) ∙ e in
-    let b = small (minus s) (decimal (digits s)) (length (digits s)) (length (fraction s)) (ltb 15 (length (digits s))) (is_number y s) (digits-below s)
-    (fraction-within s) refl in
-    let v = ap value_in q in
+    let b = small (minus s) (decimal (digits s)) (length (digits s)) (length (fraction s)) (ltb 15 (length (digits s))) (is_number y s) x
+    (digits-below s) (fraction-within s) refl (ap value_in q ∙ h) in
     let k = ap decimals_in q in
     omega arith

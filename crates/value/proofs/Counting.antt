@@ -1,20 +1,19 @@
 -- Counts: one law for each answer of `count_of`, at the run of digits that was read.
 use Prim.Native.Nat.{ℕ, ◌≤◌, ◌<◌}
-use mathlib.Core.Bool.{Bool, true, false, and-false}
-use mathlib.Core.Path.{◌≡◌, refl, sym, ap, ◌∙◌}
+use mathlib.Core.Bool.{Bool, true, false, not, ◌&&◌, cond, and-false, false≢true}
+use mathlib.Core.Path.{◌≡◌, refl, sym, ap, subst, ◌∙◌}
 use mathlib.Core.List.{List, [], ◌∷◌, cons≢nil}
 use native.Mathlib.Nat.{zero-mul, zero-add}
 use native.Mathlib.Omega.{arith}
 use lib.ListN.{length}
-use lib.Dec.{eqb, lit<}
+use lib.Dec.{eqb, leb, lit<}
 use borrow.Author.Tests.{lt-leb, le-leb, eq-eqb, ne_eqb}
-use Rattle.cut.specs.declared.service.Syntax.{Syntax}
 use Rattle.value.specs.declared.numeral.Run.{Run}
-use Rattle.value.specs.declared.counts.Count.TheVariants.{Is, Nothing}
-use Rattle.plain.specs.Plain.{decoded}
+use Rattle.std.specs.Prelude.{Option, Some, None, is_some}
 use Rattle.value.specs.Numeral.{is_digit, some, none, digits_ahead, behind_digits, decimal}
 use Rattle.value.specs.Digits.{padded, is_count, count_of}
-use Rattle.value.specs.workers.Scans.{DigitRun}
+use Rattle.value.specs.workers.Scans.{behind_by, DigitRun}
+use Rattle.value.proofs.Numerals.{none-of}
 
 -- where nothing stands behind the digits, they are the whole
 alone : (x : ℕ) (xs : List ℕ) (b : Bool) → is_digit x ≡ b → behind_digits (x ∷ xs) ≡ [] → (behind_digits xs ≡ [] → digits_ahead xs ≡ xs)
@@ -44,46 +43,55 @@ unfolding padded
 padded-other s x [] p h = rw p
 padded-other s x (z ∷ zs) p h = rw (p, ne_eqb x 48 h)
 
-pub no_count : (s : List ℕ) → s ≡ [] → Nothing ≡ count_of s
+pub no_count : (s : List ℕ) → s ≡ [] → None ≡ count_of s
 unfolding count_of is_count some
 no_count s p = rw p
 
--- the answers; s are the decoded bytes, and the run its digits
-module _ (y : Syntax) (d : List ℕ) (a e : ℕ) (r : Run) (q : DigitRun y d a e 0 r) (s : List ℕ) (w : decoded y a e d ≡ s) where
-  pub count-other : r.next < e → Nothing ≡ count_of s
-  unfolding count_of is_count none
-  count-other h = rw (← w, q.found h, and-false)
+-- the run of equal bytes
+pub run-of : (l s : List ℕ) (r : Run) (t : List ℕ) → l ≡ s → DigitRun l 0 r t → DigitRun s 0 r t
+run-of l s r t e q = subst (λ (x : List ℕ). DigitRun x 0 r t) e q
 
-  module _ (h : e ≤ r.next) where
+-- the answers; s are the decoded bytes, and the run its digits
+module _ (s : List ℕ) (r : Run) (u : List ℕ) (q : DigitRun s 0 r u) where
+  pub count-other : is_some r.behind ≡ true → None ≡ count_of s
+  unfolding count_of is_count none
+  count-other h = rw q.behind (go r.behind h)
+    where
+      go : (b : Option ℕ) → is_some b ≡ true
+          → None ≡ cond ((some s && (none (behind_by b u) && not (padded s))) && leb (length s) 15) (Some (decimal s)) None
+      go None h = absurd (false≢true h)
+      go (Some x) h = rw (and-false (some s))
+
+  module _ (h : is_some r.behind ≡ false) where
     ended : behind_digits s ≡ []
-    ended = ap behind_digits (sym w) ∙ q.none h
+    ended = q.behind ∙ ap (λ (b : Option ℕ). behind_by b u) (none-of r.behind h)
 
     whole-count : r.count ≡ length s
-    whole-count = q.counted ∙ ap length (ap digits_ahead w ∙ digits_alone s ended)
+    whole-count = q.counted ∙ ap length (digits_alone s ended)
 
-    pub count_long : 15 < r.count → Nothing ≡ count_of s
+    pub count_long : 15 < r.count → None ≡ count_of s
     unfolding count_of
     count_long k =
         let l : 15 < length s = omega (arith, whole-count) in
         rw (lt-leb (length s) 15 l, and-false)
 
     module _ (x : ℕ) (t : List ℕ) (p : s ≡ x ∷ t) where
-      pub count-padded : (r.count ≡ 1 → ⊥) → x ≡ 48 → Nothing ≡ count_of s
+      pub count-padded : (r.count ≡ 1 → ⊥) → x ≡ 48 → None ≡ count_of s
       unfolding count_of is_count
       count-padded n z = rw (padded-first s x t p (λ l. n (whole-count ∙ l)), eq-eqb x 48 z, and-false, and-false)
 
-      is-count : r.count ≤ 15 → padded s ≡ false → Is r.value ≡ count_of s
+      is-count : r.count ≤ 15 → padded s ≡ false → Some r.value ≡ count_of s
       unfolding count_of is_count some none
       is-count k n =
           let m : some s ≡ true = ap some p in
           let l : length s ≤ 15 = omega (arith, whole-count) in
           let v : r.value ≡ decimal s =
-          q.valued 0 (lit< tt) (omega arith) ∙ rw zero-mul (zero-add _) ∙ ap decimal (ap digits_ahead w ∙ digits_alone s ended)
+          q.valued 0 (lit< tt) (omega arith) ∙ rw zero-mul (zero-add _) ∙ ap decimal (digits_alone s ended)
           in
           rw (v, m, ended, n, le-leb (length s) 15 l)
 
-      pub count-one : r.count ≡ 1 → Is r.value ≡ count_of s
+      pub count-one : r.count ≡ 1 → Some r.value ≡ count_of s
       count-one n = is-count (omega arith) (padded-not-one s (sym whole-count ∙ n))
 
-      pub count-is : r.count ≤ 15 → (x ≡ 48 → ⊥) → Is r.value ≡ count_of s
+      pub count-is : r.count ≤ 15 → (x ≡ 48 → ⊥) → Some r.value ≡ count_of s
       count-is k n = is-count k (padded-other s x t p n)

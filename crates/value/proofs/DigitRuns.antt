@@ -8,19 +8,23 @@ use native.Mathlib.Nat.{add-zero}
 use native.Mathlib.Decide.{dec_lt}
 use native.Mathlib.Omega.{arith}
 use lib.ListN.{length, get_or, length-append}
-use lib.Dec.{ltb, eqb, eqb→eq}
+use lib.Dec.{eqb, eqb→eq}
 use lib.Bits.{bit_and, bit_or, bit_xor, and_le_r}
 use borrow.Author.Tests.{eq-eqb, ne_eqb, eqb-true, eqb-false, not-true, not-false}
 use Rattle.bytewise.specs.Bytes.{part}
 use Rattle.bytewise.specs.Every.{every}
-use Rattle.bytewise.specs.Eights.{on_from, eight_at, flag, flags, Flagged, first_byte}
+use Rattle.bytewise.specs.Eights.{flag, flags}
+use Rattle.bytewise.specs.Search.{FirstThat}
+use Rattle.bytewise.proofs.Searching.{first_before}
+use Rattle.std.specs.Prelude.{Some}
+use Rattle.std.specs.Char.{is_ascii_digit}
 use Rattle.cut.specs.declared.service.Syntax.{Syntax}
 use Rattle.bytewise.proofs.Every.{every-at}
-use Rattle.bytewise.proofs.Bytewise.{Eight, eight-and, eight-or, eight_xor, eight-add, eight_each, low, high, flags_of, flags-none, flagged_there, first_of}
+use Rattle.bytewise.proofs.Bytewise.{Eight, eight-and, eight-or, eight_xor, eight-add, eight_each, low, high, flags_of}
 use Rattle.bytewise.proofs.Parts.{part_none, part-next}
 use Rattle.bytewise.proofs.Limits.{limited}
 use Rattle.value.specs.Numeral.{is_digit, some, none, digits_ahead, behind_digits, is_tail, digit_count}
-use Rattle.value.specs.workers.Scans.{DigitsEnd, behind_sign, counted_as, numeral_by, unsigned_of, digits_of}
+use Rattle.value.specs.workers.Scans.{behind_sign, numeral_by, unsigned_of, digits_of}
 use Rattle.value.proofs.Digitwise.{ahead_more, ahead-stop, ahead_none, behind_more, behind-stop, behind-none}
 use Rattle.value.proofs.Numerals.{some-row, no_whole, whole_alone, tail_bad, tail_good, no_byte, with-minus, without_minus}
 use Rattle.value.proofs.Answers.{digits_number}
@@ -51,91 +55,36 @@ others-flags w x p =
 
 -- ---- how many digits a number has
 
-counted-digits : (m : Bool) (v n k : ℕ) → digits_of (counted_as m v n k) ≡ n
-counted-digits m v n k = go (ltb 15 n) refl
-  where
-    go : (b : Bool) → ltb 15 n ≡ b → digits_of (counted_as m v n k) ≡ n
-    go true e = rw e
-    go false e = rw e
-
-digits-by : (m : Bool) (w f : List ℕ) → digits_of (numeral_by m w f) ≡ length (w ++ f)
+digits-by : (m : Bool) (w f : List ℕ) → digits_of (Some (numeral_by m w f)) ≡ length (w ++ f)
 unfolding numeral_by
-digits-by m w f = counted-digits m _ _ _
+digits-by m w f = refl
 
 -- ---- where the digits end
 
--- of the bytes up to e, those from `from` up to i are digits; none is passed where there are none
-pub record Passed (d : List ℕ) (from e i : ℕ) : Type 0 where
-  pub onward : from ≤ i
-  pub digits : (k : ℕ) → from ≤ k → k < i → is_digit (get_or d k 0) ≡ true
-  pub nothing : e ≤ from → i ≡ from
+-- r is the place of the first byte of d from i on that is no digit; e, if none stands before e
+pub record DigitsEnd (d : List ℕ) (i e r : ℕ) : Type 0 where
+  pub onward : i ≤ r
+  pub digits : (k : ℕ) → i ≤ k → k < r → k < e → is_digit (get_or d k 0) ≡ true
+  pub other : r < e → is_digit (get_or d r 0) ≡ false
+  pub nothing : e ≤ i → r ≡ i
 
-pub passed_none : (d : List ℕ) (from e : ℕ) → Passed d from e from
-passed_none d from e = record { onward = omega arith; digits = λ k a b. absurd (omega arith); nothing = λ n. refl }
+pub digits-end
+    : (d : List ℕ) (i e r : ℕ) → i ≤ e → e ≤ length d → FirstThat (λ b. not (is_digit b)) d i (min e (length d)) r → DigitsEnd d i e r
+digits-end d i e r a h f =
+    let g = first_before (λ b. not (is_digit b)) d i e r h f in
+    let o = g.onward in
+    let w = g.within in
+    record {
+      onward = omega arith;
+      digits = λ k m n l. not-false _ (g.before k m n);
+      other = λ l. not-true _ (g.passes l);
+      nothing = λ n. omega arith;
+    }
 
-module _ (d : List ℕ) (from e i : ℕ) (g : Passed d from e i) where
-  pub end_all : e ≤ i → DigitsEnd d from e i
-  end_all h = record { onward = g.onward; digits = λ k a b l. g.digits k a b; other = λ l. absurd (omega arith); nothing = g.nothing }
-
-  -- what is told from i on, behind these digits
-  pub end_behind : (r : ℕ) → DigitsEnd d i e r → DigitsEnd d from e r
-  end_behind r q =
-      record {
-        onward = omega (arith, g.onward, q.onward);
-        digits = λ k a b l. go k a b l (dec_lt k i);
-        other = q.other;
-        nothing = λ n. let z = g.nothing n in q.nothing (omega arith) ∙ z;
-      }
-    where
-      go : (k : ℕ) → from ≤ k → k < r → k < e → Dec (k < i) → is_digit (get_or d k 0) ≡ true
-      go k a b l (yes n) = g.digits k a n
-      go k a b l (no n) = q.digits k (omega arith) b l
-
-  module _ (h : i < e) where
-    -- n digits more, and one
-    digits_more : (n : ℕ) → ((k : ℕ) → k < n → is_digit (get_or d (i + k) 0) ≡ true) → Passed d from e (i + n)
-    digits_more n f =
-        record {
-          onward = omega (arith, g.onward);
-          digits = λ k a b. go k a b (dec_lt k i);
-          nothing = λ l. absurd (omega (arith, g.onward));
-        }
-      where
-        go : (k : ℕ) → from ≤ k → k < i + n → Dec (k < i) → is_digit (get_or d k 0) ≡ true
-        go k a b (yes l) = g.digits k a l
-        go k a b (no l) =
-            let z : k ≡ i + (k - i) = omega arith in
-            rw z (f (k - i) (omega arith))
-
-    pub digit_more : is_digit (get_or d i 0) ≡ true → Passed d from e (i + 1)
-    digit_more f = digits_more 1 (λ k l. let z : i + k ≡ i = omega arith in rw z f)
-
-    -- no digit behind them
-    end_at : (n : ℕ) → ((k : ℕ) → k < n → is_digit (get_or d (i + k) 0) ≡ true) → is_digit (get_or d (i + n) 0) ≡ false → DigitsEnd d from e (i + n)
-    end_at n f o =
-        let p = digits_more n f in
-        record { onward = p.onward; digits = λ k a b l. p.digits k a b; other = λ l. o; nothing = p.nothing }
-
-    pub end_here : is_digit (get_or d i 0) ≡ false → DigitsEnd d from e i
-    end_here o = rw (add-zero i) at (end_at 0 (λ k l. absurd (omega arith)) (rw (add-zero i) o))
-
-    -- eight bytes at once: w are those from i on, and m flags those of them that are no digit
-    module _
-        (bytes : (k : ℕ) → get_or d k 0 < 256) (fits : i + 8 ≤ length d) (w m : ℕ)
-        (q : w ≡ eight_at d i) (f : Flagged w (λ b. not (is_digit b)) m) where
-      flagged : m ≡ flags (λ k. not (is_digit (on_from d i k)))
-      flagged = flagged_there d i w (λ b. not (is_digit b)) m fits bytes q f
-
-      pub eight_more : m ≡ 0 → Passed d from e (i + 8)
-      eight_more z = digits_more 8 (λ k l. not-false _ (flags-none (λ k. not (is_digit (on_from d i k))) (sym flagged ∙ z) k l))
-
-      pub end_first : (m ≡ 0 → ⊥) → (j : ℕ) → j ≡ first_byte m → DigitsEnd d from e (i + j)
-      end_first n j p =
-          let t = first_of (λ k. not (is_digit (on_from d i k))) m j flagged n p in
-          end_at j (λ k l. not-false _ (t.before k l)) (not-true _ t.passes)
-
-      pub first-few : (m ≡ 0 → ⊥) → (j : ℕ) → j ≡ first_byte m → j < 8
-      first-few n j p = (first_of (λ k. not (is_digit (on_from d i k))) m j flagged n p).within
+-- the digits that std tells
+pub ascii-digit : (x : ℕ) → is_ascii_digit x ≡ is_digit x
+unfolding is_digit
+ascii-digit x = refl
 
 -- ---- how many digits that makes
 

@@ -9,7 +9,7 @@ use lib.ListN.{length, drop}
 use lib.Dec.{eqb}
 use borrow.Author.Tests.{eq-eqb, ne_eqb, eqb-true, le-leb}
 use Rattle.cut.specs.declared.service.Syntax.{Syntax}
-use Rattle.value.specs.declared.prices.Number.TheVariants.{Amount}
+use Rattle.std.specs.Prelude.{Some}
 use Rattle.value.specs.Numeral.{some, none, is_digit, digits_ahead, behind_digits, minus, unsigned, whole, fraction, digits, is_tail, is_number, decimal}
 use Rattle.value.specs.Number.{signed, number_of}
 use Rattle.bytewise.proofs.Booleans.{and_both}
@@ -198,7 +198,7 @@ spelled_number y s m w f g n =
 -- exactness: a number of up to fifteen digits is read as the value of just the digits that stand there, with their sign
 pub number_exact
     : (y : Syntax) (s : List ℕ) (m : Bool) (w f : List ℕ) → Spelling y s m w f → Apart y f → length (w ++ f) ≤ 15
-    → number_of y s ≡ Amount (signed m (decimal (w ++ f))) (length f)
+    → number_of y s ≡ Some (record { amount = signed m (decimal (w ++ f)); decimals = length f })
 unfolding number_of digits
 number_exact y s m w f g n l =
     let p = spelled_number y s m w f g n in

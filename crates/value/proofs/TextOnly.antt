@@ -9,7 +9,7 @@ use lib.ListN.{length, get_or, take}
 use lib.Seq.{take-length, take-suc, length-take-le}
 use lib.Dec.{leb, lit<}
 use borrow.Author.Tests.{eqb-false, leb-true, not-true}
-use Rattle.value.specs.declared.counts.Count.TheVariants.{Is, Nothing}
+use Rattle.std.specs.Prelude.{Some, None}
 use Rattle.value.specs.Numeral.{some, none, is_digit, behind_digits, decimal}
 use Rattle.value.specs.Digits.{padded, is_count, count_of}
 use Rattle.value.specs.Text.{digits_in}
@@ -111,11 +111,11 @@ lean_text (x ∷ []) k h p l = single 19 x (one_digit x h)
 lean_text (x ∷ z ∷ zs) k h p l = lead_text 20 (x ∷ z ∷ zs) l h (eqb-false x 48 p)
 
 -- a count is the decimal text of its value: no two spellings have one value
-pub count_spelled : (s : List ℕ) (n : ℕ) → count_of s ≡ Is n → s ≡ digits_in 20 n
+pub count_spelled : (s : List ℕ) (n : ℕ) → count_of s ≡ Some n → s ≡ digits_in 20 n
 unfolding count_of is_count
 count_spelled s n h = go (some s && (none (behind_digits s) && not (padded s)) && leb (length s) 15) refl h
   where
-    go : (b : Bool) → some s && (none (behind_digits s) && not (padded s)) && leb (length s) 15 ≡ b → cond b (Is (decimal s)) Nothing ≡ Is n → s
+    go : (b : Bool) → some s && (none (behind_digits s) && not (padded s)) && leb (length s) 15 ≡ b → cond b (Some (decimal s)) None ≡ Some n → s
         ≡ digits_in 20 n
     go true e h =
         let v : decimal s ≡ n = cc in

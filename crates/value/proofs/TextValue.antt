@@ -10,8 +10,7 @@ use lib.Dec.{eqb}
 use lib.IntN.{ℤ, pos, negsuc, nat_abs}
 use borrow.Author.Tests.{eqb-true, eqb-false, le-leb}
 use Rattle.cut.specs.declared.service.Syntax.{Syntax}
-use Rattle.value.specs.declared.counts.Count.TheVariants.{Is}
-use Rattle.value.specs.declared.prices.Number.TheVariants.{Amount}
+use Rattle.std.specs.Prelude.{Some}
 use Rattle.value.specs.Numeral.{some, none, is_digit, decimal}
 use Rattle.value.specs.Number.{signed, number_of}
 use Rattle.value.specs.Digits.{padded, is_count, count_of}
@@ -110,7 +109,7 @@ lean zero h = (refl, refl)
 lean (suc n) h = first-other (digits_in 20 (suc n)) (digits-first 20 (suc n) h (λ e. absurd (omega arith)))
 
 -- the digits of a number, read as a count, are that number
-pub count_of_text : (n : ℕ) → n < 10 ^ 15 → count_of (digits_in 20 n) ≡ Is n
+pub count_of_text : (n : ℕ) → n < 10 ^ 15 → count_of (digits_in 20 n) ≡ Some n
 unfolding count_of is_count none
 count_of_text n h =
     let k : n < 10 ^ 20 = omega arith in
@@ -128,15 +127,15 @@ spelled_digits y m n h =
       fraction-digits = refl;
     }
 
-read_back : (y : Syntax) (m : Bool) (n : ℕ) → n < 10 ^ 15 → number_of y (sign m ++ digits_in 20 n) ≡ Amount (signed m n) 0
+read_back : (y : Syntax) (m : Bool) (n : ℕ) → n < 10 ^ 15 → number_of y (sign m ++ digits_in 20 n) ≡ Some (record { amount = signed m n; decimals = 0 })
 read_back y m n h =
     let k : n < 10 ^ 20 = omega arith in
     let l : length (digits_in 20 n ++ []) ≤ 15 = rw (append-nil (digits_in 20 n)) (digits-few 20 14 n h) in
     number_exact y _ m (digits_in 20 n) [] (spelled_digits y m n k) (no_fraction y) l
-    ∙ ap (λ (v : ℕ). Amount (signed m v) 0) (ap decimal (append-nil (digits_in 20 n)) ∙ digits_decimal 20 n k)
+    ∙ ap (λ (v : ℕ). Some (record { amount = signed m v; decimals = 0 })) (ap decimal (append-nil (digits_in 20 n)) ∙ digits_decimal 20 n k)
 
 -- an amount that was printed is read as that amount, with no decimals
-pub number_of_text : (y : Syntax) (z : ℤ) → nat_abs z < 10 ^ 15 → number_of y (text_of z) ≡ Amount z 0
+pub number_of_text : (y : Syntax) (z : ℤ) → nat_abs z < 10 ^ 15 → number_of y (text_of z) ≡ Some (record { amount = z; decimals = 0 })
 unfolding text_of sign
 number_of_text y (pos n) h = read_back y false n h
 number_of_text y (negsuc n) h = read_back y true (suc n) h

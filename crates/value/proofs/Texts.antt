@@ -184,13 +184,6 @@ module _ (z : ℤ) (f : SFits w64 z) (r m : ℕ) (p : m ≡ nat_abs (to_z w64 (o
         let e : 20 - (20 - r) ≡ r = omega arith in
         (omega (arith, ap length t), w ∙ ap₂ (λ (n : ℕ) (t : List ℕ). take n row ++ t) (sym e) (sym t))
 
--- what is said of the bits of z, said of z
-pub text_of_bits
-    : (z : ℤ) → SFits w64 z → (r : ℕ) (row out : List ℕ)
-    → (r ≡ length (text_of (to_z w64 (of_z w64 z)))) × (out ≡ take (20 - r) row ++ text_of (to_z w64 (of_z w64 z)))
-    → (r ≡ length (text_of z)) × (out ≡ take (20 - r) row ++ text_of z)
-text_of_bits z f r row out h = rw (to_z-of_z f) at h
-
 -- from where the digits begin, how many they are
 pub digits-put
     : (m r : ℕ) (row out : List ℕ) → (r + length (digits_in 20 m) ≡ 20) × (out ≡ take r row ++ digits_in 20 m)

@@ -14,7 +14,7 @@ use mir.Facts.{sfits_to_z, Fits-of_z}
 use borrow.Author.Tests.{leb-true, eqb-true, le-leb, lt-leb}
 use Rattle.cut.specs.declared.service.Syntax.{Syntax}
 use Rattle.value.specs.declared.formats.Format.TheVariants.{AnUpTo, NUpTo, N}
-use Rattle.value.specs.declared.prices.Number.TheVariants.{Amount, Nothing}
+use Rattle.std.specs.Prelude.{Some, None}
 use Rattle.value.specs.Numeral.{minus, fraction, digits, is_number, decimal}
 use Rattle.value.specs.Format.{fits_format}
 use Rattle.value.specs.Number.{signed, number_of}
@@ -54,14 +54,14 @@ n_fits y k s h =
 -- a price that fits its format, n..15, has an amount
 pub fits-amount
     : (y : Syntax) (k : ℕ) (s : List ℕ) → fits_format y (NUpTo k) s ≡ true → k ≤ 15
-    → number_of y s ≡ Amount (signed (minus s) (decimal (digits s))) (length (fraction s))
+    → number_of y s ≡ Some (record { amount = signed (minus s) (decimal (digits s)); decimals = length (fraction s) })
 unfolding number_of
 fits-amount y k s h l =
     let p = n_up_to-fits y k s h in
     rw (p.0, le-leb (length (digits s)) 15 (omega arith))
 
 -- more than fifteen digits have none
-pub number_long : (y : Syntax) (s : List ℕ) → 15 < length (digits s) → number_of y s ≡ Nothing
+pub number_long : (y : Syntax) (s : List ℕ) → 15 < length (digits s) → number_of y s ≡ None
 unfolding number_of
 number_long y s h = rw (lt-leb (length (digits s)) 15 h, and-false)
 

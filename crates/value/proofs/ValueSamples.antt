@@ -5,23 +5,23 @@ use mathlib.Core.List.{[], ◌∷◌}
 use lib.IntN.{pos, negsuc}
 use Rattle.cut.specs.Base.{edifact}
 use Rattle.cut.specs.Segments.{frees}
-use Rattle.value.specs.declared.prices.Number.TheVariants.{Amount}
+use Rattle.std.specs.Prelude.{Some}
 use Rattle.plain.specs.Plain.{plain, unless_mark}
 use Rattle.value.specs.Numeral.{some, none, is_digit, digits_ahead, behind_digits, minus, unsigned, whole, fraction, digits, is_tail, is_number, decimal}
 use Rattle.value.specs.Number.{number_of}
 use Rattle.value.specs.Text.{digits_in, text_of}
 
 -- "168.06 is 16806 and 2"
-price : number_of edifact (49 ∷ 54 ∷ 56 ∷ 46 ∷ 48 ∷ 54 ∷ []) ≡ Amount (pos 16806) 2
+price : number_of edifact (49 ∷ 54 ∷ 56 ∷ 46 ∷ 48 ∷ 54 ∷ []) ≡ Some (record { amount = pos 16806; decimals = 2 })
 unfolding number_of is_number digits whole fraction minus unsigned digits_ahead behind_digits is_tail is_digit some none decimal
 price = refl
 
 -- "-0 is 0 and 0"; "-0.00 is 0 and 2"
-zero-signed : number_of edifact (45 ∷ 48 ∷ []) ≡ Amount (pos 0) 0
+zero-signed : number_of edifact (45 ∷ 48 ∷ []) ≡ Some (record { amount = pos 0; decimals = 0 })
 unfolding number_of is_number digits whole fraction minus unsigned digits_ahead behind_digits is_tail is_digit some none decimal
 zero-signed = refl
 
-zero-decimals : number_of edifact (45 ∷ 48 ∷ 46 ∷ 48 ∷ 48 ∷ []) ≡ Amount (pos 0) 2
+zero-decimals : number_of edifact (45 ∷ 48 ∷ 46 ∷ 48 ∷ 48 ∷ []) ≡ Some (record { amount = pos 0; decimals = 2 })
 unfolding number_of is_number digits whole fraction minus unsigned digits_ahead behind_digits is_tail is_digit some none decimal
 zero-decimals = refl
 

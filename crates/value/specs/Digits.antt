@@ -1,7 +1,5 @@
 -- Counts. Document 01, 'Message rules': "Counts and position numbers are digits alone, without leading zeros".
-use Rattle.std.specs.Prelude.{ℕ, Bool, false, not, ◌&&◌, cond, List, [], ◌∷◌, length, leb, eqb}
-use Rattle.value.specs.declared.counts.Count.{Count}
-use Rattle.value.specs.declared.counts.Count.TheVariants.{Is, Nothing}
+use Rattle.std.specs.Prelude.{ℕ, Bool, false, not, ◌&&◌, cond, List, [], ◌∷◌, length, leb, eqb, Option, Some, None}
 use Rattle.value.specs.Numeral.{some, none, behind_digits, decimal}
 
 -- a leading zero is one with another byte behind it: `0` by itself has none
@@ -15,5 +13,5 @@ unfoldable pub is_count : List ℕ → Bool
 is_count s = some s && (none (behind_digits s) && not (padded s))
 
 -- their value, up to fifteen digits
-unfoldable pub count_of : List ℕ → Count
-count_of s = cond (is_count s && leb (length s) 15) (Is (decimal s)) Nothing
+unfoldable pub count_of : List ℕ → Option ℕ
+count_of s = cond (is_count s && leb (length s) 15) (Some (decimal s)) None

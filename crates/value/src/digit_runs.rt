@@ -1,60 +1,30 @@
 // How many digits a number has that is read as it stands: no byte of it is taken for a release mark.
-ghost use Rattle.std.specs.Prelude.{◌≤◌, ◌<◌, not, ◌≡◌, length};
+ghost use Rattle.std.specs.Prelude.{◌<◌, not, ◌≡◌, length};
 ghost use Rattle.bytewise.specs.Bytes.{part};
-ghost use Rattle.bytewise.specs.Eights.{Flagged};
 ghost use Rattle.value.specs.Numeral.{is_digit, digit_count};
-ghost use Rattle.value.specs.workers.Scans.{DigitsEnd, behind_sign};
+ghost use Rattle.value.specs.workers.Scans.{behind_sign};
 
-use crate::numeral::is_digit;
-use bytewise::limit_of;
-use cut::Syntax;
+use bytewise::{ByteTest, first_that, limit_of};
+use cut::Delivery;
 
-// Which of eight bytes are no digit: a byte without its high bit is 58 or more, or less than 48, or has that bit. No sum reaches the next byte.
-fn others_in(w: u64) -> u64
-    ensures { Flagged w (λ b. not (is_digit b)) result }
-{
-    let low = w & 0x7f7f_7f7f_7f7f_7f7f;
-    let above = low + 0x4646_4646_4646_4646;
-    let digit = low + 0x5050_5050_5050_5050;
-    (above | (digit ^ 0x8080_8080_8080_8080) | w) & 0x8080_8080_8080_8080
-}
+// The bytes that are no digit.
+#[derive(Clone, Copy)]
+struct Others;
 
-// Where the digits from `from` on end, byte by byte: for the last bytes of a delivery.
-fn single_digits_end(d: &[u8], from: usize, e: usize) -> usize
-    requires { e ≤ length d.now }
-    ensures { DigitsEnd d.now from e result }
-{
-    let mut i = from;
-    while i < e {
-        if !is_digit(d[i]) {
-            return i;
-        }
-        i += 1;
+impl ByteTest for Others {
+    ghost holds = { λ _ x. not (is_digit x) };
+
+    // A byte without its high bit is 58 or more, or less than 48, or has that bit. No sum reaches the next byte.
+    fn flags(&self, w: u64) -> u64 {
+        let low = w & 0x7f7f_7f7f_7f7f_7f7f;
+        let above = low + 0x4646_4646_4646_4646;
+        let digit = low + 0x5050_5050_5050_5050;
+        (above | (digit ^ 0x8080_8080_8080_8080) | w) & 0x8080_8080_8080_8080
     }
-    i
-}
 
-// The same by eight bytes at once, as long as eight stand there.
-fn digits_end(d: &[u8], from: usize, e: usize) -> usize
-    requires { e ≤ length d.now }
-    ensures { DigitsEnd d.now from e result }
-{
-    if d.len() < 8 {
-        return single_digits_end(d, from, e);
+    fn passes(&self, x: u8) -> bool {
+        !x.is_ascii_digit()
     }
-    let last = d.len() - 8;
-    let mut i = from;
-    while i < e {
-        if last < i {
-            return single_digits_end(d, i, e);
-        }
-        let m = others_in(bytewise::eight_at(d, i));
-        if m != 0 {
-            return i + bytewise::first_of(m);
-        }
-        i += 8;
-    }
-    i
 }
 
 // Where a number that begins at a begins without its sign.
@@ -69,25 +39,25 @@ fn behind_sign(d: &[u8], a: usize) -> usize
 }
 
 // How many digits the number has that the bytes from a up to e are; 0 where they are none.
-pub fn plain_digits(y: Syntax, d: &[u8], a: usize, e: usize) -> usize
-    ensures { result ≡ digit_count y (part a e d.now) }
+pub fn plain_digits(d: Delivery<'_>, a: usize, e: usize) -> usize
+    ensures { result ≡ digit_count d.entry.syntax (part a e d.entry.bytes.now) }
 {
-    let end = limit_of(d, e);
+    let end = limit_of(d.bytes, e);
     if end <= a {
         return 0;
     }
-    let from = behind_sign(d, a);
-    let mark = digits_end(d, from, end);
+    let from = behind_sign(d.bytes, a);
+    let mark = first_that(&Others, d.bytes, from, end);
     if mark <= from {
         return 0;
     }
     if end <= mark {
         return end - from;
     }
-    if d[mark] != y.decimal {
+    if d.bytes[mark] != d.syntax.decimal {
         return 0;
     }
-    let last = digits_end(d, mark + 1, end);
+    let last = first_that(&Others, d.bytes, mark + 1, end);
     if last <= mark + 1 {
         return 0;
     }

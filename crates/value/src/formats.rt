@@ -4,12 +4,12 @@ ghost use Rattle.plain.specs.Plain.{decoded};
 ghost use Rattle.value.specs.Format.{fits_format};
 ghost use Rattle.value.specs.workers.Scans.{digits_of, numeral_of};
 
-use crate::numeral::{Numeral, numeral_of};
-use cut::Syntax;
+use crate::numeral::numeral_of;
+use cut::Delivery;
 use plain::plain_length;
 
 // an..k, ank, n..k and nk.
-#[derive(Clone, Copy)]
+#[derive(Clone, Copy, PartialEq, Eq, Debug)]
 pub enum Format {
     AnUpTo(usize),
     An(usize),
@@ -17,56 +17,38 @@ pub enum Format {
     N(usize),
 }
 
-// 1 to k.
+// Whether n is 1 to k.
 fn up_to(n: usize, k: usize) -> bool
     ensures { result ≡ (leb 1 n && leb n k) }
 {
-    if n < 1 {
-        return false;
-    }
-    n <= k
+    (1..=k).contains(&n)
 }
 
-// Just k, and not none.
+// Whether n is just k, and not none.
 fn exactly(n: usize, k: usize) -> bool
     ensures { result ≡ (leb 1 n && eqb n k) }
 {
-    if n < 1 {
-        return false;
-    }
-    n == k
-}
-
-fn digits_in(n: Numeral) -> usize
-    ensures { result ≡ digits_of n }
-{
-    match n {
-        Numeral::Short {
-            minus: _,
-            value: _,
-            digits,
-            decimals: _,
-        } => digits,
-        Numeral::Long(digits) => digits,
-        Numeral::Other => 0,
-    }
+    1 <= n && n == k
 }
 
 // How many digits the number has that the part is, decoded; 0 where it is none.
-fn digit_count(y: Syntax, d: &[u8], a: usize, e: usize) -> usize
-    ensures { result ≡ digits_of (numeral_of y (decoded y a e d.now)) }
+fn digit_count(d: Delivery<'_>, a: usize, e: usize) -> usize
+    ensures { result ≡ digits_of (numeral_of d.entry.syntax (decoded d.entry.syntax a e d.entry.bytes.now)) }
 {
-    digits_in(numeral_of(y, d, a, e))
+    match numeral_of(d, a, e) {
+        Some(n) => n.digits,
+        None => 0,
+    }
 }
 
 // Whether the part, decoded, has the format. A number has at least one digit, so neither n..0 nor n0 is ever met.
-pub fn fits(y: Syntax, d: &[u8], a: usize, e: usize, format: Format) -> bool
-    ensures { result ≡ fits_format y format (decoded y a e d.now) }
+pub fn fits(d: Delivery<'_>, a: usize, e: usize, format: Format) -> bool
+    ensures { result ≡ fits_format d.entry.syntax format (decoded d.entry.syntax a e d.entry.bytes.now) }
 {
     match format {
-        Format::AnUpTo(k) => up_to(plain_length(y, d, a, e), k),
-        Format::An(k) => plain_length(y, d, a, e) == k,
-        Format::NUpTo(k) => up_to(digit_count(y, d, a, e), k),
-        Format::N(k) => exactly(digit_count(y, d, a, e), k),
+        Format::AnUpTo(k) => up_to(plain_length(d, a, e), k),
+        Format::An(k) => plain_length(d, a, e) == k,
+        Format::NUpTo(k) => up_to(digit_count(d, a, e), k),
+        Format::N(k) => exactly(digit_count(d, a, e), k),
     }
 }

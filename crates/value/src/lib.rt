@@ -9,8 +9,8 @@ mod numeral;
 mod prices;
 mod text;
 
-pub use counts::{Count, count_of};
+pub use counts::count_of;
 pub use digit_runs::plain_digits;
 pub use formats::{Format, fits};
-pub use prices::{Number, number_of};
+pub use prices::{Amount, number_of};
 pub use text::{count_text, decimal_text};

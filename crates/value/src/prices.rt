@@ -3,14 +3,14 @@ ghost use Rattle.std.specs.Prelude.{◌<◌, ◌^◌, ◌≡◌};
 ghost use Rattle.plain.specs.Plain.{decoded};
 ghost use Rattle.value.specs.Number.{signed, number_of};
 
-use crate::numeral::{Numeral, numeral_of};
-use cut::Syntax;
+use crate::numeral::numeral_of;
+use cut::Delivery;
 
-// 168.06 is 16806 and 2; what is no number, or has more than fifteen digits, has no value here.
-#[derive(Clone, Copy)]
-pub enum Number {
-    Amount { amount: i64, decimals: u8 },
-    Nothing,
+// 168.06 is 16806 and 2.
+#[derive(Clone, Copy, PartialEq, Eq, Debug)]
+pub struct Amount {
+    pub amount: i64,
+    pub decimals: u8,
 }
 
 // The amount is made last: no test is made on a signed number.
@@ -25,22 +25,14 @@ fn with_sign(minus: bool, value: u64) -> i64
     amount
 }
 
-// The number that the part is, decoded.
-pub fn number_of(y: Syntax, d: &[u8], a: usize, e: usize) -> Number
-    ensures { result ≡ number_of y (decoded y a e d.now) }
+// The number that the part is, decoded; what is no number, or has more than fifteen digits, has no value here.
+pub fn number_of(d: Delivery<'_>, a: usize, e: usize) -> Option<Amount>
+    ensures { result ≡ number_of d.entry.syntax (decoded d.entry.syntax a e d.entry.bytes.now) }
 {
-    let n = numeral_of(y, d, a, e);
-    match n {
-        Numeral::Short {
-            minus,
-            value,
-            digits: _,
-            decimals,
-        } => Number::Amount {
-            amount: with_sign(minus, value),
-            decimals: decimals as u8,
-        },
-        Numeral::Long(_) => Number::Nothing,
-        Numeral::Other => Number::Nothing,
-    }
+    let n = numeral_of(d, a, e)?;
+    let value = n.value?;
+    Some(Amount {
+        amount: with_sign(n.minus, value),
+        decimals: n.decimals as u8,
+    })
 }

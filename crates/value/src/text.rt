@@ -1,20 +1,10 @@
 // A number as decimal text: what a program prints of an amount.
-ghost use Rattle.std.specs.Prelude.{◌+◌, ◌-◌, ◌<◌, ◌≡◌, ◌++◌, length, take, nat_abs};
+ghost use Rattle.std.specs.Prelude.{◌+◌, ◌-◌, ◌≡◌, ◌++◌, length, take};
 ghost use Rattle.value.specs.Text.{digits_in, text_of};
 
-// How far n is from 0; the least i64 has no positive counterpart, so the sum is made behind the cast.
-fn magnitude(n: i64) -> u64
-    ensures { result ≡ nat_abs n }
-{
-    if n < 0 {
-        return (-(n + 1)) as u64 + 1;
-    }
-    n as u64
-}
-
-// Writes the digits of m to the end of the row and answers where they begin.
-fn put_digits(m: u64, out: &mut [u8]) -> usize
-    requires { length out.old ≡ 20 }
+// Writes the digits of m to the end of the row and answers where they begin. The last digit ends the loop; a `for` over the row would have an end that is
+// never reached.
+fn put_digits(m: u64, out: &mut [u8; 20]) -> usize
     ensures m_value { result + length (digits_in 20 m) ≡ 20 }
     ensures out_after { out.new ≡ take result out.old ++ digits_in 20 m }
 {
@@ -23,25 +13,11 @@ fn put_digits(m: u64, out: &mut [u8]) -> usize
     loop {
         at -= 1;
         out[at] = b'0' + (left % 10) as u8;
-        left = left / 10;
+        left /= 10;
         if left == 0 {
             return at;
         }
     }
-}
-
-// The decimal text of n at the end of a row of twenty bytes.
-fn put_text(n: i64, out: &mut [u8]) -> usize
-    requires { length out.old ≡ 20 }
-    ensures value { result ≡ length (text_of n) }
-    ensures out_after { out.new ≡ take (20 - result) out.old ++ text_of n }
-{
-    let at = put_digits(magnitude(n), out);
-    if n < 0 {
-        out[at - 1] = b'-';
-        return 21 - at;
-    }
-    20 - at
 }
 
 // Writes the decimal text of n to the end of the row and answers its length; what stands before it stays.
@@ -49,7 +25,12 @@ pub fn decimal_text(n: i64, out: &mut [u8; 20]) -> usize
     ensures value { result ≡ length (text_of n) }
     ensures out_after { out.new ≡ take (20 - result) out.old ++ text_of n }
 {
-    put_text(n, out)
+    let at = put_digits(n.unsigned_abs(), out);
+    if n < 0 {
+        out[at - 1] = b'-';
+        return 21 - at;
+    }
+    20 - at
 }
 
 // The same for a whole number without a sign.
@@ -57,6 +38,5 @@ pub fn count_text(n: u64, out: &mut [u8; 20]) -> usize
     ensures value { result ≡ length (digits_in 20 n) }
     ensures out_after { out.new ≡ take (20 - result) out.old ++ digits_in 20 n }
 {
-    let at = put_digits(n, out);
-    20 - at
+    20 - put_digits(n, out)
 }

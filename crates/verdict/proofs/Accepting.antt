@@ -29,7 +29,7 @@ use Rattle.guide.proofs.Heading.{pricat20d-foremost, pricat20c-foremost}
 use Rattle.guide.proofs.judging.Verdicts.{accepts_refuses}
 use Rattle.guide.proofs.JudgedProper.{accepts_iff}
 use Rattle.agree.specs.declared.first.Agreeing.{Agreeing}
-use Rattle.agree.specs.declared.first.Agreeing.TheVariants.{At, Nothing}
+use Rattle.std.specs.Prelude.{Option, Some, None}
 use Rattle.agree.proofs.Refusal.{searched, accepted_iff}
 use Rattle.verdict.specs.Named.{edition_of, guide_named, pages_named}
 use Rattle.verdict.specs.Verdicts.{named_of, nodes_of, for_intervals, unless_agreeing, settled, verdict_from, verdict_of}
@@ -59,11 +59,11 @@ module _
 
     -- where the rule applies
     settled-compared
-        : (v : Proper y g pages m) → free ≡ false → (a : Agreeing) → searched y m ≡ a → (n e k o : ℕ)
+        : (v : Proper y g pages m) → free ≡ false → (a : Option Agreeing) → searched y m ≡ a → (n e k o : ℕ)
         → unless_agreeing y g ss a (accepts n e) ≡ accepts k o → (Accepted y g pages m) × (n ≡ k) × (e ≡ o)
     unfolding unless_agreeing
-    settled-compared v b (At i x) s n e k o w = absurd (accepts_refuses (sym w))
-    settled-compared v b Nothing s n e k o w = ((accepted_iff y g u p f pages m v).1 (λ r. s), cc, cc)
+    settled-compared v b (Some x) s n e k o w = absurd (accepts_refuses (sym w))
+    settled-compared v b None s n e k o w = ((accepted_iff y g u p f pages m v).1 (λ r. s), cc, cc)
 
     settled-accepted
         : (v : Verdict) → judged y g pages m ≡ v → (k o : ℕ) → settles v ≡ accepts k o → Stands k o

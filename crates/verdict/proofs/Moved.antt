@@ -37,7 +37,7 @@ use Rattle.guide.specs.workers.Judging.{
 use Rattle.agree.specs.Agreement.{Heading}
 use Rattle.agree.specs.Positions.{Listed, next_if, behind_if, heading_from, positions_from, positions_of, agrees_any, first_after, first_agreeing}
 use Rattle.agree.specs.declared.first.Agreeing.{Agreeing}
-use Rattle.agree.specs.declared.first.Agreeing.TheVariants.{At, Nothing}
+use Rattle.std.specs.Prelude.{Option, Some, None}
 use Rattle.verdict.specs.Named.{edition_of, guide_named, pages_named}
 use Rattle.verdict.specs.Verdicts.{named_of, nodes_of, node_of, for_intervals, unless_agreeing, settled, verdict_from, verdict_of}
 use Rattle.verdict.specs.Moves.{moved_verdict}
@@ -88,9 +88,9 @@ abbrev moved_listed : ℕ → Listed → Listed
 moved_listed k p = record { number = p.number; place = k + p.place; heading = p.heading }
 
 -- the same answer of the search k places later
-unfoldable moved_agreeing : ℕ → Agreeing → Agreeing
-moved_agreeing k (At i p) = At i (k + p)
-moved_agreeing k Nothing = Nothing
+unfoldable moved_agreeing : ℕ → Option Agreeing → Option Agreeing
+moved_agreeing k (Some a) = Some (record { segment = a.segment; place = k + a.place })
+moved_agreeing k None = None
 
 -- the position of a LIN that has the number n and stands before the segments ss
 abbrev listed : ℕ → Segment → List Segment → Listed
@@ -135,7 +135,10 @@ module _ (k : ℕ) where
   first-moved y earlier [] = refl
   first-moved y earlier (p ∷ ps) = rw (first-moved y (earlier ++ (p.heading ∷ [])) ps) (go (agrees_any y p.heading earlier) _)
     where
-      go : (b : Bool) (a : Agreeing) → cond b (At p.number (k + p.place)) (moved_agreeing k a) ≡ moved_agreeing k (cond b (At p.number p.place) a)
+      go
+          : (b : Bool) (a : Option Agreeing)
+          → cond b (Some (record { segment = p.number; place = k + p.place })) (moved_agreeing k a)
+          ≡ moved_agreeing k (cond b (Some (record { segment = p.number; place = p.place })) a)
       go true a = refl
       go false a = refl
 
@@ -161,11 +164,11 @@ module _ (y : Syntax) (g : Guide) (k : ℕ) where
   intervals-moved (n ∷ ns) (s ∷ ss) = rw (intervals-moved ns ss)
 
   unless-moved
-      : (ss : List Segment) (a : Agreeing) (v : Verdict)
+      : (ss : List Segment) (a : Option Agreeing) (v : Verdict)
       → unless_agreeing y g (map (moved k) ss) (moved_agreeing k a) (moved_verdict k v) ≡ moved_verdict k (unless_agreeing y g ss a v)
   unfolding unless_agreeing moved_agreeing moved_verdict node_of
-  unless-moved ss Nothing v = refl
-  unless-moved ss (At i p) v = rw (nodes_moved ss)
+  unless-moved ss None v = refl
+  unless-moved ss (Some a) v = rw (nodes_moved ss)
 
   settled-moved : (ss : List Segment) (v : Verdict) → settled y g (map (moved k) ss) (moved_verdict k v) ≡ moved_verdict k (settled y g ss v)
   unfolding settled moved_verdict

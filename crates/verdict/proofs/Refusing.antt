@@ -31,7 +31,7 @@ use Rattle.guide.proofs.judging.Verdicts.{accepts_refuses}
 use Rattle.guide.proofs.JudgedProper.{accepts_iff}
 use Rattle.guide.proofs.JudgedRefused.{refuses_iff}
 use Rattle.agree.specs.declared.first.Agreeing.{Agreeing}
-use Rattle.agree.specs.declared.first.Agreeing.TheVariants.{At, Nothing}
+use Rattle.std.specs.Prelude.{Option, Some, None}
 use Rattle.agree.proofs.Refusal.{searched, repeats_iff, repeats-found, repeated-node}
 use Rattle.verdict.specs.Named.{edition_of, guide_named, pages_named}
 use Rattle.verdict.specs.Verdicts.{named_of, nodes_of, node_of, for_intervals, unless_agreeing, settled, verdict_of}
@@ -70,12 +70,14 @@ module _
 
     -- all else holds, and the rule applies
     agreement_refused
-        : (v : Proper y g pages m) → free ≡ false → (x : Agreeing) → searched y m ≡ x → (s e k i a n : ℕ)
+        : (v : Proper y g pages m) → free ≡ false → (x : Option Agreeing) → searched y m ≡ x → (s e k i a n : ℕ)
         → unless_agreeing y g ss x (accepts s e) ≡ refuses k i a n → RefusedWith k i a n
     unfolding unless_agreeing
-    agreement_refused v b Nothing j s e k i a n w = absurd (accepts_refuses w)
-    agreement_refused v b (At i' a') j s e k i a n w =
+    agreement_refused v b None j s e k i a n w = absurd (accepts_refuses w)
+    agreement_refused v b (Some x) j s e k i a n w =
         let c = (compared_iff y g u p ss v.sheet).0 b in
+        let i' = x.segment in
+        let a' = x.place in
         let r = (repeats_iff y g u p f pages m v c i' a').0 j in
         let o : refuses 23 i' a' (number_of g r.0) ≡ refuses k i a n =
         ap (λ (x : ℕ). refuses 23 i' a' (number_of g x)) (sym (node-named i' a' r.0 r.1)) ∙ w in

@@ -1,2 +1,3 @@
 pub mod Until
 pub mod Judging
+pub mod Onward

@@ -1,6 +1,6 @@
 -- The verdict of a message. Document 01, 'Refusal numbers': "23 comes only when all else holds; it names the first LIN that agrees with an
 -- earlier one."
-use Rattle.std.specs.Prelude.{ℕ, Bool, false, ◌&&◌, ◌||◌, cond, List, [], ◌∷◌, map, get_or}
+use Rattle.std.specs.Prelude.{ℕ, Bool, false, ◌&&◌, ◌||◌, cond, List, [], ◌∷◌, map, get_or, Option, Some, None}
 use Rattle.cut.specs.declared.service.Syntax.{Syntax}
 use Rattle.bytewise.specs.Bytes.{bytes_of}
 use Rattle.cut.specs.Segments.{Segment}
@@ -18,7 +18,6 @@ use Rattle.guide.specs.Editions.{guide_of, pages_of}
 use Rattle.verdict.specs.Named.{edition_of, guide_named, pages_named}
 use Rattle.agree.specs.Positions.{positions_of, first_agreeing}
 use Rattle.agree.specs.declared.first.Agreeing.{Agreeing}
-use Rattle.agree.specs.declared.first.Agreeing.TheVariants.{At, Nothing}
 
 module _ (y : Syntax) (g : Guide) where
   -- the nodes that the segments are given, one after the other
@@ -37,9 +36,9 @@ module _ (y : Syntax) (g : Guide) where
       (is_tag g (bytes_of "BGM") n && same (text y s.bytes 1 0) (bytes_of "Z04")) || for_intervals ns ss
 
   -- 23, "position agrees with an earlier one", if one does, and else the verdict v; "the segment's node" is named, by its number in the guide
-  unfoldable pub unless_agreeing : List Segment → Agreeing → Verdict → Verdict
-  unless_agreeing ss Nothing v = v
-  unless_agreeing ss (At i p) v = refuses 23 i p (number_of g (node_of ss i))
+  unfoldable pub unless_agreeing : List Segment → Option Agreeing → Verdict → Verdict
+  unless_agreeing ss None v = v
+  unless_agreeing ss (Some a) v = refuses 23 a.segment a.place (number_of g (node_of ss a.segment))
 
   -- "23 comes only when all else holds": what comes of the verdict without it
   unfoldable pub settled : List Segment → Verdict → Verdict

@@ -3,85 +3,72 @@ ghost use Rattle.std.specs.Prelude.{suc, ◌<◌, ◌^◌, ◌≡◌, false, []}
 ghost use Rattle.bytewise.specs.Bytes.{part};
 ghost use Rattle.value.specs.Digits.{count_of};
 ghost use Rattle.guide.specs.Content.{text};
+ghost use Rattle.guide.specs.Reasons.{fault_number};
 ghost use Rattle.guide.specs.workers.Judging.{is};
 ghost use Rattle.page.specs.Reading.{segment_in};
 ghost use Rattle.verdict.specs.workers.Segments.{spanned, noted, end_fault_in, rule_by};
 
 use crate::kept::Kept;
 use crate::roles::Role;
-use cut::Syntax;
+use cut::Delivery;
 use element::{Span, component_at};
-use guide::Edition;
+use guide::{Edition, Reason};
+use page::Reading;
 use plain::same_plain;
-use value::{Count, count_of};
+use value::count_of;
 
 // Whether the component `first` is the count n.
-fn is_numbered(y: Syntax, d: &[u8], first: Span, n: usize) -> bool
-    ensures { result ≡ is n (count_of (spanned y first d.now)) }
+fn is_numbered(d: Delivery<'_>, first: Span, n: usize) -> bool
+    ensures { result ≡ is n (count_of (spanned d.entry.syntax first d.entry.bytes.now)) }
 {
-    let a = first.start;
-    let e = first.end;
-    match count_of(y, d, a, e) {
-        Count::Is(k) => k == n as u64,
-        Count::Nothing => false,
-    }
+    count_of(d, first.start, first.end) == Some(n as u64)
 }
 
-// 21 of UNT, which is segment i; 0 if its count, the component `first`, and its reference are right.
+// 21 of UNT, which is segment i from `start` on: its count and its reference are right, or not.
 fn end_fault(
-    y: Syntax,
     edition: Edition,
-    d: &[u8],
+    d: Delivery<'_>,
     start: usize,
-    end: usize,
-    first: Span,
+    read: Reading,
     i: usize,
     reference: Span,
-) -> u32
-    requires { spanned y first d.now ≡ text y (part start end d.now) 1 0 }
-    ensures { result ≡ end_fault_in edition y d.now start end i reference }
+) -> Result<(), Reason>
+    requires { spanned d.syntax read.first d.bytes.now ≡ text d.syntax (part start read.end d.bytes.now) 1 0 }
+    ensures { fault_number result ≡ end_fault_in edition d.entry.syntax d.entry.bytes.now start read.end i reference }
 {
-    if !is_numbered(y, d, first, i) {
-        return 21;
+    if !is_numbered(d, read.first, i) {
+        return Err(Reason::WrongEnd);
     }
-    let span = component_at(y, d, start, end, 2, 0);
-    let a = span.start;
-    let e = span.end;
-    let b = reference.start;
-    let f = reference.end;
-    if !same_plain(y, d, a, e, b, f) {
-        return 21;
+    let span = component_at(d, start, read.end, 2, 0);
+    if !same_plain(d, span.start, span.end, reference.start, reference.end) {
+        return Err(Reason::WrongEnd);
     }
-    0
+    Ok(())
 }
 
-// 21 or 22 of segment i, whose first component behind the tag is `first`; 0 if it is neither UNT nor LIN, or right.
+// 21 or 22 of segment i, which stands from `start` on and was read without a fault; none, if it is neither UNT nor LIN.
 pub(crate) fn rule_fault(
-    y: Syntax,
     edition: Edition,
-    d: &[u8],
+    d: Delivery<'_>,
     start: usize,
-    end: usize,
-    first: Span,
+    read: Reading,
     i: usize,
     role: Role,
     kept: Kept,
-) -> u32
+) -> Result<(), Reason>
     requires positions_bound { suc kept.positions < 2 ^ 64 }
-    requires d_value { spanned y first d.now ≡ text y (part start end d.now) 1 0 }
-    ensures { result ≡ rule_by edition y i (noted y kept [] d.now) role (segment_in start end false d.now) }
+    requires d_value { spanned d.syntax read.first d.bytes.now ≡ text d.syntax (part start read.end d.bytes.now) 1 0 }
+    ensures { fault_number result
+        ≡ rule_by edition d.entry.syntax i (noted d.entry.syntax kept [] d.entry.bytes.now) role (segment_in start read.end false d.entry.bytes.now) }
 {
     match role {
-        Role::Unt => {
-            let reference = kept.reference;
-            end_fault(y, edition, d, start, end, first, i, reference)
-        }
+        Role::Unt => end_fault(edition, d, start, read, i, kept.reference),
         Role::Lin => {
-            if is_numbered(y, d, first, kept.positions + 1) {
-                return 0;
+            if !is_numbered(d, read.first, kept.positions + 1) {
+                return Err(Reason::WrongLine);
             }
-            22
+            Ok(())
         }
-        Role::Unh | Role::Bgm | Role::Other => 0,
+        Role::Unh | Role::Bgm | Role::Other => Ok(()),
     }
 }

@@ -10,5 +10,5 @@ mod message;
 mod roles;
 mod segment;
 
-pub use answers::{Judged, Verdict};
+pub use answers::{Accepted, Judged, Refused, Verdict};
 pub use message::judged;

@@ -7,149 +7,143 @@ ghost use Rattle.messages.specs.Messages.{body};
 ghost use Rattle.guide.specs.Nodes.{number_of};
 ghost use Rattle.guide.specs.Answers.{refuses};
 ghost use Rattle.guide.specs.Editions.{guide_of};
-ghost use Rattle.verdict.specs.Answers.{declared, judged_as};
+ghost use Rattle.guide.specs.Reasons.{number_of_reason};
+ghost use Rattle.verdict.specs.Answers.{judged_as};
 ghost use Rattle.verdict.specs.Named.{held_at};
 ghost use Rattle.verdict.specs.Verdicts.{verdict_named};
-ghost use Rattle.verdict.specs.workers.Ends.{closed_by, told_by, told_again, Closable, judged_at, until_at};
-ghost use Rattle.verdict.specs.declared.message.Walked.TheVariants.{Refused};
+ghost use Rattle.verdict.specs.workers.Ends.{closed_by, told_by, Closable, judged_at, until_at};
 
-use crate::answers::{Judged, Verdict};
+use crate::answers::{Judged, Refused};
 use crate::edition::edition_at;
 use crate::ended::{Conclusion, ended};
 use crate::kept::{Kept, begun, keep};
-use crate::segment::{Answered, segment_answer};
-use cut::Syntax;
-use guide::Edition;
+use crate::segment::segment_answer;
+use cut::Delivery;
+use guide::{Edition, Reason};
 use judge::number_of;
-use messages::{Head, head_at, message_end};
+use messages::{head_at, message_end};
 
-// What comes of a message's segments: if one is refused, the answer for the message; or else what is kept of them, how many there are, and where they
-// end.
+// A message whose segments all fit: what is kept of them, how many there are, and where they end.
 #[derive(Clone, Copy)]
-pub enum Walked {
-    Refused(Judged),
-    Fits(Kept, usize, usize),
+pub struct Walked {
+    pub kept: Kept,
+    pub segments: usize,
+    pub end: usize,
 }
 
-fn with_end(verdict: Verdict, end: usize) -> Judged
-    ensures { result ≡ judged_as verdict end }
+// The answer where a segment is refused: the node of its row is named by its number in the guide.
+fn refused(
+    edition: Edition,
+    reason: Reason,
+    segment: usize,
+    place: usize,
+    row: usize,
+    end: usize,
+) -> Judged
+    ensures { judged_as result ≡ (refuses (number_of_reason reason) segment place (number_of (guide_of edition) row), end) }
 {
-    Judged { verdict, end }
-}
-
-// The refusal of a segment: the node of its row is named by its number in the guide.
-fn refused(edition: Edition, number: u32, segment: usize, place: usize, row: usize) -> Verdict
-    ensures { result ≡ declared (refuses number segment place (number_of (guide_of edition) row)) }
-{
-    let node = number_of(edition, row);
-    Verdict::Refused {
-        number,
+    let refused = Refused {
+        reason,
         segment,
         place,
-        node,
+        node: number_of(edition, row),
+    };
+    Judged {
+        verdict: Err(refused),
+        end,
     }
 }
 
 // Where the message ends of which a segment ends at `end`; `last`: that is its UNT.
-fn close_of(y: Syntax, d: &[u8], end: usize, last: bool) -> usize
-    ensures { result ≡ last_end end (unless last (body (segments_at y d.now end))) }
+fn close_of(d: Delivery<'_>, end: usize, last: bool) -> usize
+    ensures { result ≡ last_end end (unless last (body (segments_at d.entry.syntax d.entry.bytes.now end))) }
 {
     if last {
         return end;
     }
-    message_end(y, d, end)
-}
-
-// The walk ends at a segment that has no fault, and names its node.
-fn stopped(edition: Edition, segment: usize, place: usize, row: usize, end: usize) -> Walked
-    ensures { result ≡ Refused (judged_as (declared (refuses 23 segment place (number_of (guide_of edition) row))) end) }
-{
-    Walked::Refused(with_end(refused(edition, 23, segment, place, row), end))
+    message_end(d, end)
 }
 
 // The segments of the message that the first one from `start` on begins, one after the other; at one that begins at `stop` and has no fault it ends with
 // 23. It returns before positions are compared: that takes a table of its own, and the compiler lays it over `came`.
-fn walk(y: Syntax, edition: Edition, d: &[u8], start: usize, stop: usize) -> Walked
-    ensures result_value { length d.now ≤ stop → closed_by edition y d.now start result ≡ judged_at edition y d.now start }
-    ensures closable { Closable edition y d.now start result }
-    ensures result_value_2 { told_by edition result ≡ declared (until_at edition y d.now start stop) }
+fn walk(edition: Edition, d: Delivery<'_>, start: usize, stop: usize) -> Result<Walked, Judged>
+    ensures result_value { length d.entry.bytes.now ≤ stop → closed_by edition d.entry.syntax d.entry.bytes.now start result
+        ≡ judged_at edition d.entry.syntax d.entry.bytes.now start }
+    ensures closable { Closable edition d.entry.syntax d.entry.bytes.now start result }
+    ensures result_value_2 { told_by edition result ≡ until_at edition d.entry.syntax d.entry.bytes.now start stop }
 {
     let mut counts = [0u32; 96];
     let mut came = [0u64; 256];
     let mut kept = begun(start);
-    let mut at = start;
-    let mut n = 0;
-    let mut first = true;
-    loop {
-        let s = head_at(y, d, at, first);
-        let Head::Inside { place, last } = s else {
-            return Walked::Fits(kept, n, at);
-        };
-        let answer = segment_answer(y, edition, d, place, n + 1, kept, &mut counts);
-        let end = match answer {
-            Answered::Fits(found, end) => {
-                if place == stop {
-                    return stopped(edition, n + 1, place, found.node, end);
+    let mut end = start;
+    let mut segments = 0;
+    while let Some(head) = head_at(d, end, segments == 0) {
+        let i = segments + 1;
+        match segment_answer(edition, d, head.place, i, kept, &mut counts) {
+            Ok(found) => {
+                end = found.end;
+                if head.place == stop {
+                    return Err(refused(edition, Reason::Repeated, i, stop, found.node, end));
                 }
-                kept = keep(y, d, found, kept, &mut came);
-                end
+                kept = keep(d, found, kept, &mut came);
             }
-            Answered::Refused { number, node, end } => {
-                let verdict = refused(edition, number, n + 1, place, node);
-                return Walked::Refused(with_end(verdict, close_of(y, d, end, last)));
+            Err(blamed) => {
+                end = close_of(d, blamed.end, head.last);
+                return Err(refused(edition, blamed.reason, i, head.place, blamed.node, end));
             }
-        };
-        n += 1;
-        at = end;
-        if last {
-            return Walked::Fits(kept, n, at);
         }
-        first = false;
+        segments = i;
+        if head.last {
+            break;
+        }
     }
-}
-
-// What a walk that refuses tells of the message: a second one names 23's node, and the message closes where the first one came to.
-fn told_by(told: Judged, again: bool, close: usize) -> Judged
-    ensures { result ≡ told_again again told close }
-{
-    let verdict = told.verdict;
-    if again {
-        return with_end(verdict, close);
-    }
-    told
+    Ok(Walked {
+        kept,
+        segments,
+        end,
+    })
 }
 
 // The verdict and the end of the message that the first segment from `start` on begins, by the guide of an edition. No segment begins at the end of `d`, so the
-// first walk goes through. Where a position agrees with an earlier one, a second walk up to it names its node. Both are one call, and `place` has no other,
-// so that the compiler makes it part of the walk.
-fn judged_by(y: Syntax, edition: Edition, d: &[u8], start: usize) -> Judged
-    ensures { result ≡ judged_at edition y d.now start }
+// first walk goes through. Where a position agrees with an earlier one, a second walk up to it names its node, and the message closes where the first one came
+// to. Both are one call, and `place` has no other, so that the compiler makes it part of the walk.
+fn judged_by(edition: Edition, d: Delivery<'_>, start: usize) -> Judged
+    ensures { judged_as result ≡ judged_at edition d.entry.syntax d.entry.bytes.now start }
 {
-    let mut stop = d.len();
-    let mut close = start;
-    let mut again = false;
+    let mut stop = d.bytes.len();
+    let mut close = None;
     loop {
-        match walk(y, edition, d, start, stop) {
-            Walked::Refused(told) => {
-                return told_by(told, again, close);
+        match walk(edition, d, start, stop) {
+            Err(told) => {
+                return Judged {
+                    verdict: told.verdict,
+                    end: close.unwrap_or(told.end),
+                };
             }
-            Walked::Fits(kept, n, at) => match ended(y, edition, d, start, kept, n, at) {
+            Ok(walked) => match ended(edition, d, start, walked) {
                 Conclusion::Told(verdict) => {
-                    return with_end(verdict, at);
+                    return Judged {
+                        verdict,
+                        end: walked.end,
+                    };
                 }
                 Conclusion::Agrees { place } => {
                     stop = place;
-                    close = at;
+                    close = Some(walked.end);
                 }
             },
         }
-        again = true;
     }
 }
 
 // The verdict and the end of the message that the first segment from `start` on begins, by the guide named in UNH.
-pub fn judged(y: Syntax, d: &[u8], start: usize) -> Judged
-    ensures { result ≡ judged_as (declared (verdict_named y start (held_at y d.now start))) (last_end start (held_at y d.now start)) }
+pub fn judged(d: Delivery<'_>, start: usize) -> Judged
+    ensures { judged_as result
+        ≡ (
+          verdict_named d.entry.syntax start (held_at d.entry.syntax d.entry.bytes.now start),
+          last_end start
+              (held_at d.entry.syntax d.entry.bytes.now start),
+        ) }
 {
-    judged_by(y, edition_at(y, d, start), d, start)
+    judged_by(edition_at(d, start), d, start)
 }

@@ -1,6 +1,5 @@
 // What a segment is to the rules of a message.
 ghost use Rattle.std.specs.Prelude.{◌≡◌};
-ghost use Rattle.guide.specs.declared.edition.Edition.TheVariants.{D, C};
 ghost use Rattle.verdict.specs.workers.Segments.{role_of};
 
 use guide::Edition;
@@ -18,34 +17,11 @@ pub enum Role {
 pub(crate) fn role_of(edition: Edition, n: usize) -> Role
     ensures { result ≡ role_of edition n }
 {
-    match edition {
-        Edition::D => role_20d(n),
-        Edition::C => role_20c(n),
-    }
-}
-
-fn role_20d(n: usize) -> Role
-    ensures { result ≡ role_of D n }
-{
-    match n {
-        1 => Role::Unh,
-        2 => Role::Bgm,
-        16 => Role::Lin,
-        23 => Role::Lin,
-        26 => Role::Unt,
-        _ => Role::Other,
-    }
-}
-
-fn role_20c(n: usize) -> Role
-    ensures { result ≡ role_of C n }
-{
-    match n {
-        1 => Role::Unh,
-        2 => Role::Bgm,
-        15 => Role::Lin,
-        21 => Role::Lin,
-        24 => Role::Unt,
+    match (edition, n) {
+        (_, 1) => Role::Unh,
+        (_, 2) => Role::Bgm,
+        (Edition::D, 16 | 23) | (Edition::C, 15 | 21) => Role::Lin,
+        (Edition::D, 26) | (Edition::C, 24) => Role::Unt,
         _ => Role::Other,
     }
 }

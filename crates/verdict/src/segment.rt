@@ -1,145 +1,127 @@
 // What comes of one segment: its node, or its first fault in the order 12, 10, 11, 13, 15 or 25, 14, components, 21 or 22.
-ghost use Rattle.std.specs.Prelude.{suc, ◌<◌, ◌^◌, ◌≡◌, ltb};
+ghost use Rattle.std.specs.Prelude.{suc, ◌<◌, ◌^◌, ◌≡◌, ltb, Err};
 ghost use Rattle.guide.specs.Answers.{refused};
 ghost use Rattle.guide.specs.Choices.{pickℕ};
-ghost use Rattle.verdict.specs.declared.segment.Answered.TheVariants.{Refused};
-ghost use Rattle.verdict.specs.workers.Segments.{answer_at, content_answer, placed_answer, CountedOn};
+ghost use Rattle.guide.specs.Reasons.{number_of_reason};
+ghost use Rattle.guide.specs.declared.edition.Edition.{Edition as AnyEdition};
+ghost use Rattle.verdict.specs.workers.Segments.{answer_at, content_answer, placed_answer, told_of, CountedOn};
 
 use crate::faults::rule_fault;
 use crate::kept::Kept;
 use crate::roles::{Role, role_of};
-use cut::{Cut, Syntax, cut_at};
+use cut::{Delivery, cut_at};
 use element::Span;
-use guide::Edition;
-use judge::{Placed, place};
-use page::{bytes_fault, read};
+use guide::{Edition, Reason};
+use judge::{Misplaced, place};
+use page::{Faulty, bytes_fault, read};
 
-// A segment that is placed: its node, what that is to the rules of a message, and where the first component behind the tag stands and the first of
-// element 3.
+// A segment that is placed: its node, what that is to the rules of a message, where the first component behind the tag stands and the first of element 3,
+// and the byte after it.
 #[derive(Clone, Copy)]
 pub struct Found {
     pub node: usize,
     pub role: Role,
     pub first: Span,
     pub third: Span,
+    pub end: usize,
 }
 
-// What comes of a segment, and the byte after it.
-#[derive(Clone, Copy)]
-pub enum Answered {
-    Fits(Found, usize),
-    Refused {
-        number: u32,
-        node: usize,
-        end: usize,
-    },
+// A segment that is refused: its first fault, the row of the node that is named, and the byte after it.
+#[derive(Clone, Copy, PartialEq, Eq, Debug)]
+pub struct Blamed {
+    pub reason: Reason,
+    pub node: usize,
+    pub end: usize,
 }
 
 // Segment i, which begins at start, once it has the node n: the fault of its bytes, of its components, and then 21 or 22.
 fn content_answer(
-    y: Syntax,
     edition: Edition,
-    d: &[u8],
+    d: Delivery<'_>,
     start: usize,
     i: usize,
     n: usize,
     kept: Kept,
-) -> Answered
+) -> Result<Found, Blamed>
     requires { suc kept.positions < 2 ^ 64 }
-    ensures { result ≡ answer_at edition y d.now start (content_answer edition y d.now i kept n) }
+    ensures { told_of result ≡ answer_at edition d.entry.syntax d.entry.bytes.now start (content_answer edition d.entry.syntax d.entry.bytes.now i kept n) }
 {
-    let page = read(y, edition, n, d, start);
-    let number = page.number;
-    let end = page.end;
-    if number != 0 {
-        return page_refused(number, n, end);
-    }
-    let first = page.first;
-    let third = page.third;
+    let page = match read(edition, n, d, start) {
+        Ok(page) => page,
+        Err(fault) => return Err(page_refused(fault, n)),
+    };
     let role = role_of(edition, n);
-    let wrong = rule_fault(y, edition, d, start, end, first, i, role, kept);
-    if wrong != 0 {
-        return Answered::Refused {
-            number: wrong,
+    if let Err(reason) = rule_fault(edition, d, start, page, i, role, kept) {
+        return Err(Blamed {
+            reason,
             node: n,
-            end,
-        };
+            end: page.end,
+        });
     }
-    Answered::Fits(
-        Found {
-            node: n,
-            role,
-            first,
-            third,
-        },
-        end,
-    )
-}
-
-// The fault that was read of the segment up to `end`: for 10, 11 and 12 no node is named.
-fn page_refused(number: u32, n: usize, end: usize) -> Answered
-    ensures { result ≡ Refused number (pickℕ (ltb number 13) 0 n) end }
-{
-    if number < 13 {
-        return Answered::Refused {
-            number,
-            node: 0,
-            end,
-        };
-    }
-    Answered::Refused {
-        number,
+    Ok(Found {
         node: n,
-        end,
+        role,
+        first: page.first,
+        third: page.third,
+        end: page.end,
+    })
+}
+
+// The fault that was read of a segment with the node n: for 10, 11 and 12 no node is named.
+fn page_refused(fault: Faulty, n: usize) -> Blamed
+    ensures { result ≡ record { reason = fault.reason; node = pickℕ (ltb (number_of_reason fault.reason) 13) 0 n; end = fault.end } }
+{
+    let of_bytes = u32::from(fault.reason) < 13;
+    Blamed {
+        reason: fault.reason,
+        node: if of_bytes { 0 } else { n },
+        end: fault.end,
     }
 }
 
-// The segment that begins at `at`, which placing refuses: 12, 10 and 11 come before that.
-fn misplaced(y: Syntax, edition: Edition, d: &[u8], at: usize, number: u32, node: usize) -> Answered
-    ensures { result ≡ answer_at edition y d.now at (λ _. refused number node) }
+// The segment that begins at `at`, which placing refuses: 12, 10 and 11 come before that, whatever the edition.
+fn misplaced(d: Delivery<'_>, at: usize, refusal: Misplaced) -> Blamed
+    ensures { (ed : AnyEdition) → told_of (Err result)
+        ≡ answer_at ed d.entry.syntax d.entry.bytes.now at (λ _. refused (number_of_reason refusal.reason) refusal.node) }
 {
-    let s = cut_at(y, d, at);
-    let Cut::Segment {
-        start: _,
-        end,
-        piece,
-    } = s
-    else {
-        return Answered::Refused {
-            number: 12,
+    let Some(cut) = cut_at(d, at) else {
+        return Blamed {
+            reason: Reason::Unterminated,
             node: 0,
             end: at,
         };
     };
-    let fault = bytes_fault(y, d, at, end, piece);
-    if fault != 0 {
-        return Answered::Refused {
-            number: fault,
+    if let Err(reason) = bytes_fault(d, at, cut.end, cut.piece) {
+        return Blamed {
+            reason,
             node: 0,
-            end,
+            end: cut.end,
         };
     }
-    Answered::Refused { number, node, end }
+    Blamed {
+        reason: refusal.reason,
+        node: refusal.node,
+        end: cut.end,
+    }
 }
 
 // Segment i, which begins at start; `counts` are those of placing, after it only where it fits. It is placed before its end is looked for: where its bytes
 // have no fault, what follows it makes no difference to its node.
 pub(crate) fn segment_answer(
-    y: Syntax,
     edition: Edition,
-    d: &[u8],
+    d: Delivery<'_>,
     start: usize,
     i: usize,
     kept: Kept,
     counts: &mut [u32; 96],
-) -> Answered
+) -> Result<Found, Blamed>
     requires { suc kept.positions < 2 ^ 64 }
-    ensures value { result ≡ answer_at edition y d.now start (placed_answer edition y d.now i kept counts.old) }
-    ensures counted_on { CountedOn edition result counts.old counts.new }
+    ensures value { told_of result
+        ≡ answer_at edition d.entry.syntax d.entry.bytes.now start (placed_answer edition d.entry.syntax d.entry.bytes.now i kept counts.old) }
+    ensures counted_on { CountedOn edition (told_of result) counts.old counts.new }
 {
-    let answer = place(y, edition, d, start, d.len(), kept.last, counts);
-    match answer {
-        Placed::At(n) => content_answer(y, edition, d, start, i, n, kept),
-        Placed::Refused { number, node } => misplaced(y, edition, d, start, number, node),
+    match place(edition, d, start, d.bytes.len(), kept.last, counts) {
+        Ok(n) => content_answer(edition, d, start, i, n, kept),
+        Err(refusal) => Err(misplaced(d, start, refusal)),
     }
 }

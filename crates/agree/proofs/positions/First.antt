@@ -1,6 +1,6 @@
 -- The first listed position that agrees with an earlier one: those before it do not, and it agrees with one of them.
 use Prim.Native.Nat.{ℕ}
-use mathlib.Core.Path.{◌≡◌, refl, ap, ap₂}
+use mathlib.Core.Path.{◌≡◌, refl, sym, ap, ap₂}
 use mathlib.Core.Bool.{Bool, true, false, cond, ◌||◌, false≢true}
 use mathlib.Core.List.Memᴰ
 use mathlib.Core.List.{
@@ -23,10 +23,10 @@ use Rattle.guide.specs.Sheet.{Position}
 use Rattle.guide.specs.Accepted.{Agree}
 use Rattle.guide.proofs.pages.Listing.{or_right}
 use Rattle.agree.specs.Agreement.{Heading, heading_of, agree}
-use Rattle.agree.specs.Positions.{Listed, agrees_any, first_after}
-use Rattle.agree.specs.declared.first.Agreeing.TheVariants.{At, Nothing}
+use Rattle.agree.specs.Positions.{Listed, agreeing_at, agrees_any, first_after}
+use Rattle.std.specs.Prelude.{Some, None}
 use Rattle.agree.proofs.Texts.{heading-agree, agree-heading}
-use Rattle.agree.proofs.Distinct.{headings, listed}
+use Rattle.agree.proofs.Distinct.{headings, listed, agreeing-same}
 
 module _ {A B : Type 0} (f : A → B) where
   -- a list whose images split at one of them splits there
@@ -59,25 +59,23 @@ module _ (y : Syntax) where
     pub before : List Listed
     pub after : List Listed
     pub all : qs ≡ before ++ (q ∷ after)
-    pub none : first_after y es before ≡ Nothing
+    pub none : first_after y es before ≡ None
     pub agrees : agrees_any y q.heading (es ++ listed before) ≡ true
 
   abbrev Finds : List Listed → Type 0
-  Finds qs = (es : List Heading) (i a : ℕ) → first_after y es qs ≡ At i a → (q : Listed) × FirstIn es qs q × (i ≡ q.number) × (a ≡ q.place)
+  Finds qs = (es : List Heading) (i a : ℕ) → first_after y es qs ≡ Some (agreeing_at i a) → (q : Listed) × FirstIn es qs q × (i ≡ q.number) × (a ≡ q.place)
 
   find_step : (q : Listed) (qs : List Listed) → Finds qs → Finds (q ∷ qs)
   unfolding first_after
   find_step q qs ih es i a e = go (agrees_any y q.heading es) refl e
     where
       go
-          : (b : Bool) → agrees_any y q.heading es ≡ b → cond b (At q.number q.place) (first_after y (es ++ (q.heading ∷ [])) qs) ≡ At i a
+          : (b : Bool) → agrees_any y q.heading es ≡ b → cond b (Some (agreeing_at q.number q.place)) (first_after y (es ++ (q.heading ∷ [])) qs)
+          ≡ Some (agreeing_at i a)
           → (z : Listed) × FirstIn es (q ∷ qs) z × (i ≡ z.number) × (a ≡ z.place)
-      go true d f = (
-        q,
-        record { before = []; after = qs; all = refl; none = refl; agrees = rw append-nil d },
-        cc,
-        cc,
-      )
+      go true d f =
+          let same = agreeing-same q.number q.place i a f in
+          (q, record { before = []; after = qs; all = refl; none = refl; agrees = rw append-nil d }, sym same.0, sym same.1)
       go false d f =
           let r = ih (es ++ (q.heading ∷ [])) i a f in
           let p = r.1 in (
@@ -100,8 +98,8 @@ module _ (y : Syntax) where
 
   -- and such a one is found
   pub first_found
-      : (es : List Heading) (before : List Listed) (q : Listed) (after : List Listed) → first_after y es before ≡ Nothing
-      → agrees_any y q.heading (es ++ listed before) ≡ true → first_after y es (before ++ (q ∷ after)) ≡ At q.number q.place
+      : (es : List Heading) (before : List Listed) (q : Listed) (after : List Listed) → first_after y es before ≡ None
+      → agrees_any y q.heading (es ++ listed before) ≡ true → first_after y es (before ++ (q ∷ after)) ≡ Some (agreeing_at q.number q.place)
   unfolding first_after
   first_found es [] q after e d =
       let z : agrees_any y q.heading es ≡ true = rw append-nil at d in
@@ -113,11 +111,11 @@ module _ (y : Syntax) where
       rest = rw append_assoc d
 
       go
-          : (c : Bool) → agrees_any y b.heading es ≡ c → cond c (At b.number b.place) (first_after y (es ++ (b.heading ∷ [])) before) ≡ Nothing
-          → (first_after y (es ++ (b.heading ∷ [])) before ≡ Nothing
+          : (c : Bool) → agrees_any y b.heading es ≡ c → cond c (Some (agreeing_at b.number b.place)) (first_after y (es ++ (b.heading ∷ [])) before) ≡ None
+          → (first_after y (es ++ (b.heading ∷ [])) before ≡ None
           → agrees_any y q.heading ((es ++ (b.heading ∷ [])) ++ listed before) ≡ true
-          → first_after y (es ++ (b.heading ∷ [])) (before ++ (q ∷ after)) ≡ At q.number q.place)
-          → cond c (At b.number b.place) (first_after y (es ++ (b.heading ∷ [])) (before ++ (q ∷ after))) ≡ At q.number q.place
+          → first_after y (es ++ (b.heading ∷ [])) (before ++ (q ∷ after)) ≡ Some (agreeing_at q.number q.place))
+          → cond c (Some (agreeing_at b.number b.place)) (first_after y (es ++ (b.heading ∷ [])) (before ++ (q ∷ after))) ≡ Some (agreeing_at q.number q.place)
       go true i f ih = absurd (let z : ◌≡◌ {A = ℕ} 0 1 = cc in omega arith)
       go false i f ih = ih f rest
 

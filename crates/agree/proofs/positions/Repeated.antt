@@ -22,8 +22,8 @@ use Rattle.guide.proofs.placing.Growing.{closed_open, assigned-segments}
 use Rattle.guide.proofs.placing.Taken.{assigned_taken}
 use Rattle.guide.proofs.Lines.{lines_of, with_tag-append, whole-lines}
 use Rattle.agree.specs.Agreement.{heading_of}
-use Rattle.agree.specs.Positions.{Listed, agrees_any, positions_from, positions_of, first_after, first_agreeing}
-use Rattle.agree.specs.declared.first.Agreeing.TheVariants.{At, Nothing}
+use Rattle.agree.specs.Positions.{Listed, agreeing_at, agrees_any, positions_from, positions_of, first_after, first_agreeing}
+use Rattle.std.specs.Prelude.{Some, None}
 use Rattle.agree.proofs.Distinct.{headings, listed, none-distinct, distinct_none}
 use Rattle.agree.proofs.Tree.{whole_headings}
 use Rattle.agree.proofs.Lines.{Spot, Placed, same_line, listed_at}
@@ -121,7 +121,7 @@ module _ (y : Syntax) (g : Guide) (u : ℕ) (p : Passes g u) (h : Foremost g) (s
         },
       )
 
-  found-repeated : (i a : ℕ) → first_agreeing y (positions_of ss) ≡ At i a → (n : ℕ) × Repeated y g w.tree i a n
+  found-repeated : (i a : ℕ) → first_agreeing y (positions_of ss) ≡ Some (agreeing_at i a) → (n : ℕ) × Repeated y g w.tree i a n
   unfolding first_agreeing
   found-repeated i a e =
       let r = find_first y (positions_of ss) [] i a e in
@@ -139,7 +139,7 @@ module _ (y : Syntax) (g : Guide) (u : ℕ) (p : Passes g u) (h : Foremost g) (s
   found_at
       : (i a n : ℕ) (r : Repeated y g w.tree i a n)
       → (d : Divided (λ (z : Listed). z.heading) (positions_of ss) (headings r.before) (heading_of r.repeats))
-      → Whereabouts r.before r.repeats d.item → first_agreeing y (positions_of ss) ≡ At i a
+      → Whereabouts r.before r.repeats d.item → first_agreeing y (positions_of ss) ≡ Some (agreeing_at i a)
   unfolding first_agreeing
   found_at i a n r d x =
       let agrees = ap₂ (agrees_any y) d.image d.images ∙ earlier-any y r.repeats r.earlier r.before r.among r.agrees in
@@ -150,9 +150,9 @@ module _ (y : Syntax) (g : Guide) (u : ℕ) (p : Passes g u) (h : Foremost g) (s
       (s.lines ∙ sym r.lines)
       in
       ap (first_after y []) d.all ∙ first_found y [] d.before d.item d.after none agrees
-      ∙ ap₂ At (omega (arith, x.number, one.0, r.number)) (x.place ∙ sym r.place)
+      ∙ ap₂ (λ (j b : ℕ). Some (agreeing_at j b)) (omega (arith, x.number, one.0, r.number)) (x.place ∙ sym r.place)
 
-  repeated-found : (i a n : ℕ) → Repeated y g w.tree i a n → first_agreeing y (positions_of ss) ≡ At i a
+  repeated-found : (i a n : ℕ) → Repeated y g w.tree i a n → first_agreeing y (positions_of ss) ≡ Some (agreeing_at i a)
   repeated-found i a n r =
       let split = ap headings r.positions ∙ map-append (λ (z : Position). heading_of z) r.before (r.repeats ∷ r.after) in
       let d =
@@ -162,9 +162,9 @@ module _ (y : Syntax) (g : Guide) (u : ℕ) (p : Passes g u) (h : Foremost g) (s
       found_at i a n r d (whereabouts r.before r.repeats r.after d.before d.item d.after r.positions d.all (sym d.images))
 
   -- 23 is found at segment i and place a exactly if the LIN there is the first that agrees with an earlier one
-  pub agreeing_repeated : (i a : ℕ) → (first_agreeing y (positions_of ss) ≡ At i a) ↔ ((n : ℕ) × Repeated y g w.tree i a n)
+  pub agreeing_repeated : (i a : ℕ) → (first_agreeing y (positions_of ss) ≡ Some (agreeing_at i a)) ↔ ((n : ℕ) × Repeated y g w.tree i a n)
   agreeing_repeated i a = (found-repeated i a, λ r. repeated-found i a r.0 r.1)
 
   -- and it is not found exactly if no two positions agree
-  pub agreeing_none : (first_agreeing y (positions_of ss) ≡ Nothing) ↔ Distinct y positions
+  pub agreeing_none : (first_agreeing y (positions_of ss) ≡ None) ↔ Distinct y positions
   agreeing_none = (none-distinct y positions (positions_of ss) same_headings, distinct_none y positions (positions_of ss) same_headings)

@@ -1,5 +1,5 @@
 -- A run of segments: its positions agree with none before them, so the search passes it at once.
-use Prim.Native.Nat.{ℕ, zero, suc, ◌+◌, ◌≤◌, max}
+use Prim.Native.Nat.{ℕ, zero, suc, ◌+◌}
 use mathlib.Core.Path.{◌≡◌, refl, sym, ap, ◌∙◌}
 use mathlib.Core.Bool.{Bool, true, false, cond, not, ◌&&◌, ◌||◌, true≢false}
 use mathlib.Core.List.{List, [], ◌∷◌, ◌++◌, append-nil, append_assoc}
@@ -11,11 +11,13 @@ use borrow.Author.Tests.{not-true}
 use Rattle.cut.specs.declared.service.Syntax.{Syntax}
 use Rattle.bytewise.specs.Bytes.{part}
 use Rattle.cut.specs.Segments.{Segment, segments_at}
-use Rattle.cut.proofs.Ahead.{CutAhead}
 use Rattle.agree.specs.Agreement.{Heading, agree}
 use Rattle.agree.specs.Positions.{heading_from, positions_from, agrees_any, first_after}
-use Rattle.agree.specs.workers.Parts.{headings_in}
-use Rattle.agree.specs.workers.Runs.{print_of, all_marked, fresh, meets, noted_in, Running, Searched}
+use Rattle.std.specs.Prelude.{Some, None}
+use Rattle.agree.specs.workers.Parts.{heading_in, headings_in, BeginsPosition, EntryAt}
+use Rattle.agree.specs.declared.headings.Head.{Head}
+use Rattle.agree.specs.declared.headings.Entry.{Entry}
+use Rattle.agree.specs.workers.Runs.{print_of, all_marked, fresh, meets, Running, Searched}
 use Rattle.sieve.specs.workers.Marks.{mark_in}
 use Rattle.agree.specs.declared.runs.Run.{Run}
 use Rattle.bytewise.proofs.Booleans.{and_both, both-and, or_assoc}
@@ -125,13 +127,6 @@ headings_run (suc n) count (t ∷ ts) = rw (suc-add, headings_run n count ts) (g
     go true = refl
     go false = refl
 
--- an empty run passes nothing
-pub search_stays
-    : (y : Syntax) (d : List ℕ) (start at n : ℕ) → Searched y d start at n → Searched y d start at (n + 0) × (at + 0 ≤ at) × (at ≤ max at (length d))
-search_stays y d start at n i =
-    let z : n + 0 ≡ n = omega arith in
-    (rw z i, omega arith, omega arith)
-
 -- the search passes a run that none of the earlier positions meets
 module _ (y : Syntax) (d : List ℕ) (start at n : ℕ) (i : Searched y d start at n) (t : List ℕ) (r : Run) (k : Running y d at t r)
     (apart : meets y (headings_in n (segments_at y d start)) (headings_in r.count (segments_at y d at)) ≡ false) where
@@ -156,49 +151,23 @@ module _ (y : Syntax) (d : List ℕ) (start at n : ℕ) (i : Searched y d start 
         few = omega (arith, i.few, k.few);
       }
 
--- what a segment with the bytes b does to the table
-module _ (y : Syntax) (d t b : List ℕ) (e : ℕ) where
-  noted-length : length (noted_in y d e b t) ≡ length t
-  unfolding noted_in
-  noted-length = go (is_lin b)
-    where
-      go : (c : Bool) → length (cond c (mark_in t (print_of y (heading_from b (segments_at y d e)))) t) ≡ length t
-      go true = mark-length t _
-      go false = refl
-
-  module _ (l : Bool) (tag : l ≡ is_lin b) where
-    pub noted_other : l ≡ false → t ≡ noted_in y d e b t
-    unfolding noted_in
-    noted_other f = rw (sym tag ∙ f)
-
-    pub noted-lin
-        : (h : Heading) (f : ℕ) (t' : List ℕ) → l ≡ true → h ≡ heading_from b (segments_at y d e) → f ≡ print_of y h → t' ≡ mark_in t f → t'
-        ≡ noted_in y d e b t
-    unfolding noted_in
-    noted-lin h f t' u k p m = m ∙ rw (sym tag ∙ u, p, k)
-
-abbrev pub run : Bool → ℕ → ℕ → Run
-run b n e = record { count = n; end = e; stopped = b }
-
--- the run that has passed n segments, up to the place here, and the table with its marks
-pub record Growing (y : Syntax) (d : List ℕ) (at : ℕ) (t : List ℕ) (n here : ℕ) : Type 0 where
-  pub is : Running y d at t (run false n here)
+-- the run r so far, and the table with its marks
+pub record Growing (y : Syntax) (d : List ℕ) (at : ℕ) (t : List ℕ) (r : Run) : Type 0 where
+  pub is : Running y d at t r
   pub size : length t ≡ 8192
 
 -- a run grows by a segment
 module _ (y : Syntax) (d : List ℕ) (at : ℕ) where
-  pub run-begins : (t : List ℕ) → length t ≡ 8192 → Growing y d at t 0 at
+  pub run-begins : (t : List ℕ) → length t ≡ 8192 → Growing y d at t (record { count = 0; end = at; stopped = false })
   unfolding fresh headings_in all_marked
   run-begins t l = record { is = record { passed = refl; few = omega arith; fits = omega arith; apart = refl; marked = refl }; size = l }
 
-  module _ (t : List ℕ) (n here : ℕ) (g : Growing y d at t n here) where
-    abbrev k : Running y d at t (run false n here)
+  module _ (t : List ℕ) (w : Run) (g : Growing y d at t w) where
+    abbrev k : Running y d at t w
     k = g.is
 
-    pub run-stops : (r : Bool) (t' u : List ℕ) → r ≡ true → t' ≡ cond r t u → Running y d at t' (run true n here)
-    run-stops r t' u h w =
-        let m : t' ≡ t = rw h at w in
-        rw m (record { passed = k.passed; few = k.few; fits = k.fits; apart = k.apart; marked = k.marked })
+    abbrev n : ℕ
+    n = w.count
 
     abbrev inside : List Heading
     inside = headings_in n (segments_at y d at)
@@ -221,25 +190,45 @@ module _ (y : Syntax) (d : List ℕ) (at : ℕ) where
           go true = all-marked y t inside h g.size k.marked
           go false = rw append-nil k.marked
 
-    pub run_on
-        : (s e : ℕ) (p : Bool) → CutAhead y d here s e p → (r : Bool)
-        → r ≡ is_lin (part s e d) && agrees_any y (heading_from (part s e d) (segments_at y d e)) inside → r ≡ false
-        → (t' : List ℕ) → t' ≡ cond r t (noted_in y d e (part s e d) t) → Growing y d at t' (n + 1) e
-    unfolding noted_in
-    run_on s e p q r is f t' w =
-        let m : t' ≡ noted_in y d e (part s e d) t = rw f at w in
-        let next : Segment = record { start = s; bytes = part s e d; piece = p } in
-        let l : drop n (segments_at y d at) ≡ next ∷ segments_at y d e = k.passed ∙ q.list in
-        let o = headings_next n (segments_at y d at) next (segments_at y d e) l in
-        let a : is_lin next.bytes && agrees_any y (heading_from next.bytes (segments_at y d e)) inside ≡ false = sym is ∙ f in
-        record {
-          is =
-              record {
-                passed = sym (drop-drop 1 n (segments_at y d at)) ∙ ap (λ (ss : List Segment). drop 1 ss) l;
-                few = omega (arith, k.few, q.later, q.some);
-                fits = omega (arith, q.fits);
-                apart = rw o (more_apart next (segments_at y d e) a);
-                marked = rw (o, m) (more_marked next (segments_at y d e) a);
-              };
-          size = ap length m ∙ noted-length y d t (part s e d) e ∙ g.size;
-        }
+    -- a segment that begins no position agreeing with those of the run; the position of one that does is marked
+    module _ (r : Entry) (q : EntryAt y d w.end r) (t' : List ℕ) where
+      abbrev grows : Type 0
+      grows = Growing y d at t' (record w { count = n + 1; end = r.segment.end })
+
+      abbrev next : Segment
+      next = record { start = r.segment.start; bytes = part r.segment.start r.segment.end d; piece = r.segment.piece }
+
+      grown
+          : is_lin next.bytes && agrees_any y (heading_from next.bytes (segments_at y d r.segment.end)) inside ≡ false
+          → t' ≡ cond (is_lin next.bytes) (mark_in t (print_of y (heading_from next.bytes (segments_at y d r.segment.end)))) t
+          → grows
+      grown a m =
+          let l : drop n (segments_at y d at) ≡ next ∷ segments_at y d r.segment.end = k.passed ∙ q.list in
+          let o = headings_next n (segments_at y d at) next (segments_at y d r.segment.end) l in
+          record {
+            is =
+                record {
+                  passed = sym (drop-drop 1 n (segments_at y d at)) ∙ ap (λ (ss : List Segment). drop 1 ss) l;
+                  few = omega (arith, k.few, q.later, q.some);
+                  fits = omega (arith, q.fits);
+                  apart = rw o (more_apart next (segments_at y d r.segment.end) a);
+                  marked = rw (o, m) (more_marked next (segments_at y d r.segment.end) a);
+                };
+            size = ap length m ∙ kept (is_lin next.bytes);
+          }
+        where
+          kept : (b : Bool) → length (cond b (mark_in t (print_of y (heading_from next.bytes (segments_at y d r.segment.end)))) t) ≡ 8192
+          kept true = mark-length t _ ∙ g.size
+          kept false = g.size
+
+      pub run_other : r.position ≡ None → t' ≡ t → grows
+      run_other h m =
+          let f : is_lin next.bytes ≡ false = rw h at q.position in
+          grown (rw f) (rw f m)
+
+      pub run_on
+          : (h : Head) → r.position ≡ Some h → (f : ℕ) → f ≡ print_of y (heading_in h d) → (a : Bool) → a ≡ agrees_any y (heading_in h d) inside
+          → a ≡ false → t' ≡ mark_in t f → grows
+      run_on h e f p a is n m =
+          let b : BeginsPosition y d r.segment.start r.segment.end (Some h) = rw e at q.position in
+          grown (rw (b.0, ← b.1) (sym is ∙ n)) (rw (b.0, ← b.1, ← p) m)

@@ -1,12 +1,11 @@
 -- What the workers promise each other that search run by run.
-use Rattle.std.specs.Prelude.{ℕ, ◌+◌, ◌≤◌, max, ◌≡◌, Bool, true, false, cond, not, ◌&&◌, ◌||◌, List, [], ◌∷◌, ◌++◌, length, drop}
+use Rattle.std.specs.Prelude.{ℕ, ◌+◌, ◌≤◌, ◌<◌, max, ◌≡◌, Bool, true, false, not, ◌&&◌, ◌||◌, List, [], ◌∷◌, ◌++◌, length, drop}
 use Rattle.cut.specs.declared.service.Syntax.{Syntax}
-use Rattle.bytewise.specs.Bytes.{bytes_of, begins}
 use Rattle.agree.specs.Agreement.{Heading}
-use Rattle.agree.specs.Positions.{heading_from, positions_from, positions_of, agrees_any, first_after, first_agreeing}
+use Rattle.agree.specs.Positions.{positions_from, positions_of, agrees_any, first_after, first_agreeing}
 use Rattle.cut.specs.Segments.{segments_at}
 use Rattle.agree.specs.workers.Parts.{headings_in}
-use Rattle.sieve.specs.workers.Marks.{marked_in, mark_in}
+use Rattle.sieve.specs.workers.Marks.{marked_in}
 use Rattle.sieve.specs.workers.Prints.{print_parts}
 use Rattle.agree.specs.declared.runs.Run.{Run}
 
@@ -21,17 +20,13 @@ meets y [] hs = false
 meets y (e ∷ es) hs = agrees_any y e hs || meets y es hs
 
 -- the print of a position
-unfoldable pub print_of : Syntax → Heading → ℕ
+abbrev pub print_of : Syntax → Heading → ℕ
 print_of y h = print_parts y h.lin h.pia h.imd
 
 -- the prints of all these positions are marked
 unfoldable pub all_marked : Syntax → List ℕ → List Heading → Bool
 all_marked y t [] = true
 all_marked y t (h ∷ hs) = marked_in t (print_of y h) && all_marked y t hs
-
--- the table t after a segment with the bytes b, behind which the segments from the place at on come
-unfoldable pub noted_in : Syntax → List ℕ → ℕ → List ℕ → List ℕ → List ℕ
-noted_in y d at b t = cond (begins (bytes_of "LIN") b) (mark_in t (print_of y (heading_from b (segments_at y d at)))) t
 
 -- the run r of segments from the place at on: its positions do not agree with each other, and all are marked in the table t
 pub record Running (y : Syntax) (d : List ℕ) (at : ℕ) (t : List ℕ) (r : Run) : Type 0 where
@@ -51,4 +46,4 @@ pub record Searched (y : Syntax) (d : List ℕ) (start at n : ℕ) : Type 0 wher
 
 -- a run of segments from the place a on, behind the first n, is passed with it
 abbrev pub PassedTo : Syntax → List ℕ → ℕ → ℕ → ℕ → Run → Type 0
-PassedTo y d start a n r = Searched y d start r.end (n + r.count) × (a + r.count ≤ r.end) × (r.end ≤ max a (length d))
+PassedTo y d start a n r = Searched y d start r.end (n + r.count) × (0 < r.count) × (a + r.count ≤ r.end) × (r.end ≤ max a (length d))

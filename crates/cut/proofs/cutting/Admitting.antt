@@ -5,7 +5,7 @@ use mathlib.Core.Bool.{true, false}
 use mathlib.Core.List.{List}
 use native.Mathlib.Nat.{add-zero}
 use native.Mathlib.Omega.{arith}
-use lib.ListN.{length, get_or, take, drop, length-drop}
+use lib.ListN.{length, take, drop, length-drop}
 use lib.Seq.{take_all}
 use borrow.Author.Tests.{lt-ltb, le-ltb}
 use Rattle.cut.specs.declared.service.Syntax.{Syntax}
@@ -67,9 +67,3 @@ module _ (y z : Syntax) (d : List ℕ) (k : ℕ) (p : z ≡ plainly y) (o : k �
   pub characters_handed : begins UNA (take (length d - k) (drop k d)) ≡ false → characters_of y d ≡ y
   unfolding characters_of
   characters_handed u = rw (← e (plainly y) d k place, u)
-
-pub named_as
-    : (y : Syntax) (u : List ℕ) (a b c e f : ℕ) → a ≡ get_or u 3 0 → b ≡ get_or u 4 0 → c ≡ get_or u 5 0 → e ≡ get_or u 6 0 → f ≡ get_or u 8 0
-    → record { component = a; element = b; decimal = c; release = e; terminator = f; skips = y.skips } ≡ named y u
-unfolding named
-named_as y u a b c e f h i j k l = λ t. record { component = h t; element = i t; decimal = j t; release = k t; terminator = l t; skips = y.skips }

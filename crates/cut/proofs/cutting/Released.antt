@@ -4,7 +4,6 @@ use mathlib.Core.Path.{◌≡◌, refl}
 use mathlib.Core.Bool.{Bool, true, false, not}
 use mathlib.Core.List.{List, [], ◌∷◌, ◌++◌}
 use lib.ListN.{length, get_or}
-use lib.Dec.{eqb}
 use borrow.Author.Tests.{eq-eqb, ne_eqb}
 use Rattle.cut.specs.declared.service.Syntax.{Syntax}
 use Rattle.bytewise.specs.Bytes.{part}
@@ -16,15 +15,6 @@ pub after-append : (y : Syntax) (r : Bool) (xs ys : List ℕ) → after y r (xs 
 unfolding after
 after-append y r [] ys = refl
 after-append y r (x ∷ xs) ys = after-append y (frees y r x) xs ys
-
--- whether a byte releases, by its two tests
-pub frees_ended : (y : Syntax) (x : ℕ) → x ≡ y.terminator → frees y false x ≡ false
-unfolding frees
-frees_ended y x h = rw (eq-eqb _ _ h)
-
-pub frees_told : (y : Syntax) (x : ℕ) → (x ≡ y.terminator → ⊥) → frees y false x ≡ eqb x y.release
-unfolding frees
-frees_told y x h = rw (ne_eqb _ _ h)
 
 -- a release character releases the next byte exactly if it is not released itself
 pub frees_turns : (y : Syntax) (r : Bool) (x : ℕ) → frees y false x ≡ true → frees y r x ≡ not r

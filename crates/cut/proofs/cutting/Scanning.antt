@@ -1,22 +1,24 @@
 -- Laws for the loop over bytes: the answer for the segment that is open, seen from the byte that is read next.
-use Prim.Native.Nat.{ℕ, zero, suc, ◌+◌, ◌≤◌, ◌<◌}
-use mathlib.Core.Path.{◌≡◌, refl, sym, ◌∙◌}
+use Prim.Native.Nat.{ℕ, zero, suc, ◌+◌, ◌-◌, ◌≤◌, ◌<◌, min}
+use mathlib.Core.Path.{◌≡◌, refl, sym, subst, ◌∙◌}
 use mathlib.Core.Bool.{Bool, true, false, false≢true, or-true}
 use mathlib.Core.List.{List, [], ◌∷◌}
-use native.Mathlib.Nat.{add-zero}
+use native.Mathlib.Nat.{add-zero, le_refl}
 use native.Mathlib.Numerals.{add-one}
+use native.Mathlib.Decide.{dec_le, dec_lt}
 use native.Mathlib.Omega.{arith}
 use lib.ListN.{length, get_or, drop, drop_of_length-le}
 use lib.Seq.{drop-cons}
 use lib.Dec.{eqb}
 use borrow.Author.Tests.{eq-eqb, ne_eqb, eqb-true}
 use Rattle.cut.specs.declared.service.Syntax.{Syntax}
-use Rattle.cut.specs.declared.scan.Cut.TheVariants as cut
+use mir.Val.{bool_byte}
+use Rattle.std.specs.Prelude.{None}
 use Rattle.cut.specs.Segments.{Segment, ends, frees, join, segments_from}
-use Rattle.cut.specs.Calls.{head_cut, cut_from}
-use Rattle.bytewise.specs.Eights.{on_from, flags}
+use Rattle.cut.specs.Calls.{some_cut, head_cut, cut_from}
+use Rattle.bytewise.specs.Search.{FirstThat}
+use Rattle.bytewise.proofs.Searching.{first_before}
 use Rattle.cut.specs.workers.Scanning.{open_cut, is_mark, Onward, Marked}
-use Rattle.bytewise.proofs.Bytewise.{FirstOf, flags-none}
 
 open_more : (at i x : ℕ) (ss : List Segment) → open_cut at i (join false i x ss) ≡ open_cut at (i + 1) ss
 unfolding open_cut join
@@ -43,7 +45,7 @@ module _ (y : Syntax) (d : List ℕ) where
   unfolding segments_from
   segments-none i r h = rw (drop_of_length-le d h)
 
-  pub cut_none : (at : ℕ) (r : Bool) → length d ≤ at → cut_from y d at r ≡ cut.Nothing
+  pub cut_none : (at : ℕ) (r : Bool) → length d ≤ at → cut_from y d at r ≡ None
   unfolding cut_from head_cut
   cut_none at r h = rw (segments-none at r h)
 
@@ -66,11 +68,11 @@ module _ (y : Syntax) (d : List ℕ) where
 
   pub open_end
       : (at i : ℕ) → i < length d → get_or d i 0 ≡ y.terminator
-      → open_cut at i (segments_from y i false (drop i d)) ≡ cut.Segment at (i + 1) false
+      → open_cut at i (segments_from y i false (drop i d)) ≡ some_cut at (i + 1) false
   unfolding ends open_cut join
   open_end at i h t = rw (segments-at i false h, eq-eqb _ _ t)
 
-  pub open_out : (at i : ℕ) → length d ≤ i → open_cut at i (segments_from y i false (drop i d)) ≡ cut.Segment at i true
+  pub open_out : (at i : ℕ) → length d ≤ i → open_cut at i (segments_from y i false (drop i d)) ≡ some_cut at i true
   unfolding open_cut
   open_out at i h = rw (segments-none i false h)
 
@@ -107,21 +109,8 @@ module _ (y : Syntax) (d : List ℕ) where
       let z : j + suc n ≡ j + n + 1 = omega arith in
       rw z (onward-other i (j + n) (onward-run i j n q (omega arith) (λ k l. t k (omega arith))) (omega arith) (t n (omega arith)))
 
-  -- a place from which the next mark is seen
-  pub onward-marked : (i j k : ℕ) → Onward y d i false j → Marked y d j k → Marked y d i k
-  onward-marked i j k q m =
-      let o = q.onward in
-      let p = m.passed.onward in
-      record {
-        passed = record { onward = omega arith; inside = m.passed.inside; seen = λ at. q.seen at ∙ m.passed.seen at };
-        mark = m.mark;
-      }
-
   -- a mark, or the end, where no byte before it is one
   module _ (i j : ℕ) (q : Onward y d i false j) where
-    pub marked_end : get_or d j 0 ≡ y.terminator → Marked y d i j
-    marked_end e = record { passed = q; mark = λ h n. absurd (n e) }
-
     pub marked_release : get_or d j 0 ≡ y.release → Marked y d i j
     marked_release e = record { passed = q; mark = λ h n. e }
 
@@ -132,14 +121,55 @@ module _ (y : Syntax) (d : List ℕ) where
     pub marked_out : length d ≤ j → Marked y d i j
     marked_out k = record { passed = q; mark = λ h n. absurd (omega arith) }
 
-  -- eight bytes at once: m flags those that are a mark
-  module _ (i j m : ℕ) (q : Onward y d i false j) (h : j + 8 ≤ length d) (e : m ≡ flags (λ k. is_mark y (on_from d j k))) where
-    pub eight-passed : m ≡ 0 → Onward y d i false (j + 8)
-    eight-passed z = onward-run i j 8 q h (flags-none (λ k. is_mark y (on_from d j k)) (sym e ∙ z))
+  -- the first of them
+  marked-within : (i j : ℕ) → i ≤ length d → FirstThat (is_mark y) d i (length d) j → Marked y d i j
+  marked-within i j h f =
+      let o = f.onward in
+      let z : i + (j - i) ≡ j = omega arith in
+      let q : Onward y d i false j =
+      subst (Onward y d i false) z
+      (onward-run i i (j - i) (onward-none i false refl h) (omega (arith, f.within)) (λ k l. f.before (i + k) (omega arith) (omega arith))) in
+      go f q (dec_lt j (length d))
+    where
+      go : FirstThat (is_mark y) d i (length d) j → Onward y d i false j → Dec (j < length d) → Marked y d i j
+      go f q (yes l) = marked-at i j q (f.passes l)
+      go f q (no l) = marked_out i j q (omega arith)
 
-    pub eight-marked : (f : ℕ) → FirstOf 8 (λ k. is_mark y (on_from d j k)) f → Marked y d i (j + f)
-    eight-marked f p =
-        marked-at i (j + f) (onward-run i j f q (omega (arith, p.within)) p.before) p.passes
+  -- the same from a place that may be past the end
+  pub marked-first : (i j : ℕ) → FirstThat (is_mark y) d i (min (length d) (length d)) j → Marked y d (min i (length d)) j
+  marked-first i j g = go (dec_le i (length d)) (first_before (is_mark y) d i (length d) j (le_refl (length d)) g)
+    where
+      go : Dec (i ≤ length d) → FirstThat (is_mark y) d i (length d) j → Marked y d (min i (length d)) j
+      go (yes h) f =
+          let z : min i (length d) ≡ i = omega arith in
+          rw z (marked-within i j h f)
+      go (no h) f =
+          let z : min i (length d) ≡ length d = omega arith in
+          let o : j ≡ length d = omega (arith, f.onward, f.within) in
+          rw (z, o) (marked_out (length d) (length d) (onward-none (length d) false refl (le_refl (length d))) (le_refl (length d)))
+
+  -- past a byte that is released, if one stands there
+  onward-released : (i : ℕ) → i ≤ length d → Onward y d i true (min (i + 1) (length d))
+  onward-released i h = go (dec_lt i (length d))
+    where
+      go : Dec (i < length d) → Onward y d i true (min (i + 1) (length d))
+      go (yes l) =
+          let z : min (i + 1) (length d) ≡ i + 1 = omega arith in
+          rw z (onward_released i true refl l)
+      go (no l) =
+          let z : min (i + 1) (length d) ≡ i = omega arith in
+          rw z (onward-past i true h (omega arith))
+
+  pub onward-behind : (k : ℕ) → k < length d → Onward y d (k + 1) true (min (k + 2) (length d))
+  onward-behind k l =
+      let z : k + 1 + 1 ≡ k + 2 = omega arith in
+      subst (λ (n : ℕ). Onward y d (k + 1) true (min n (length d))) z (onward-released (k + 1) (omega arith))
+
+  pub onward-entered : (i : ℕ) (r : Bool) (n : ℕ) → n ≡ bool_byte r → i < length d → Onward y d i r (min (i + n) (length d))
+  onward-entered i true n e l = rw e (onward-released i (omega arith))
+  onward-entered i false n e l =
+      let z : min (i + n) (length d) ≡ i = omega arith in
+      rw z (onward-none i false refl (omega arith))
 
   -- the answer for the open segment, at the next mark and past a release mark there
   pub open_marked

@@ -1,24 +1,20 @@
 -- What the workers of the scan promise each other: a segment's end, seen from a place within it.
-use Rattle.std.specs.Prelude.{ℕ, ◌+◌, ◌≤◌, ◌<◌, ◌≡◌, Bool, true, false, ◌||◌, List, [], ◌∷◌, length, get_or, drop, eqb}
+use Rattle.std.specs.Prelude.{ℕ, ◌+◌, ◌≤◌, ◌<◌, ◌≡◌, Bool, true, false, ◌||◌, Option, List, [], ◌∷◌, length, get_or, drop, eqb}
 use Rattle.cut.specs.declared.service.Syntax.{Syntax}
 use Rattle.cut.specs.declared.scan.Cut.{Cut}
-use Rattle.cut.specs.declared.scan.Cut.TheVariants as cut
 use Rattle.cut.specs.Segments.{Segment, segments_from}
+use Rattle.cut.specs.Calls.{some_cut}
 
 -- the answer for a segment that began at `at`, from the segments of the bytes from i on
-unfoldable pub open_cut : ℕ → ℕ → List Segment → Cut
-open_cut at i [] = cut.Segment at i true
-open_cut at i (s ∷ ss) = cut.Segment at (i + length s.bytes) s.piece
+unfoldable pub open_cut : ℕ → ℕ → List Segment → Option Cut
+open_cut at i [] = some_cut at i true
+open_cut at i (s ∷ ss) = some_cut at (i + length s.bytes) s.piece
 
 -- whatever segment is open, its answer seen from the place i is that seen from the place j, not before i; r: the byte at i is released
 pub record Onward (y : Syntax) (d : List ℕ) (i : ℕ) (r : Bool) (j : ℕ) : Type 0 where
   pub onward : i ≤ j
   pub inside : j ≤ length d
   pub seen : (at : ℕ) → open_cut at i (segments_from y i r (drop i d)) ≡ open_cut at j (segments_from y j false (drop j d))
-
--- the same for any service characters: j is past the byte at i if that is released
-abbrev pub Released : List ℕ → ℕ → Bool → ℕ → Type 0
-Released d i r j = (y : Syntax) → Onward y d i r j
 
 -- whether x is the terminator or the release character
 unfoldable pub is_mark : Syntax → ℕ → Bool

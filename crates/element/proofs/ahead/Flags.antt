@@ -5,13 +5,14 @@ use mathlib.Core.Bool.{Bool, true, false}
 use mathlib.Core.List.{List}
 use native.Mathlib.Omega.{arith}
 use lib.Bits.{bit_and}
-use lib.ListN.{get_or}
+use lib.ListN.{length, get_or}
 use lib.Dec.{leb}
 use borrow.Author.Tests.{le-leb, lt-leb, leb-true, leb-false}
 use Rattle.bytewise.specs.Eights.{number, on_from, flag, flags}
 use Rattle.bytewise.proofs.Bytewise.{FirstOf, flags-none}
 use Rattle.bytewise.proofs.Clearing.{first-cleared}
-use Rattle.element.specs.workers.Scans.{waiting, Tested, Foremost}
+use Rattle.element.specs.workers.Scans.{waiting, Tested, Foremost, Scanned, Sought, fresh}
+use Rattle.element.specs.declared.ahead.Scan.{Scan}
 use Rattle.bytewise.proofs.Booleans.{and_both}
 
 -- ---- flags
@@ -127,3 +128,18 @@ module _ (t : ℕ → Bool) (d : List ℕ) (bound a : ℕ) where
             let q = scan_flag in
             let z : at - 1 + 1 ≡ at = omega arith in
             rw z at (scan_on h (at - 1) (omega arith))
+
+-- a fresh scan, where its place is in the row
+pub scan_begins : (t : ℕ → Bool) (d : List ℕ) (a : ℕ) (s : Scan) → a ≤ length d → s ≡ fresh a → Scanned t d s
+scan_begins t d a s h e = rw e (scan_none t d (length d) a h)
+
+-- the scan behind the first flag of the word that ends before n
+pub sought_flag
+    : (t : ℕ → Bool) (d : List ℕ) (a n m : ℕ) → Tested t d (length d) a n m → (m ≡ 0 → ⊥) → (j : ℕ) → FirstOf 8 (waiting t d a n) j → (at : ℕ) → at ≡ n + j - 7
+    → Sought t d a (record { at = at; next = n; left = bit_and m (m - 1) })
+sought_flag t d a n m s h j f at e =
+    record {
+      onward = flag-onward t d _ a n m s j f h at e;
+      first = flag-first t d _ a n m s j f h at e;
+      scanned = flag-behind t d _ a n m s j f h at e;
+    }

@@ -1,12 +1,12 @@
 -- The walk to a component that counts down what is left before it.
 use Prim.Native.Nat.{ℕ, ◌+◌, ◌-◌, ◌≤◌, ◌<◌}
 use mathlib.Core.Path.{◌≡◌, refl, sym, ap, ◌∙◌}
-use mathlib.Core.Bool.{Bool, true, false, not, ◌&&◌, true≢false, and-false}
+use mathlib.Core.Bool.{Bool, true, false, ◌&&◌, true≢false, and-false}
 use mathlib.Core.List.{List}
 use native.Mathlib.Omega.{arith}
-use borrow.Author.Tests.{lt-ltb, eq-eqb, ne_eqb, eqb-true, eqb-false}
+use borrow.Author.Tests.{eq-eqb, ne_eqb, eqb-true, eqb-false}
 use lib.ListN.{length, get_or}
-use lib.Dec.{eqb, ltb}
+use lib.Dec.{eqb}
 use Rattle.bytewise.specs.Bytes.{part}
 use Rattle.cut.specs.declared.service.Syntax.{Syntax}
 use Rattle.element.specs.Elements.{ending_of, stays, component}
@@ -15,7 +15,7 @@ use Rattle.element.specs.Services.{usual_services}
 use Rattle.element.specs.declared.components.Span.{Span}
 use Rattle.element.proofs.UsualServices.{usual_are}
 use Rattle.element.proofs.components.Walking.{Walking, walk_start, walk-later, walk-found, walk_out, walk-element, walk-component}
-use Rattle.element.proofs.scan.Endings.{ending_nothing}
+use Rattle.element.proofs.scan.Endings.{ending_nothing, at-segment, at-element, at-component}
 
 module _ (y : Syntax) (d : List ℕ) (start element component' limit : ℕ) where
   -- where the component that is looked for stands; a missing one
@@ -67,14 +67,9 @@ module _ (y : Syntax) (d : List ℕ) (start element component' limit : ℕ) wher
         rw (ne_eqb (element - e) element (λ z. p (omega arith)))
 
     module _ (h : stop < limit) where
-      -- what the byte behind it is not, where there is more
-      on : (get_or d stop 0 ≡ y.terminator → ⊥) → ltb stop limit && not (eqb (get_or d stop 0) y.terminator) ≡ true
-      on t = rw (lt-ltb stop limit h, ne_eqb (get_or d stop 0) y.terminator t)
-
       out : is ≡ false → get_or d stop 0 ≡ y.terminator → missing ≡ answer
       out n t =
-          walk_out y d start element component' limit (element - e) k.number i k.walks stop s n
-          (rw (eq-eqb (get_or d stop 0) y.terminator t) (and-false (ltb stop limit)))
+          walk_out y d start element component' limit (element - e) k.number i k.walks stop s n (at-segment y d stop limit h k.walks.within t)
 
       module _ (p : e ≡ 0) (q : c ≡ 0 → ⊥) where
         -- the element ends before it
@@ -86,8 +81,8 @@ module _ (y : Syntax) (d : List ℕ) (start element component' limit : ℕ) wher
             go true t b u = out (is_later p q) (eqb-true _ _ t)
             go false t true u =
                 walk-later y d start element component' limit (element - e + 1) 0 (stop + 1)
-                (walk-element y d start element component' limit (element - e) k.number i k.walks stop s (is_later p q) (on (eqb-false _ _ t)) _ _ _
-                (eqb-true _ _ u) refl refl refl)
+                (walk-element y d start element component' limit (element - e) k.number i k.walks stop s (is_later p q)
+                (at-element y d stop limit h k.walks.within (eqb-false _ _ t) (eqb-true _ _ u)) _ _ _ refl refl refl)
                 (omega arith)
             go false t false u = absurd (true≢false (sym (ap stays (ending_nothing y _ (eqb-false _ _ t) (eqb-false _ _ u) x)) ∙ f))
 
@@ -102,7 +97,7 @@ module _ (y : Syntax) (d : List ℕ) (start element component' limit : ℕ) wher
               outer = λ z. absurd (z p);
               walks =
                   walk-component y d start element component' limit (element - e) k.number i k.walks stop s (is_later p q)
-                  (on (λ t. omega (arith, t, l))) _ _ _ (λ t. omega (arith, t, l)) refl refl w;
+                  (at-component y d stop limit h k.walks.within (λ t. omega (arith, t, l)) (λ t. omega (arith, t, l))) _ _ _ refl refl w;
             }
 
       module _ (p : e ≡ 0 → ⊥) where
@@ -121,7 +116,8 @@ module _ (y : Syntax) (d : List ℕ) (start element component' limit : ℕ) wher
                 inner = λ m. omega arith;
                 outer = λ m. n;
                 walks =
-                    walk-element y d start element component' limit (element - e) k.number i k.walks stop s (is-further p) (on t) _ _ _ x z refl w;
+                    walk-element y d start element component' limit (element - e) k.number i k.walks stop s (is-further p)
+                    (at-element y d stop limit h k.walks.within t x) _ _ _ z refl w;
               }
 
           pub count_on : (get_or d stop 0 ≡ y.element → ⊥) → (i' : ℕ) → i' ≡ stop + 1 → Counting e c i'
@@ -132,5 +128,6 @@ module _ (y : Syntax) (d : List ℕ) (start element component' limit : ℕ) wher
                 inner = λ m. absurd (p m);
                 outer = k.outer;
                 walks =
-                    walk-component y d start element component' limit (element - e) k.number i k.walks stop s (is-further p) (on t) _ _ _ x refl refl w;
+                    walk-component y d start element component' limit (element - e) k.number i k.walks stop s (is-further p)
+                    (at-component y d stop limit h k.walks.within t x) _ _ _ refl refl w;
               }

@@ -6,20 +6,10 @@ use mathlib.Core.List.{List, [], ◌∷◌}
 use native.Mathlib.Omega.{arith}
 use lib.ListN.{length, length-append}
 use Rattle.cut.specs.declared.service.Syntax.{Syntax}
-use Rattle.element.specs.Elements.{
-  Ending,
-  ends-segment,
-  ends-element,
-  ends-component,
-  ends-nothing,
-  ending_of,
-  releases,
-  Split,
-  listed,
-  before,
-  split_from,
-  elements,
-}
+use Rattle.element.specs.Elements.{ending_of, releases, Split, listed, before, split_from, elements}
+use Rattle.element.specs.declared.endings.Ending.{Ending}
+use Rattle.element.specs.declared.endings.Ending.TheVariants as ends
+use Rattle.std.specs.Prelude.{Option, Some, None}
 use Rattle.element.specs.Components.{in_element, in_elements, width, components}
 
 -- the components of all elements, counted
@@ -27,12 +17,12 @@ unfoldable total : List (List (List ℕ)) → ℕ
 total [] = 0
 total (bs ∷ es) = length bs + total es
 
-before_total : (g : Ending) (x : ℕ) (s : Split) → total (listed (before g x s)) ≤ suc (total (listed s))
+before_total : (g : Option Ending) (x : ℕ) (s : Split) → total (listed (before g x s)) ≤ suc (total (listed s))
 unfolding before total
-before_total ends-segment x s = omega arith
-before_total ends-element x s = omega arith
-before_total ends-component x s = omega arith
-before_total ends-nothing x s = omega arith
+before_total (Some ends.Segment) x s = omega arith
+before_total (Some ends.Element) x s = omega arith
+before_total (Some ends.Component) x s = omega arith
+before_total None x s = omega arith
 
 split_total : (y : Syntax) (r : Bool) (xs : List ℕ) → total (listed (split_from y r xs)) ≤ suc (length xs)
 unfolding split_from total

@@ -6,20 +6,10 @@ use mathlib.Core.List.{List, [], ◌∷◌, ◌++◌, map}
 use borrow.Author.Tests.{eqb-true}
 use lib.Dec.{eqb}
 use Rattle.cut.specs.declared.service.Syntax.{Syntax}
-use Rattle.element.specs.Elements.{
-  Ending,
-  ends-segment,
-  ends-element,
-  ends-component,
-  ends-nothing,
-  ending_of,
-  releases,
-  Split,
-  listed,
-  before,
-  split_from,
-  elements,
-}
+use Rattle.element.specs.Elements.{ending_of, releases, Split, listed, before, split_from, elements}
+use Rattle.element.specs.declared.endings.Ending.{Ending}
+use Rattle.element.specs.declared.endings.Ending.TheVariants as ends
+use Rattle.std.specs.Prelude.{Option, Some, None}
 
 -- lists of bytes, with the byte x between two
 unfoldable pub join_by : ℕ → List (List ℕ) → List ℕ
@@ -31,11 +21,11 @@ join_by x (b ∷ c ∷ cs) = b ++ x ∷ join_by x (c ∷ cs)
 unfoldable pub joined : Syntax → List (List (List ℕ)) → List ℕ
 joined y es = join_by y.element (map (join_by y.component) es)
 
-unfoldable pub keep : Ending → ℕ → List ℕ → List ℕ
-keep ends-segment x xs = []
-keep ends-element x xs = x ∷ xs
-keep ends-component x xs = x ∷ xs
-keep ends-nothing x xs = x ∷ xs
+unfoldable pub keep : Option Ending → ℕ → List ℕ → List ℕ
+keep (Some ends.Segment) x xs = []
+keep (Some ends.Element) x xs = x ∷ xs
+keep (Some ends.Component) x xs = x ∷ xs
+keep None x xs = x ∷ xs
 
 -- the bytes up to the first terminator that is not released
 unfoldable pub until_end : Syntax → Bool → List ℕ → List ℕ
@@ -49,15 +39,15 @@ join_more x z b [] = refl
 join_more x z b (c ∷ cs) = refl
 
 -- the byte x as what it ends says: the element separator, the component separator, or itself
-separator_of : Syntax → Ending → ℕ → ℕ
-separator_of y ends-segment x = x
-separator_of y ends-element x = y.element
-separator_of y ends-component x = y.component
-separator_of y ends-nothing x = x
+separator_of : Syntax → Option Ending → ℕ → ℕ
+separator_of y (Some ends.Segment) x = x
+separator_of y (Some ends.Element) x = y.element
+separator_of y (Some ends.Component) x = y.component
+separator_of y None x = x
 
 separator_by
     : (y : Syntax) (x : ℕ) (a b c : Bool) → (b ≡ true → x ≡ y.element) → (c ≡ true → x ≡ y.component)
-    → x ≡ separator_of y (cond a ends-segment (cond b ends-element (cond c ends-component ends-nothing))) x
+    → x ≡ separator_of y (cond a (Some ends.Segment) (cond b (Some ends.Element) (cond c (Some ends.Component) None))) x
 unfolding separator_of
 separator_by y x true b c e k = refl
 separator_by y x false true c e k = e refl
@@ -70,19 +60,19 @@ separator y true x = refl
 separator y false x =
     separator_by y x (eqb x y.terminator) (eqb x y.element) (eqb x y.component) (eqb-true x y.element) (eqb-true x y.component)
 
-join-nothing : (y : Syntax) (x : ℕ) (s : Split) → joined y (listed (before ends-nothing x s)) ≡ x ∷ joined y (listed s)
+join-nothing : (y : Syntax) (x : ℕ) (s : Split) → joined y (listed (before None x s)) ≡ x ∷ joined y (listed s)
 unfolding joined before
 join-nothing y x s = rw (join_more x y.component s.bytes s.components) (join_more x y.element _ _)
 
 join-before
-    : (y : Syntax) (g : Ending) (x : ℕ) (s : Split) → x ≡ separator_of y g x
+    : (y : Syntax) (g : Option Ending) (x : ℕ) (s : Split) → x ≡ separator_of y g x
     → joined y (listed (before g x s)) ≡ keep g x (joined y (listed s))
 unfolding joined join_by before keep separator_of
-join-before y ends-segment x s h = refl
-join-before y ends-element x s h = rw h
-join-before y ends-component x s h =
+join-before y (Some ends.Segment) x s h = refl
+join-before y (Some ends.Element) x s h = rw h
+join-before y (Some ends.Component) x s h =
     rw h (join_more y.component y.element (join_by y.component (s.bytes ∷ s.components)) (map (join_by y.component) s.elements))
-join-before y ends-nothing x s h = join-nothing y x s
+join-before y None x s h = join-nothing y x s
 
 split-joined : (y : Syntax) (r : Bool) (xs : List ℕ) → joined y (listed (split_from y r xs)) ≡ until_end y r xs
 unfolding split_from until_end joined join_by

@@ -10,9 +10,9 @@ use Rattle.bytewise.specs.Bytes.{part}
 use Rattle.cut.specs.declared.service.Syntax.{Syntax}
 use Rattle.element.specs.Elements.{elements}
 use Rattle.element.specs.Components.{Component, end_of, in_element, in_elements, width, components}
-use Rattle.element.specs.Cursors.{rest, cursor_at, opening, done, visit_of, step_of}
+use Rattle.element.specs.Cursors.{rest, cursor_at, opening, done, visit_at, visit_of, step_of}
 use Rattle.element.specs.declared.cursor.Cursor.{Cursor}
-use Rattle.element.specs.declared.cursor.Visit.TheVariants.{At}
+use Rattle.std.specs.Prelude.{Some}
 use Rattle.element.proofs.components.Each.{Each, none, more, each_append}
 use Rattle.element.proofs.cursor.Visits.{visited}
 use Rattle.element.proofs.cursor.Opening.{rest-opening}
@@ -24,7 +24,7 @@ pub record Placed (d : List ℕ) (z : ℕ) (k : Component) : Type 0 where
 
 step_first
     : (y : Syntax) (d : List ℕ) (k : Cursor) (f : Component) (fs : List Component) → rest y d k ≡ f ∷ fs
-    → step_of y d k ≡ At f.element f.component f.start (end_of f) (cursor_at k.end fs)
+    → step_of y d k ≡ Some (visit_at f.element f.component f.start (end_of f) (cursor_at k.end fs))
 unfolding step_of visit_of
 step_first y d k f fs h = rw h
 

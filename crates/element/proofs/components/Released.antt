@@ -6,11 +6,13 @@ use borrow.Author.Tests.{eqb-true, ne_eqb}
 use lib.Dec.{eqb}
 use Rattle.cut.specs.Segments.{frees}
 use Rattle.cut.specs.declared.service.Syntax.{Syntax}
-use Rattle.element.specs.Elements.{ends-segment, ends-element, ends-component, ends-nothing, ending_of, stays, releases}
+use Rattle.element.specs.Elements.{ending_of, stays, releases}
+use Rattle.element.specs.declared.endings.Ending.TheVariants as ends
+use Rattle.std.specs.Prelude.{Some, None}
 
 released_by
     : (a b c f : Bool) → (b ≡ true → f ≡ false) → (c ≡ true → f ≡ false)
-    → stays (cond a ends-segment (cond b ends-element (cond c ends-component ends-nothing))) && (not a && f) ≡ not a && f
+    → stays (cond a (Some ends.Segment) (cond b (Some ends.Element) (cond c (Some ends.Component) None))) && (not a && f) ≡ not a && f
 unfolding stays
 released_by true b c f h k = refl
 released_by false true c f h k = sym (h refl)

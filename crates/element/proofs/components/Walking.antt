@@ -1,24 +1,35 @@
 -- The walk to a component: where it stands, and each step of it.
 use Prim.Native.Nat.{ℕ, ◌+◌, ◌≤◌, ◌<◌, min}
 use mathlib.Core.Path.{◌≡◌, refl, sym, ap, ◌∙◌}
-use mathlib.Core.Bool.{Bool, true, false, not, ◌&&◌, true≢false, false≢true}
+use mathlib.Core.Bool.{and-false, true, false, ◌&&◌}
+use mathlib.Core.Logic.{◌⊎◌, inl, inr}
 use mathlib.Core.List.{List}
 use native.Mathlib.Omega.{arith}
-use borrow.Author.Tests.{lt-ltb, le-ltb, ltb-true, ltb-false, eqb-true, eqb-false}
-use lib.ListN.{length, get_or, drop}
-use lib.Dec.{eqb, ltb}
+use borrow.Author.Tests.{eq-eqb, ne_eqb, lt-ltb, le-ltb}
+use lib.ListN.{length, drop}
+use lib.Dec.{eqb}
 use Rattle.bytewise.specs.Bytes.{part}
 use Rattle.cut.specs.declared.service.Syntax.{Syntax}
-use Rattle.element.specs.Elements.{component}
+use Rattle.element.specs.Elements.{component, ending_at}
+use Rattle.element.specs.declared.endings.Ending.TheVariants as ends
 use Rattle.element.specs.Components.{span_in, component_at}
 use Rattle.element.specs.Cursors.{rest, done, cursor_at, opening, Stopped}
 use Rattle.element.specs.declared.components.Span.{Span}
 use Rattle.element.specs.declared.cursor.Cursor.{Cursor}
 use Rattle.bytewise.proofs.Limits.{limited}
 use Rattle.element.proofs.cursor.Standing.{Stands, standing_of, rest-done}
-use Rattle.element.proofs.cursor.Onward.{next_by, after_none, after-segment, after-element, after-component, step-at}
+use Rattle.element.proofs.cursor.Onward.{next_by, after-ending, step-at}
 use Rattle.element.proofs.cursor.Visits.{Visited, visited}
+use Rattle.element.proofs.scan.Endings.{inside-element, inside-component}
 use Rattle.element.proofs.components.Searching.{search_begins, search_out, search_later, search_found, search_next}
+
+-- other numbers than those of the component, and the same
+pub differs : (e element c component' : ℕ) → ((e ≡ element) × (c ≡ component' → ⊥)) ⊎ (e ≡ element → ⊥) → eqb e element && eqb c component' ≡ false
+differs e element c component' (inl h) = rw (ne_eqb c component' h.1) (and-false (eqb e element))
+differs e element c component' (inr h) = rw (ne_eqb e element h)
+
+pub equal : (e element c component' : ℕ) → e ≡ element → c ≡ component' → eqb e element && eqb c component' ≡ true
+equal e element c component' h k = rw (eq-eqb e element h, eq-eqb c component' k)
 
 -- the cursor before component c of element e, at the place i
 abbrev at : ℕ → ℕ → ℕ → ℕ → Cursor
@@ -89,49 +100,33 @@ module _ (y : Syntax) (d : List ℕ) (start element component' limit : ℕ) wher
       out : next ≡ done → missing ≡ answer
       out h = sym (search_out y d start element component' done (rest-done y d)) ∙ on done h
 
-      pub walk_out : ltb stop limit && not (eqb (get_or d stop 0) y.terminator) ≡ false → missing ≡ answer
+      pub walk_out : ending_at y d stop limit ≡ ends.Segment → missing ≡ answer
       unfolding next_by
-      walk_out g = go (ltb stop limit) refl (eqb (get_or d stop 0) y.terminator) refl g
-        where
-          go : (a : Bool) → ltb stop limit ≡ a → (b : Bool) → eqb (get_or d stop 0) y.terminator ≡ b → a && not b ≡ false → missing ≡ answer
-          go false p b q g = out (after_none y d (at e c i limit) stop limit stopped (ltb-false _ _ p))
-          go true p true q g = out (after-segment y d (at e c i limit) stop limit stopped (ltb-true _ _ p) (eqb-true _ _ q))
-          go true p false q g = absurd (true≢false g)
+      walk_out g = out (after-ending y d (at e c i limit) stop limit stopped ends.Segment g)
 
-      module _ (g : ltb stop limit && not (eqb (get_or d stop 0) y.terminator) ≡ true) where
-        pub walk_inside : (i ≤ stop) × (stop < limit) × (get_or d stop 0 ≡ y.terminator → ⊥)
-        walk_inside = go (ltb stop limit) refl (eqb (get_or d stop 0) y.terminator) refl g
-          where
-            go
-                : (a : Bool) → ltb stop limit ≡ a → (b : Bool) → eqb (get_or d stop 0) y.terminator ≡ b → a && not b ≡ true
-                → (i ≤ stop) × (stop < limit) × (get_or d stop 0 ≡ y.terminator → ⊥)
-            go false p b q g = absurd (false≢true g)
-            go true p true q g = absurd (false≢true g)
-            go true p false q g = (omega arith, ltb-true _ _ p, eqb-false _ _ q)
+      -- the numbers and the place of the next component, by the byte before it
+      pub walk-element : ending_at y d stop limit ≡ ends.Element → (e' c' i' : ℕ) → e' ≡ e + 1 → c' ≡ 0 → i' ≡ stop + 1 → Walking e' c' i'
+      unfolding next_by
+      walk-element g e' c' i' p q r =
+          let l = inside-element y d stop limit g in
+          let b = w.within in
+          let t = w.stands in
+          rw (p, q, r)
+          (record {
+            within = w.within;
+            stands = record { place = omega arith; element = omega arith; component = omega arith };
+            search = on _ (after-ending y d (at e c i limit) stop limit stopped ends.Element g);
+          })
 
-        -- the numbers and the place of the next component, by the byte before it
-        pub walk-element : (e' c' i' : ℕ) → get_or d stop 0 ≡ y.element → e' ≡ e + 1 → c' ≡ 0 → i' ≡ stop + 1 → Walking e' c' i'
-        unfolding next_by
-        walk-element e' c' i' x p q r =
-            let k = walk_inside in
-            let b = w.within in
-            let t = w.stands in
-            rw (p, q, r)
-            (record {
-              within = w.within;
-              stands = record { place = omega arith; element = omega arith; component = omega arith };
-              search = on _ (after-element y d (at e c i limit) stop limit stopped k.1 k.2 x);
-            })
-
-        pub walk-component : (e' c' i' : ℕ) → (get_or d stop 0 ≡ y.element → ⊥) → e' ≡ e → c' ≡ c + 1 → i' ≡ stop + 1 → Walking e' c' i'
-        unfolding next_by
-        walk-component e' c' i' x p q r =
-            let k = walk_inside in
-            let b = w.within in
-            let t = w.stands in
-            rw (p, q, r)
-            (record {
-              within = w.within;
-              stands = record { place = omega arith; element = omega arith; component = omega arith };
-              search = on _ (after-component y d (at e c i limit) stop limit stopped k.1 k.2 x);
-            })
+      pub walk-component : ending_at y d stop limit ≡ ends.Component → (e' c' i' : ℕ) → e' ≡ e → c' ≡ c + 1 → i' ≡ stop + 1 → Walking e' c' i'
+      unfolding next_by
+      walk-component g e' c' i' p q r =
+          let l = inside-component y d stop limit g in
+          let b = w.within in
+          let t = w.stands in
+          rw (p, q, r)
+          (record {
+            within = w.within;
+            stands = record { place = omega arith; element = omega arith; component = omega arith };
+            search = on _ (after-ending y d (at e c i limit) stop limit stopped ends.Component g);
+          })

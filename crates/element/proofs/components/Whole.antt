@@ -7,7 +7,9 @@ use borrow.Author.Tests.{eqb-true}
 use lib.Dec.{eqb}
 use Rattle.cut.specs.Segments.{Segment, ends, frees, join, segments_from}
 use Rattle.cut.specs.declared.service.Syntax.{Syntax}
-use Rattle.element.specs.Elements.{ends-segment, ends-element, ends-component, ends-nothing, ending_of, releases, elements}
+use Rattle.element.specs.Elements.{ending_of, releases, elements}
+use Rattle.element.specs.declared.endings.Ending.TheVariants as ends
+use Rattle.std.specs.Prelude.{Some, None}
 use Rattle.element.proofs.scan.Endings.{ending_segment}
 use Rattle.element.proofs.components.Joined.{joined, keep, until_end, elements-joined}
 use Rattle.element.proofs.components.Released.{releases-frees}
@@ -17,14 +19,14 @@ unfoldable pub last_of : Syntax → Segment → List ℕ
 last_of y s = cond s.piece [] (y.terminator ∷ [])
 
 -- a byte that cutting takes for the end is the terminator and ends the segment here too; any other is kept
-pub end_is : (y : Syntax) (r : Bool) (x : ℕ) → ends y r x ≡ true → (ending_of y r x ≡ ends-segment) × (x ≡ y.terminator)
+pub end_is : (y : Syntax) (r : Bool) (x : ℕ) → ends y r x ≡ true → (ending_of y r x ≡ Some ends.Segment) × (x ≡ y.terminator)
 unfolding ends
 end_is y true x h = absurd (false≢true h)
 end_is y false x h =
     let t = eqb-true x y.terminator h in
     (ending_segment y x t, t)
 
-keep-by : (b c : Bool) (x : ℕ) (xs : List ℕ) → keep (cond b ends-element (cond c ends-component ends-nothing)) x xs ≡ x ∷ xs
+keep-by : (b c : Bool) (x : ℕ) (xs : List ℕ) → keep (cond b (Some ends.Element) (cond c (Some ends.Component) None)) x xs ≡ x ∷ xs
 unfolding keep
 keep-by true c x xs = refl
 keep-by false true x xs = refl

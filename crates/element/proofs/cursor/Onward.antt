@@ -1,22 +1,25 @@
 -- The component that a cursor stands before, and the cursor after it.
 use Prim.Native.Nat.{ℕ, ◌+◌, ◌≤◌, ◌<◌}
-use mathlib.Core.Path.{◌≡◌, sym, ap, ◌∙◌}
+use mathlib.Core.Path.{◌≡◌, refl, sym, ap, ◌∙◌}
 use mathlib.Core.Bool.{false, true≢false}
 use mathlib.Core.List.{List, ◌∷◌}
+use native.Mathlib.Decide.{dec_le}
 use native.Mathlib.Omega.{arith}
 use lib.ListN.{length, get_or, drop}
 use Rattle.bytewise.specs.Bytes.{part}
 use Rattle.cut.specs.declared.service.Syntax.{Syntax}
-use Rattle.element.specs.Elements.{Ending, ends-segment, ends-element, ends-component, ends-nothing, ending_of, stays, Split, before, split_from}
+use Rattle.element.specs.Elements.{ending_of, ending_at, stays, Split, before, split_from}
+use Rattle.element.specs.declared.endings.Ending.{Ending}
+use Rattle.element.specs.declared.endings.Ending.TheVariants as ends
+use Rattle.std.specs.Prelude.{Option, Some, None, unwrap_or}
 use Rattle.element.specs.Components.{Component, in_element}
-use Rattle.element.specs.Cursors.{rest_from, rest, done, cursor_at, visit_of, step_of, Stopped}
+use Rattle.element.specs.Cursors.{rest_from, rest, done, cursor_at, visit_at, visit_of, step_of, Stopped}
 use Rattle.element.specs.declared.cursor.Cursor.{Cursor}
-use Rattle.element.specs.declared.cursor.Visit.TheVariants.{At}
-use Rattle.element.proofs.scan.Endings.{ending_segment, ending_element, ending_left}
 use Rattle.bytewise.proofs.Limits.{limited}
 use Rattle.element.proofs.scan.Splits.{Last, Stop}
 use Rattle.element.proofs.cursor.Standing.{stands, standing_of, rest-standing, cursor_rest, rest-done}
 use Rattle.element.proofs.cursor.Steps.{first, rest-last, rest-element, rest-component}
+use Rattle.element.proofs.scan.Endings.{at-end, at-byte}
 use Rattle.element.proofs.scan.Stopping.{Ended, ended}
 
 -- the component that the cursor k stands before, where it ends at the place stop
@@ -32,12 +35,11 @@ pub record Onward (y : Syntax) (d : List ℕ) (k : Cursor) (stop : ℕ) (next : 
 pub onward-next : (y : Syntax) (d : List ℕ) (k : Cursor) (stop : ℕ) (next : Cursor) → Onward y d k stop next → cursor_at k.end (drop 1 (rest y d k)) ≡ next
 onward-next y d k stop next o = rw o.list o.back
 
--- the cursor after a component that ends at the place stop, by what the byte there ends
+-- the cursor after a component that ends at the place stop, by what ends there
 unfoldable pub next_by : Ending → ℕ → Cursor → Cursor
-next_by ends-segment stop k = done
-next_by ends-element stop k = record { element = k.element + 1; component = 0; place = stop + 1; end = k.end }
-next_by ends-component stop k = record { element = k.element; component = k.component + 1; place = stop + 1; end = k.end }
-next_by ends-nothing stop k = done
+next_by ends.Segment stop k = done
+next_by ends.Element stop k = record { element = k.element + 1; component = 0; place = stop + 1; end = k.end }
+next_by ends.Component stop k = record { element = k.element; component = k.component + 1; place = stop + 1; end = k.end }
 
 module _ (y : Syntax) (d : List ℕ) (k : Cursor) (stop limit : ℕ) (q : Stopped y d k stop limit) where
   -- what stands from the cursor on, and after the byte that ends its component
@@ -85,44 +87,45 @@ module _ (y : Syntax) (d : List ℕ) (k : Cursor) (stop limit : ℕ) (q : Stoppe
   pub onward-none : limit ≤ stop → Onward y d k stop done
   onward-none h = onward-done (stopped_at.last h)
 
-  pub onward-by : (g : Ending) → ending_of y false (get_or d stop 0) ≡ g → stop < limit → Onward y d k stop (next_by g stop k)
-  unfolding next_by before stays
-  onward-by ends-segment e h =
+  onward-by : (g : Ending) → ending_of y false (get_or d stop 0) ≡ Some g → stop < limit → Onward y d k stop (next_by g stop k)
+  unfolding next_by before
+  onward-by ends.Segment e h =
       let s = stopped h in
       onward-done (record { components = rw e at s.components; elements = rw e at s.elements })
-  onward-by ends-element e h =
+  onward-by ends.Element e h =
       let s = stopped h in
       let a = stopped_at.ends in
       let t = stands d k q.stands in
       onward-at (k.element + 1) 0 (omega arith) (omega arith) h
       (rest-element k.element k.component k.place S T (rw e at s.components) (rw e at s.elements))
-  onward-by ends-component e h =
+  onward-by ends.Component e h =
       let s = stopped h in
       let a = stopped_at.ends in
       let t = stands d k q.stands in
       onward-at k.element (k.component + 1) (omega arith) (omega arith) h
       (rest-component k.element k.component k.place S T (rw e at s.components) (rw e at s.elements))
-  onward-by ends-nothing e h = absurd (true≢false (sym (ap stays e) ∙ ends-here h))
 
-  -- the same by the tests on the byte, for the function `after`
-  pub after_none : limit ≤ stop → cursor_at k.end (drop 1 (rest y d k)) ≡ done
-  after_none h = onward-next _ _ _ _ _ (onward-none h)
+  -- by what ends where the component does
+  pub onward-ending : Onward y d k stop (next_by (ending_at y d stop limit) stop k)
+  unfolding next_by stays
+  onward-ending = go (dec_le limit stop)
+    where
+      at : (g : Option Ending) → ending_of y false (get_or d stop 0) ≡ g → stop < limit → Onward y d k stop (next_by (unwrap_or g ends.Component) stop k)
+      at (Some g) e h = onward-by g e h
+      at None e h = absurd (true≢false (sym (ap stays e) ∙ ends-here h))
 
-  pub after-segment : stop < limit → get_or d stop 0 ≡ y.terminator → cursor_at k.end (drop 1 (rest y d k)) ≡ next_by ends-segment stop k
-  after-segment h t = onward-next _ _ _ _ _ (onward-by ends-segment (ending_segment y _ t) h)
+      go : Dec (limit ≤ stop) → Onward y d k stop (next_by (ending_at y d stop limit) stop k)
+      go (yes h) = rw (at-end y d stop limit h) (onward-none h)
+      go (no h) =
+          let l : stop < limit = omega arith in
+          let w = q.within in
+          rw (at-byte y d stop limit l (omega arith)) (at _ refl l)
 
-  pub after-element
-      : stop < limit → (get_or d stop 0 ≡ y.terminator → ⊥) → get_or d stop 0 ≡ y.element
-      → cursor_at k.end (drop 1 (rest y d k)) ≡ next_by ends-element stop k
-  after-element h t e = onward-next _ _ _ _ _ (onward-by ends-element (ending_element y _ t e) h)
-
-  pub after-component
-      : stop < limit → (get_or d stop 0 ≡ y.terminator → ⊥) → (get_or d stop 0 ≡ y.element → ⊥)
-      → cursor_at k.end (drop 1 (rest y d k)) ≡ next_by ends-component stop k
-  after-component h t e = onward-next _ _ _ _ _ (onward-by ends-component (ending_left y _ t e (ends-here h)) h)
+  pub after-ending : (g : Ending) → ending_at y d stop limit ≡ g → cursor_at k.end (drop 1 (rest y d k)) ≡ next_by g stop k
+  after-ending g e = onward-next y d k stop _ (rw e at onward-ending)
 
   pub step-at
-      : (next : Cursor) → next ≡ cursor_at k.end (drop 1 (rest y d k)) → step_of y d k ≡ At k.element k.component k.place stop next
+      : (next : Cursor) → next ≡ cursor_at k.end (drop 1 (rest y d k)) → step_of y d k ≡ Some (visit_at k.element k.component k.place stop next)
   unfolding step_of visit_of rest_from in_element
   step-at next n =
       let z = stopped_at.ends in

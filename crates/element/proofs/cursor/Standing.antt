@@ -14,7 +14,7 @@ use Rattle.element.specs.Elements.{split_from}
 use Rattle.element.specs.Components.{in_element}
 use Rattle.element.specs.Cursors.{rest_from, standing, rest, done, cursor_at, visit_of, step_of}
 use Rattle.element.specs.declared.cursor.Cursor.{Cursor}
-use Rattle.element.specs.declared.cursor.Visit.TheVariants.{Nothing}
+use Rattle.std.specs.Prelude.{None}
 
 -- the tests of `standing` as orders
 pub record Stands (d : List ℕ) (k : Cursor) : Type 0 where
@@ -46,19 +46,19 @@ cursor_rest y d k h = rw (rest-standing y d k h)
 
 -- a cursor that does not stand gives nothing
 module _ (y : Syntax) (d : List ℕ) (k : Cursor) where
-  pub step_none : standing d k ≡ false → step_of y d k ≡ Nothing
+  pub step_none : standing d k ≡ false → step_of y d k ≡ None
   unfolding step_of rest visit_of
   step_none f = rw f
 
-  pub past_end : (limit : ℕ) → limit ≡ min k.end (length d) → limit < k.place → step_of y d k ≡ Nothing
+  pub past_end : (limit : ℕ) → limit ≡ min k.end (length d) → limit < k.place → step_of y d k ≡ None
   unfolding standing
   past_end limit w h = step_none (rw (← w, lt-leb _ _ h))
 
-  pub past-element : k.place < k.element → step_of y d k ≡ Nothing
+  pub past-element : k.place < k.element → step_of y d k ≡ None
   unfolding standing
   past-element h = step_none (rw (lt-leb k.element k.place h) (and-false (leb k.place (min k.end (length d)))))
 
-  pub past-component : k.place < k.component → step_of y d k ≡ Nothing
+  pub past-component : k.place < k.component → step_of y d k ≡ None
   unfolding standing
   past-component h =
       step_none (rw (lt-leb k.component k.place h, and-false (leb k.element k.place)) (and-false (leb k.place (min k.end (length d)))))

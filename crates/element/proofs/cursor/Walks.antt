@@ -10,14 +10,14 @@ use Rattle.element.specs.Components.{Component, components}
 use Rattle.element.specs.Cursors.{rest, opening, step_of}
 use Rattle.element.specs.declared.cursor.Cursor.{Cursor}
 use Rattle.element.specs.declared.cursor.Visit.{Visit}
-use Rattle.element.specs.declared.cursor.Visit.TheVariants.{At, Nothing}
+use Rattle.std.specs.Prelude.{Option, Some, None}
 use Rattle.element.proofs.cursor.Visits.{visited, nothing_left}
 use Rattle.element.proofs.cursor.Opening.{rest-opening}
 
 -- what one step gives, its bytes read from the delivery at the places it gives, before what comes from the next cursor on
-unfoldable pub given : List ℕ → Visit → (Cursor → List Component) → List Component
-given d Nothing f = []
-given d (At e c a b next) f = record { element = e; component = c; start = a; bytes = part a b d } ∷ f next
+unfoldable pub given : List ℕ → Option Visit → (Cursor → List Component) → List Component
+given d None f = []
+given d (Some v) f = record { element = v.element; component = v.component; start = v.start; bytes = part v.start v.end d } ∷ f v.next
 
 -- what at most n steps give
 unfoldable pub walk : Syntax → List ℕ → ℕ → Cursor → List Component
@@ -28,15 +28,15 @@ empty_list : (ks : List Component) → length ks ≤ 0 → [] ≡ ks
 empty_list [] h = refl
 empty_list (k ∷ ks) h = absurd (omega arith)
 
-walk-by : (y : Syntax) (d : List ℕ) (n : ℕ) (k : Cursor) (v : Visit) → step_of y d k ≡ v → length (rest y d k) ≤ suc n
+walk-by : (y : Syntax) (d : List ℕ) (n : ℕ) (k : Cursor) (v : Option Visit) → step_of y d k ≡ v → length (rest y d k) ≤ suc n
     → ((next : Cursor) → length (rest y d next) ≤ n → walk y d n next ≡ rest y d next) → given d v (walk y d n) ≡ rest y d k
 unfolding given
-walk-by y d n k Nothing s h ih = sym (nothing_left y d k s)
-walk-by y d n k (At e c a b next) s h ih =
-    let v = visited y d k e c a b next s in
-    let l = ap length v.list in
-    let r = ih next (omega arith) in
-    rw (v.list, r)
+walk-by y d n k None s h ih = sym (nothing_left y d k s)
+walk-by y d n k (Some v) s h ih =
+    let here = visited y d k v.element v.component v.start v.end v.next s in
+    let l = ap length here.list in
+    let r = ih v.next (omega arith) in
+    rw (here.list, r)
 
 pub walk-rest : (y : Syntax) (d : List ℕ) (n : ℕ) (k : Cursor) → length (rest y d k) ≤ n → walk y d n k ≡ rest y d k
 unfolding walk

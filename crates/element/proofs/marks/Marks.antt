@@ -1,5 +1,5 @@
 -- Marks: the usual service characters, `;` and `>` and the bytes that are not allowed, eight at once by the high bit of each byte.
-use Prim.Native.Nat.{ℕ, ◌+◌, ◌*◌, ◌%◌, ◌<◌}
+use Prim.Native.Nat.{ℕ, suc, ◌+◌, ◌*◌, ◌%◌, ◌<◌}
 use mathlib.Core.Path.{◌≡◌, refl, sym, ◌∙◌}
 use mathlib.Core.Bool.{Bool, true, false, not, ◌||◌, true≢false}
 use native.Mathlib.Omega.{arith}
@@ -7,7 +7,7 @@ use lib.Dec.{eqb, eqb→eq}
 use lib.Bits.{bit_and, bit_or, bit_xor, and_le_r, xor_lt}
 use Rattle.cut.specs.Base.{edifact}
 use Rattle.bytewise.specs.Every.{every}
-use Rattle.bytewise.specs.Eights.{flag, flags}
+use Rattle.bytewise.specs.Eights.{number, byte_of, flag, flags, Flagged}
 use Rattle.cut.specs.declared.service.Syntax.{Syntax}
 use Rattle.bytewise.proofs.Every.{every-at}
 use Rattle.bytewise.proofs.Bytewise.{Eight, eight-and, eight-or, eight_xor, eight-add, eight_each, low, high, flags_of}
@@ -94,3 +94,18 @@ mark-flags w x p t e c ft fe fc =
     rw (ft, fe, fc)
     (flags_of (eight_xor (eight-and (eight-and (eight-or (eight-and ends (eight_xor delete high)) p) text) high) high) (λ k. is_mark (x k))
     (λ k. mark-byte (x k) (p.bytes k)))
+
+-- a byte alone: the first of eight
+pub marked_alone : (x m : ℕ) → x < 256 → Flagged x is_mark m → not (eqb (m % 256) 0) ≡ is_mark x
+unfolding flags number byte_of
+marked_alone x m h f =
+    let z : x % 256 ≡ x = omega arith in
+    rw (f, z) (go (number 7 (λ k. flag (is_mark (byte_of x (suc k))))) (is_mark x))
+  where
+    go : (n : ℕ) (b : Bool) → not (eqb ((n * 256 + flag b) % 256) 0) ≡ b
+    go n true =
+        let z : (n * 256 + 128) % 256 ≡ 128 = omega arith in
+        rw z
+    go n false =
+        let z : (n * 256 + 0) % 256 ≡ 0 = omega arith in
+        rw z

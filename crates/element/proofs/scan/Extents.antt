@@ -3,6 +3,8 @@ use Prim.Native.Nat.{ℕ, zero, suc, ◌+◌, ◌-◌, ◌≤◌, ◌<◌, min}
 use mathlib.Core.Path.{◌≡◌, sym, ap, ◌∙◌}
 use mathlib.Core.Bool.{true, false}
 use mathlib.Core.List.{List, [], ◌∷◌}
+use mathlib.Core.Logic.{◌⊎◌, inl, inr}
+use native.Mathlib.Decide.{dec_le}
 use native.Mathlib.Nat.{add-zero}
 use native.Mathlib.Omega.{arith}
 use lib.ListN.{length, get_or}
@@ -13,12 +15,13 @@ use Rattle.element.specs.declared.scan.Extent.{Extent}
 use Rattle.element.specs.Elements.{ending_of, stays, releases, before, split_from, component}
 use Rattle.element.specs.Components.{extent_of}
 use Rattle.plain.specs.Plain.{plain, decoded}
-use Rattle.element.specs.Services.{Service}
+use Rattle.element.specs.Services.{is_service, Service}
+use Rattle.bytewise.specs.Search.{FirstThat}
 use Rattle.plain.proofs.Decoding.{plain_byte, unmarked}
 use Rattle.bytewise.proofs.Limits.{limited}
 use Rattle.element.proofs.scan.Endings.{stays-nothing}
 use Rattle.element.proofs.scan.Scanning.{first-component, bytes-none}
-use Rattle.element.proofs.scan.Services.{plain-stays, plain_no_mark, service-ends}
+use Rattle.element.proofs.scan.Services.{plain-stays, plain_no_mark, service-ends, service-first}
 use Rattle.element.proofs.scan.Stopping.{Ended, ended}
 
 module _ (y : Syntax) (d : List ℕ) (from end limit : ℕ) where
@@ -93,6 +96,11 @@ module _ (y : Syntax) (d : List ℕ) (from end limit : ℕ) where
             ap (λ (n : ℕ). i - from + n) c ∙ ap (λ (l : List ℕ). i - from + length (plain y false l)) (sym b) ∙ r.counts in
             λ j. record { end = a j; length = m j }
 
+  pub extent-empty : limit ≡ min end (length d) → limit ≤ from → record { end = from; length = 0 } ≡ extent_of y d from end
+  extent-empty lim h =
+      let z : from - from ≡ 0 = omega arith in
+      rw z at (reached-past from (reached-first lim) h)
+
   -- where the first byte that ends something or is the release character stands at r, if one does before limit
   module _ (lim : limit ≡ min end (length d)) (r : ℕ) (s : Service y d from limit r) where
     reached-run : (n : ℕ) → from + n ≤ limit → from + n ≤ r → Reached (from + n)
@@ -107,11 +115,6 @@ module _ (y : Syntax) (d : List ℕ) (from end limit : ℕ) where
         let z : from + (i - from) ≡ i = omega arith in
         rw z at (reached-run (i - from) (omega arith) (omega arith))
 
-    pub extent-empty : limit ≤ from → record { end = from; length = 0 } ≡ extent_of y d from end
-    extent-empty h =
-        let z : from - from ≡ 0 = omega arith in
-        rw z at (reached-past from (reached-first lim) h)
-
     pub extent-whole : from < limit → limit ≤ r → record { end = limit; length = limit - from } ≡ extent_of y d from end
     extent-whole a h = reached-past limit (reached-at limit (omega arith) (omega arith) h) (omega arith)
 
@@ -125,11 +128,30 @@ module _ (y : Syntax) (d : List ℕ) (from end limit : ℕ) where
       pub extent-stop : (get_or d r 0 ≡ y.release → ⊥) → record { end = r; length = r - from } ≡ extent_of y d from end
       extent-stop n = extent-ends (service-ends y _ (s.here h) n)
 
+  -- up to the part's end or to a byte that is not the release character
+  module _ (lim : limit ≡ min end (length d)) (ahead : from < limit) (r : ℕ) (f : FirstThat (is_service y) d from (min limit (length d)) r) where
+    pub extent-first : Service y d from limit r
+    extent-first = service-first y d from limit r (omega arith) (omega arith) f
+
+    pub extent-plain : (limit ≤ r) ⊎ (get_or d r 0 ≡ y.release → ⊥) → record { end = r; length = r - from } ≡ extent_of y d from end
+    extent-plain h = go (dec_le limit r) h
+      where
+        go : Dec (limit ≤ r) → (limit ≤ r) ⊎ (get_or d r 0 ≡ y.release → ⊥) → record { end = r; length = r - from } ≡ extent_of y d from end
+        go (yes l) k =
+            let w = f.within in
+            let z : limit ≡ r = omega arith in
+            rw z at (extent-whole lim r extent-first ahead l)
+        go (no l) (inl m) = absurd (l m)
+        go (no l) (inr n) = extent-stop lim r extent-first (omega arith) n
+
 -- what the answer says of the component that begins at the place a
 module _ (y : Syntax) (d : List ℕ) (a e : ℕ) (r : Extent) (h : r ≡ extent_of y d a e) where
   pub extent_end : r.end ≡ a + length (component y (part a e d) 0 0)
   unfolding extent_of
   extent_end = ap (λ (x : Extent). x.end) h
+
+  pub extent-onward : a ≤ r.end
+  extent-onward = omega (arith, extent_end)
 
   module _ (ahead : a ≤ e) (fits : e ≤ length d) where
     pub extent_ended : Ended y d a e r.end

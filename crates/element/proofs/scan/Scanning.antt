@@ -1,9 +1,10 @@
 -- The end of a component, a byte at a time.
 use Prim.Native.Nat.{ℕ, ◌+◌, ◌≤◌, ◌<◌}
-use mathlib.Core.Path.{◌≡◌, refl}
+use mathlib.Core.Path.{◌≡◌, refl, ap, ◌∙◌}
 use mathlib.Core.Bool.{Bool, true, false, true≢false}
 use mathlib.Core.List.{List, [], ◌∷◌}
-use native.Mathlib.Nat.{add-zero}
+use Rattle.bytewise.proofs.Limits.{part_out}
+use native.Mathlib.Nat.{le_refl, zero-add, add-zero}
 use native.Mathlib.Omega.{arith}
 use lib.ListN.{length, get_or}
 use Rattle.bytewise.specs.Bytes.{part}
@@ -11,21 +12,10 @@ use Rattle.cut.specs.Segments.{frees}
 use Rattle.cut.specs.declared.service.Syntax.{Syntax}
 use Rattle.bytewise.proofs.Parts.{part_none, part-next}
 use Rattle.element.proofs.scan.Endings.{stays-nothing}
-use Rattle.element.specs.Elements.{
-  Ending,
-  ends-segment,
-  ends-element,
-  ends-component,
-  ends-nothing,
-  ending_of,
-  stays,
-  releases,
-  Split,
-  before,
-  split_from,
-  elements,
-  component,
-}
+use Rattle.element.specs.Elements.{ending_of, stays, releases, Split, before, split_from, elements, component}
+use Rattle.element.specs.declared.endings.Ending.{Ending}
+use Rattle.element.specs.declared.endings.Ending.TheVariants as ends
+use Rattle.std.specs.Prelude.{Option, Some, None}
 
 -- the end of the component whose byte at i is released or not, as r says, in the part of d up to e
 unfoldable pub end_from : Syntax → List ℕ → ℕ → Bool → ℕ → ℕ
@@ -40,12 +30,18 @@ pub end_whole : (y : Syntax) (d : List ℕ) (e i : ℕ) → end_from y d e false
 unfolding end_from
 end_whole y d e i = rw first-component
 
-pub bytes-none : (g : Ending) (x : ℕ) (s : Split) → stays g ≡ false → (before g x s).bytes ≡ []
+-- the same of all of some bytes
+pub end-first : (y : Syntax) (s : List ℕ) → end_from y s (length s) false 0 ≡ length (component y s 0 0)
+end-first y s =
+    let w = part_out s 0 (length s) (le_refl (length s)) in
+    end_whole y s (length s) 0 ∙ ap (λ (l : List ℕ). 0 + length (component y l 0 0)) w ∙ zero-add _
+
+pub bytes-none : (g : Option Ending) (x : ℕ) (s : Split) → stays g ≡ false → (before g x s).bytes ≡ []
 unfolding stays before
-bytes-none ends-segment x s h = refl
-bytes-none ends-element x s h = refl
-bytes-none ends-component x s h = refl
-bytes-none ends-nothing x s h = absurd (true≢false h)
+bytes-none (Some ends.Segment) x s h = refl
+bytes-none (Some ends.Element) x s h = refl
+bytes-none (Some ends.Component) x s h = refl
+bytes-none None x s h = absurd (true≢false h)
 
 module _ (y : Syntax) (d : List ℕ) (e : ℕ) (r : Bool) (i : ℕ) where
   pub end_past : e ≤ i → end_from y d e r i ≡ i

@@ -1,22 +1,26 @@
 -- The bytes that end something or release the next one, a byte at a time and eight at once.
-use Prim.Native.Nat.{ℕ, ◌+◌, ◌-◌, ◌≤◌, ◌<◌}
-use mathlib.Core.Path.{◌≡◌, refl, sym, ap, ◌∙◌}
+use Prim.Native.Nat.{ℕ, ◌+◌, ◌-◌, ◌≤◌, ◌<◌, min}
+use mathlib.Core.Path.{◌≡◌, refl, ap}
 use mathlib.Core.Bool.{Bool, true, false, cond, not, ◌||◌, true≢false, false≢true}
 use mathlib.Core.List.{List}
 use native.Mathlib.Omega.{arith}
-use borrow.Author.Tests.{eq-eqb, ne_eqb, eqb-false, leb-true, leb-false}
-use lib.ListN.{get_or}
+use borrow.Author.Tests.{ne_eqb, eqb-false, leb-true, leb-false}
+use lib.ListN.{length, get_or}
+use Rattle.bytewise.specs.Search.{FirstThat}
+use Rattle.bytewise.proofs.Searching.{first_before}
 use lib.Dec.{eqb, leb}
 use lib.Bits.{bit_or}
 use Rattle.bytewise.specs.Eights.{on_from, flags}
 use Rattle.cut.specs.declared.service.Syntax.{Syntax}
-use Rattle.bytewise.proofs.Bytewise.{FirstOf, flags-none, flags-or}
-use Rattle.element.specs.Elements.{ends-segment, ends-element, ends-component, ends-nothing, ending_of, stays}
+use Rattle.bytewise.proofs.Bytewise.{FirstOf, flags-or}
+use Rattle.element.specs.Elements.{ending_of, stays}
+use Rattle.element.specs.declared.endings.Ending.TheVariants as ends
+use Rattle.std.specs.Prelude.{Some, None}
 use Rattle.element.specs.Services.{is_service, Passed, Service}
 
 -- ---- one byte
 
-one_of : (a b c : Bool) → (a || b) || c ≡ not (stays (cond a ends-segment (cond b ends-element (cond c ends-component ends-nothing))))
+one_of : (a b c : Bool) → (a || b) || c ≡ not (stays (cond a (Some ends.Segment) (cond b (Some ends.Element) (cond c (Some ends.Component) None))))
 unfolding stays
 one_of true b c = refl
 one_of false true c = refl
@@ -36,14 +40,6 @@ module _ (y : Syntax) (x : ℕ) where
   pub service_end : stays (ending_of y false x) ≡ false → is_service y x ≡ true
   unfolding is_service
   service_end f = rw f
-
-  pub service-mark : stays (ending_of y false x) ≡ true → x ≡ y.release → is_service y x ≡ true
-  unfolding is_service
-  service-mark t e = rw (t, eq-eqb x y.release e)
-
-  pub service-none : stays (ending_of y false x) ≡ true → (x ≡ y.release → ⊥) → is_service y x ≡ false
-  unfolding is_service
-  service-none t n = rw (t, ne_eqb x y.release n)
 
   -- a byte that ends something, where it is not the release character
   pub service-ends : is_service y x ≡ true → (x ≡ y.release → ⊥) → stays (ending_of y false x) ≡ false
@@ -86,6 +82,14 @@ module _ (y : Syntax) (d : List ℕ) where
   pub passed_none : (i : ℕ) → Passed y d i i
   passed_none i = record { onward = omega arith; none = λ k a b. absurd (omega arith) }
 
+  -- what the search finds
+  pub service-first : (from limit r : ℕ) → from ≤ limit → limit ≤ length d → FirstThat (is_service y) d from (min limit (length d)) r
+      → Service y d from limit r
+  service-first from limit r h fits f =
+      let g = first_before (is_service y) d from limit r fits f in
+      let o : from ≤ r = omega (arith, g.onward) in
+      record { passed = record { onward = o; none = g.before }; here = g.passes }
+
   module _ (from i : ℕ) (p : Passed y d from i) where
     pub passed_on : (r : ℕ) → Passed y d i r → Passed y d from r
     passed_on r q = record { onward = omega (arith, p.onward, q.onward); none = go }
@@ -96,12 +100,6 @@ module _ (y : Syntax) (d : List ℕ) where
 
         go : (k : ℕ) → from ≤ k → k < r → is_service y (get_or d k 0) ≡ false
         go k = pick k (leb i k) refl
-
-    pub service-on : (limit r : ℕ) → Service y d i limit r → Service y d from limit r
-    service-on limit r s = record { passed = passed_on r s.passed; here = s.here }
-
-    pub service-past : (limit : ℕ) → limit ≤ i → Service y d from limit i
-    service-past limit h = record { passed = p; here = λ l. absurd (omega arith) }
 
     pub service-here : (limit : ℕ) → is_service y (get_or d i 0) ≡ true → Service y d from limit i
     service-here limit s = record { passed = p; here = λ l. s }
@@ -115,17 +113,7 @@ module _ (y : Syntax) (d : List ℕ) where
             let z : i + (k - i) ≡ k = omega arith in
             rw z at (t (k - i) (omega arith))
 
-    pub passed-next : is_service y (get_or d i 0) ≡ false → Passed y d from (i + 1)
-    passed-next s =
-        passed-run 1
-        (λ k l.
-        let z : i + k ≡ i = omega arith in
-        rw z s)
-
     -- eight bytes, flagged in m
     module _ (m : ℕ) (f : m ≡ flags (λ k. is_service y (on_from d i k))) where
-      pub passed-eight : m ≡ 0 → Passed y d from (i + 8)
-      passed-eight z = passed-run 8 (flags-none (λ k. is_service y (on_from d i k)) (sym f ∙ z))
-
       pub service-eight : (limit j : ℕ) → FirstOf 8 (λ k. is_service y (on_from d i k)) j → Service y d from limit (i + j)
       service-eight limit j g = record { passed = passed-run j g.before; here = λ l. g.passes }

@@ -6,18 +6,21 @@ use mathlib.Core.List.{List, [], ◌∷◌}
 use native.Mathlib.Omega.{arith}
 use lib.ListN.{length, get_or, take, drop, length-take}
 use Rattle.cut.specs.declared.service.Syntax.{Syntax}
-use Rattle.element.specs.Elements.{Ending, ends-segment, ends-element, ends-component, ends-nothing, ending_of, stays, releases, Split, before, split_from}
+use Rattle.element.specs.Elements.{ending_of, stays, releases, Split, before, split_from}
+use Rattle.element.specs.declared.endings.Ending.{Ending}
+use Rattle.element.specs.declared.endings.Ending.TheVariants as ends
+use Rattle.std.specs.Prelude.{Option, Some, None}
 use Rattle.element.proofs.scan.Endings.{stays-nothing}
 use Rattle.element.proofs.scan.Scanning.{bytes-none}
 
 take-before
-    : (g : Ending) (x : ℕ) (s : Split) (xs : List ℕ) → s.bytes ≡ take (length s.bytes) xs → (before g x s).bytes
+    : (g : Option Ending) (x : ℕ) (s : Split) (xs : List ℕ) → s.bytes ≡ take (length s.bytes) xs → (before g x s).bytes
     ≡ take (length (before g x s).bytes) (x ∷ xs)
 unfolding before
-take-before ends-segment x s xs h = refl
-take-before ends-element x s xs h = refl
-take-before ends-component x s xs h = refl
-take-before ends-nothing x s xs h = ap (λ (l : List ℕ). x ∷ l) h
+take-before (Some ends.Segment) x s xs h = refl
+take-before (Some ends.Element) x s xs h = refl
+take-before (Some ends.Component) x s xs h = refl
+take-before None x s xs h = ap (λ (l : List ℕ). x ∷ l) h
 
 -- the first component is the beginning of the bytes
 pub first-take : (y : Syntax) (r : Bool) (xs : List ℕ) → (split_from y r xs).bytes ≡ take (length (split_from y r xs).bytes) xs
@@ -35,12 +38,12 @@ pub record Last (s : Split) : Type 0 where
   pub components : s.components ≡ []
   pub elements : s.elements ≡ []
 
-last-before : (g : Ending) (x : ℕ) (s : Split) (n : ℕ) → (length s.bytes ≡ n → Last s) → length (before g x s).bytes ≡ suc n → Last (before g x s)
+last-before : (g : Option Ending) (x : ℕ) (s : Split) (n : ℕ) → (length s.bytes ≡ n → Last s) → length (before g x s).bytes ≡ suc n → Last (before g x s)
 unfolding before
-last-before ends-segment x s n ih h = absurd (omega arith)
-last-before ends-element x s n ih h = absurd (omega arith)
-last-before ends-component x s n ih h = absurd (omega arith)
-last-before ends-nothing x s n ih h =
+last-before (Some ends.Segment) x s n ih h = absurd (omega arith)
+last-before (Some ends.Element) x s n ih h = absurd (omega arith)
+last-before (Some ends.Component) x s n ih h = absurd (omega arith)
+last-before None x s n ih h =
     let q = ih (omega arith) in
     record { components = q.components; elements = q.elements }
 
@@ -72,7 +75,7 @@ stop_unreleased y false x xs f = stop-here y x xs f
 
 module _ (y : Syntax) (r : Bool) (x : ℕ) (xs : List ℕ) where
   -- the byte x stands before what follows it in the same component
-  stayed : stays (ending_of y r x) ≡ true → split_from y r (x ∷ xs) ≡ before ends-nothing x (split_from y (releases y r x) xs)
+  stayed : stays (ending_of y r x) ≡ true → split_from y r (x ∷ xs) ≡ before None x (split_from y (releases y r x) xs)
   unfolding split_from
   stayed t = rw (stays-nothing (ending_of y r x) t)
 

@@ -1,8 +1,7 @@
--- What is known of a segment's bytes between two components, where words of eight bytes are tested at once and each word once. No public promise cites these.
-use Rattle.std.specs.Prelude.{ℕ, suc, ◌+◌, ◌-◌, ◌≤◌, ◌<◌, ◌≡◌, Bool, true, false, ◌&&◌, List, length, get_or, leb}
+-- What is known of a segment's bytes between two components, where words of eight bytes are tested at once and each word once: what a scan
+-- promises, here and in the quick pass of the page check.
+use Rattle.std.specs.Prelude.{ℕ, ◌+◌, ◌-◌, ◌≤◌, ◌<◌, ◌≡◌, Bool, true, false, ◌&&◌, List, length, get_or, leb}
 use Rattle.bytewise.specs.Eights.{flags}
-use Rattle.cut.specs.declared.service.Syntax.{Syntax}
-use Rattle.element.specs.Services.{is_service, Service}
 use Rattle.element.specs.declared.ahead.Scan.{Scan}
 
 -- whether byte k of the word that ends before the place next passes the test t and is not before the place a
@@ -22,12 +21,16 @@ pub record Foremost (t : ℕ → Bool) (d : List ℕ) (a r : ℕ) : Type 0 where
   pub none : (k : ℕ) → a ≤ k → k < r → t (get_or d k 0) ≡ false
   pub here : t (get_or d r 0) ≡ true
 
--- they are tested for service characters
-abbrev pub Scanned : Syntax → List ℕ → ℕ → ℕ → ℕ → Type 0
-Scanned y d a next left = Tested (is_service y) d (suc (length d)) a next left
+-- nothing is tested from the place a on
+abbrev pub fresh : ℕ → Scan
+fresh a = record { at = a; next = a; left = 0 }
 
--- r is the scan behind the first service character from the place a on, if it is one that stands before limit
-pub record Sought (y : Syntax) (d : List ℕ) (a limit : ℕ) (r : Scan) : Type 0 where
+-- the bytes are tested as the scan s says
+abbrev pub Scanned : (ℕ → Bool) → List ℕ → Scan → Type 0
+Scanned t d s = Tested t d (length d) s.at s.next s.left
+
+-- r is the scan behind the first byte from the place a on that passes the test
+pub record Sought (t : ℕ → Bool) (d : List ℕ) (a : ℕ) (r : Scan) : Type 0 where
   pub onward : a < r.at
-  pub service : r.at ≤ limit → Service y d a limit (r.at - 1)
-  pub scanned : Scanned y d r.at r.next r.left
+  pub first : Foremost t d a (r.at - 1)
+  pub scanned : Scanned t d r

@@ -1,32 +1,33 @@
 -- The answer of each return, from what the walk and the tests say.
-use Prim.Native.Nat.{ℕ, zero, suc, ◌≤◌}
+use Prim.Native.Nat.{ℕ, zero, suc}
 use mathlib.Core.Path.{◌≡◌, refl, sym, ◌∙◌, ap}
 use mathlib.Core.Bool.{Bool, true, false, not, cond, true≢false}
 use mathlib.Core.List.{List, [], ◌∷◌}
-use native.Mathlib.Omega.{arith}
 use lib.ListN.{length}
-use lib.Dec.{eqb}
 use borrow.Author.Tests.{not-true}
 use Rattle.bytewise.specs.Bytes.{begins}
 use Rattle.bytewise.proofs.Booleans.{and_both}
 use Rattle.cut.specs.declared.service.Syntax.{Syntax}
-use Rattle.cut.specs.declared.scan.Cut.TheVariants as cut
+use Rattle.std.specs.Prelude.{None, Result, Ok, Err, ⊤}
+use Rattle.std.specs.Result.{IsErrAnd}
+use Rattle.cut.specs.declared.admit.Inadmissible.{Inadmissible}
+use Rattle.envelope.specs.declared.judging.Incomplete.{Incomplete}
+use Rattle.envelope.specs.declared.judging.Reason.TheVariants.{Delivery}
 use Rattle.cut.specs.Segments.{Segment, segments_at}
-use Rattle.cut.specs.Admission.{admission_of, opening_of, segments}
-use Rattle.cut.specs.Calls.{segment_at}
+use Rattle.cut.specs.Admission.{admission_of, number_of, opening_of, segments}
+use Rattle.cut.specs.Calls.{some_cut, segment_at}
+use Rattle.cut.proofs.Refusing.{number-some}
 use Rattle.cut.proofs.Ahead.{cut_ahead, none_ahead}
 use Rattle.cut.proofs.Places.{admitted}
 use Rattle.element.proofs.ComponentFace.{same_true}
 use Rattle.messages.specs.Messages.{messages}
 use Rattle.plain.specs.Plain.{same}
-use Rattle.envelope.specs.declared.judging.Enveloped.{Enveloped}
-use Rattle.envelope.specs.declared.judging.Enveloped.TheVariants.{Complete, Refused}
 use Rattle.envelope.specs.declared.walking.Walk.{Walk}
 use Rattle.envelope.specs.Required.{UNB, UNZ, at, in_UNB, in_UNZ, text}
-use Rattle.envelope.specs.Envelope.{stands, counts, or_stray, unless_refused, lacks, paired, strays}
+use Rattle.envelope.specs.Envelope.{Enveloped, Complete, Refused, enveloped, stands, counts, or_stray, unless_refused, lacks, paired, strays}
 use Rattle.envelope.specs.Envelope.{closed_by, opened_by, envelope_of}
 use Rattle.envelope.specs.workers.Walk.{segment_in, last_in, Walked}
-use Rattle.envelope.specs.workers.Rows.{whole_in, text_in, row_of, first_row, rows_of, Opened}
+use Rattle.envelope.specs.workers.Rows.{whole_in, or_place, first_row, rows_of, Opened}
 use Rattle.envelope.proofs.settling.Rows.{empty-counts, lacks-one, one-lacks, full-UNZ}
 use Rattle.envelope.proofs.walks.Found.{messages-found, some-stray, no_stray}
 
@@ -41,42 +42,33 @@ whole-stands : (tag : List ℕ) (s : Segment) → s.piece ≡ false → begins t
 unfolding stands
 whole-stands tag s p t = rw (p, t)
 
-pub stands-piece : (tag : List ℕ) (s : Segment) → s.piece ≡ true → false ≡ stands tag s
-unfolding stands
-stands-piece tag s p = rw p
-
-pub stands-whole : (tag : List ℕ) (s : Segment) → s.piece ≡ false → (b : Bool) → b ≡ begins tag s.bytes → b ≡ stands tag s
-unfolding stands
-stands-whole tag s p b e = rw p e
-
 module _ (y : Syntax) (d : List ℕ) where
   -- 1 and 2
-  pub is_refused : (a : ℕ) → a ≡ admission_of y d → (a ≡ 0 → ⊥) → Refused a 0 ≡ envelope_of y d
+  pub is_refused : (e : Inadmissible) → number_of e ≡ admission_of y d → Refused (number_of e) 0 ≡ envelope_of y d
   unfolding envelope_of
-  is_refused a e n = rw (← e) (go a n)
+  is_refused e h = rw (← h) (go (number_of e) (number-some e))
     where
       go : (k : ℕ) → (k ≡ 0 → ⊥) → Refused k 0 ≡ unless_refused k (opened_by y d (segments y d))
       go zero n = absurd (n refl)
       go (suc k) n = refl
 
-  module _ (a : ℕ) (is-admission : a ≡ admission_of y d) (is_zero : a ≡ 0) (p : ℕ) (opens : p ≡ opening_of y d) where
-    admits : admission_of y d ≡ 0
-    admits = sym is-admission ∙ is_zero
+  -- what `?` makes of such a refusal
+  pub is-carried
+      : (e : Inadmissible) → number_of e ≡ admission_of y d → (r : Result ⊤ Incomplete)
+      → IsErrAnd r (λ (i : Incomplete). i ≡ record { reason = Delivery e; place = 0 }) → enveloped r ≡ envelope_of y d
+  is-carried e h (Ok u) k = absurd k
+  is-carried e h (Err i) k = rw k (is_refused e h)
 
+  module _ (admits : admission_of y d ≡ 0) (p : ℕ) (opens : p ≡ opening_of y d) where
     all : segments y d ≡ segments_at y d p
     all = admitted y d admits ∙ ap (segments_at y d) (sym opens)
 
     -- 50
-    pub is-empty : segment_at y d p ≡ cut.Nothing → Refused 50 (length d) ≡ envelope_of y d
+    pub is-empty : segment_at y d p ≡ None → Refused 50 (length d) ≡ envelope_of y d
     unfolding envelope_of opened_by
     is-empty h = rw (admits, all, none_ahead y d p h)
 
-    module _ (s e : ℕ) (b : Bool) (h : segment_at y d p ≡ cut.Segment s e b) where
-      pub first_fits : (s ≤ e) × (e ≤ length d)
-      first_fits =
-          let q = cut_ahead y d p s e b h in
-          (omega (arith, q.some), q.fits)
-
+    module _ (s e : ℕ) (b : Bool) (h : segment_at y d p ≡ some_cut s e b) where
       pub is-not-UNB : stands UNB (segment_in d s e b) ≡ false → Refused 50 s ≡ envelope_of y d
       unfolding envelope_of opened_by
       is-not-UNB n = rw (admits, all, (cut_ahead y d p s e b h).list, n)
@@ -105,7 +97,7 @@ module _ (y : Syntax) (d : List ℕ) where
     by_last = rw (o.admitted, o.first, whole-stands UNB f refl o.tag, k.last)
 
     -- 51
-    pub is-not-UNZ : stands UNZ l ≡ false → Refused 51 w.start ≡ envelope_of y d
+    pub is-not-UNZ : stands UNZ l ≡ false → Refused 51 w.last.start ≡ envelope_of y d
     unfolding closed_by
     is-not-UNZ n = rw n at by_last
 
@@ -128,7 +120,7 @@ module _ (y : Syntax) (d : List ℕ) where
     full a c n false e = refl
 
     abbrev required : Bool → Bool → Enveloped
-    required b c = cond b (Refused 55 start) (cond c (Refused 55 w.start) Complete)
+    required b c = cond b (Refused 55 start) (cond c (Refused 55 w.last.start) Complete)
 
     rows_55
         : agrees ≡ true → counted ≡ true → (b : Bool) → lacks y f in_UNB ≡ b → cond b (Refused 55 start) Complete ≡ required b (lacks y l in_UNZ)
@@ -137,35 +129,21 @@ module _ (y : Syntax) (d : List ℕ) where
 
     rows_54
         : agrees ≡ true → counted ≡ true → (ss : List Segment) → strays y d f l ≡ ss
-        → cond (not (eqb w.stray (length d))) (Refused 54 w.stray) (cond (lacks y f in_UNB) (Refused 55 start) Complete)
+        → or_place w.stray (cond (lacks y f in_UNB) (Refused 55 start) Complete)
         ≡ or_stray ss (required (lacks y f in_UNB) (lacks y l in_UNZ))
     rows_54 a c [] e = rw (no_stray y d start end o w k e) (rows_55 a c (lacks y f in_UNB) refl)
-    rows_54 a c (s ∷ ss) e =
-        let z = some-stray y d start end o w k s ss e in
-        rw (z.1, z.0)
+    rows_54 a c (s ∷ ss) e = rw (some-stray y d start end o w k s ss e)
 
     rows
         : (b c : Bool) → agrees ≡ b → counted ≡ c
-        → first_row b c (not (eqb w.stray (length d))) (lacks y f in_UNB) start w.start w.stray
-        ≡ cond (not b) (Refused 52 w.start)
-        (cond (not c) (Refused 53 w.start) (or_stray (strays y d f l) (required (lacks y f in_UNB) (lacks y l in_UNZ))))
+        → first_row b c w.stray (lacks y f in_UNB) start w.last.start
+        ≡ cond (not b) (Refused 52 w.last.start)
+        (cond (not c) (Refused 53 w.last.start) (or_stray (strays y d f l) (required (lacks y f in_UNB) (lacks y l in_UNZ))))
     rows false c a e = refl
     rows true false a e = refl
     rows true true a e = rows_54 a e (strays y d f l) refl
 
     pub is-matched : stands UNZ l ≡ true → rows_of y d start end w ≡ envelope_of y d
-    unfolding closed_by rows_of paired
+    unfolding closed_by paired
     is-matched t =
         rw (messages-found y d start end o w k) (rows agrees counted refl refl) ∙ (rw t at by_last)
-
--- the rows together
-module _
-    (y : Syntax) (d : List ℕ) (start end : ℕ) (w : Walk) (a b c : Bool)
-    (is_same : a ≡ same (text_in y d start end (at 5 0)) (text_in y d w.start w.end (at 2 0)))
-    (is-count : b ≡ counts (text_in y d w.start w.end (at 1 0)) w.messages) (is-lacking : c ≡ lacks y (whole_in d start end) in_UNB) where
-  pub rows_are
-      : (missing strayed counted r : Enveloped) → missing ≡ row_of c 55 start Complete
-      → strayed ≡ row_of (not (eqb w.stray (length d))) 54 w.stray missing → counted ≡ row_of (not b) 53 w.start strayed
-      → r ≡ row_of (not a) 52 w.start counted → r ≡ rows_of y d start end w
-  unfolding rows_of
-  rows_are missing strayed counted r h i j k = k ∙ rw (j, i, h, is_same, is-count, is-lacking)

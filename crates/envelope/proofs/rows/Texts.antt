@@ -1,10 +1,13 @@
 -- What is read of a component whose place was found.
-use Prim.Native.Nat.{ℕ}
+use Prim.Native.Nat.{ℕ, ◌+◌, ◌<◌, ◌≤◌}
 use mathlib.Core.Path.{◌≡◌, refl, sym, ◌∙◌, ap, ap₂}
 use mathlib.Core.Bool.{Bool, true, false, ◌||◌}
-use mathlib.Core.List.{List, [], ◌∷◌}
+use mathlib.Core.List.{List, [], ◌∷◌, map}
 use native.Mathlib.Omega.{arith}
-use lib.ListN.{length}
+use lib.ListN.{length, get_or, drop}
+use lib.Seq.{drop-cons}
+use Rattle.std.proofs.Common.{drop_of_length-le}
+use native.Mathlib.Numerals.{add-one}
 use lib.Dec.{eqb}
 use borrow.Author.Tests.{ne_eqb}
 use Rattle.cut.specs.declared.service.Syntax.{Syntax}
@@ -13,12 +16,12 @@ use Rattle.element.specs.Components.{component_at}
 use Rattle.element.specs.declared.components.Span.{Span}
 use Rattle.element.proofs.ComponentFace.{component_bytes}
 use Rattle.plain.specs.Plain.{plain, decoded, same}
-use Rattle.value.specs.declared.counts.Count.{Count}
-use Rattle.value.specs.declared.counts.Count.TheVariants as count
+use Rattle.std.specs.Prelude.{Option, Some, None}
+use Rattle.std.specs.Option.{option_eq}
 use Rattle.value.specs.Digits.{count_of}
 use Rattle.value.specs.Numeral.{none}
-use Rattle.envelope.specs.Required.{Place, at, text}
-use Rattle.envelope.specs.Envelope.{counts, lacks}
+use Rattle.envelope.specs.Required.{at, text}
+use Rattle.envelope.specs.Envelope.{is_count_by, counts, lacks}
 use Rattle.envelope.specs.workers.Rows.{text_in}
 
 module _ (y : Syntax) (d : List ℕ) where
@@ -40,32 +43,43 @@ module _ (y : Syntax) (d : List ℕ) where
       → same (decoded y s.start s.end d) (decoded y t.start t.end d) ≡ same (text_in y d a e (at 5 0)) (text_in y d b f (at 2 0))
   same-found a e b f s t h k = ap₂ same (text-found a e 5 0 s h) (text-found b f 2 0 t k)
 
-  module _ (b f n : ℕ) (s : Span) (found : s ≡ component_at y d b f 1 0) (c : Count) (read : c ≡ count_of (decoded y s.start s.end d)) where
+  module _ (b f n : ℕ) (s : Span) (found : s ≡ component_at y d b f 1 0) (c : Option ℕ) (read : c ≡ count_of (decoded y s.start s.end d)) where
     is_read : count_of (text_in y d b f (at 1 0)) ≡ c
     is_read = ap count_of (sym (text-found b f 1 0 s found)) ∙ sym read
 
-    pub count-found : (v : ℕ) → c ≡ count.Is v → eqb v n ≡ counts (text_in y d b f (at 1 0)) n
+    pub count-found : option_eq eqb c (Some n) ≡ counts (text_in y d b f (at 1 0)) n
     unfolding counts
-    count-found v h = rw (is_read, h)
+    count-found = rw is_read (go c)
+      where
+        go : (k : Option ℕ) → option_eq eqb k (Some n) ≡ is_count_by k n
+        go None = refl
+        go (Some v) = refl
 
-    pub no_count-found : c ≡ count.Nothing → false ≡ counts (text_in y d b f (at 1 0)) n
-    unfolding counts
-    no_count-found h = rw (is_read, h)
+-- the required components, as the code lists them
+abbrev pub required : List (ℕ × ℕ)
+required = (1, 0) ∷ (1, 1) ∷ (2, 0) ∷ (3, 0) ∷ (4, 0) ∷ (4, 1) ∷ (5, 0) ∷ []
 
--- required components one by one
-module _ (y : Syntax) (s : Segment) (k : Place) where
-  pub lacks-now : (ks : List Place) (b : Bool) → b ≡ none (text y s k) → b ≡ true → true ≡ lacks y s (k ∷ ks)
+-- from one of them on
+module _ (y : Syntax) (s : Segment) where
+  abbrev pub lacks_from : ℕ → Bool
+  lacks_from i = lacks y s (map (λ (k : ℕ × ℕ). at k.0 k.1) (drop i required))
+
+  lacks-here
+      : (i : ℕ) (d : ℕ × ℕ) → i < 7 → lacks_from i ≡ none (text y s (at (get_or required i d).0 (get_or required i d).1)) || lacks_from (i + 1)
   unfolding lacks
-  lacks-now ks b h e = rw (← h, e)
+  lacks-here i d h =
+      let n : i < length required = h in
+      rw (add-one, drop-cons required i d n)
 
-  pub lacks-later : (ks : List Place) (b : Bool) → b ≡ none (text y s k) → b ≡ false → (r : Bool) → r ≡ lacks y s ks → r ≡ lacks y s (k ∷ ks)
-  unfolding lacks
-  lacks-later ks b h e r i = rw (← h, e) i
+  module _ (i : ℕ) (d : ℕ × ℕ) (h : i < 7) (b : Bool) (tells : b ≡ none (text y s (at (get_or required i d).0 (get_or required i d).1))) where
+    pub lacks-now : b ≡ true → lacks_from i ≡ true
+    lacks-now t = lacks-here i d h ∙ rw (sym tells ∙ t)
 
-  pub lacks-last : (b : Bool) → b ≡ none (text y s k) → b ≡ lacks y s (k ∷ [])
+    pub lacks-later : b ≡ false → lacks_from i ≡ lacks_from (i + 1)
+    lacks-later f = lacks-here i d h ∙ rw (sym tells ∙ f)
+
+  pub lacks-none : (i : ℕ) → 7 ≤ i → lacks_from i ≡ false
   unfolding lacks
-  lacks-last b h = go b (none (text y s k)) h
-    where
-      go : (b c : Bool) → b ≡ c → b ≡ (c || false)
-      go b true h = h
-      go b false h = h
+  lacks-none i h =
+      let n : length required ≤ i = h in
+      rw (drop_of_length-le required n)

@@ -15,8 +15,7 @@ use Rattle.cut.specs.declared.service.Syntax.{Syntax}
 use Rattle.cut.specs.Segments.{Segment}
 use Rattle.cut.specs.Admission.{limit, UNA, nine, admits, admission_of, unbroken}
 use Rattle.cut.specs.Characters.{valid}
-use Rattle.value.specs.declared.counts.Count.{Count}
-use Rattle.value.specs.declared.counts.Count.TheVariants as count
+use Rattle.std.specs.Prelude.{Option, Some, None}
 use Rattle.value.specs.Digits.{is_count, count_of}
 use Rattle.value.specs.Numeral.{some, none}
 use Rattle.value.specs.Text.{text_of}
@@ -72,9 +71,9 @@ not-stands tag s (other_tag e) h = go s.piece (rw e at h)
     go false k = false≢true k
 
 -- 53
-counts-is : (c : Count) (n : ℕ) → is_count_by c n ≡ true → c ≡ count.Is n
-counts-is (count.Is v) n h = ap count.Is (eqb-true v n h)
-counts-is count.Nothing n h = absurd (false≢true h)
+counts-is : (c : Option ℕ) (n : ℕ) → is_count_by c n ≡ true → c ≡ Some n
+counts-is (Some v) n h = ap Some (eqb-true v n h)
+counts-is None n h = absurd (false≢true h)
 
 pub counts-text : (s : List ℕ) (n : ℕ) → counts s n ≡ true → s ≡ text_of (pos n)
 unfolding counts text_of

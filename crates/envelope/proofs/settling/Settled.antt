@@ -14,10 +14,23 @@ use Rattle.cut.specs.Admission.{admission_of, segments}
 use Rattle.messages.specs.Messages.{messages}
 use Rattle.plain.specs.Plain.{same}
 use Rattle.element.proofs.ComponentFace.{same_refl, same_true}
-use Rattle.envelope.specs.declared.judging.Enveloped.{Enveloped}
-use Rattle.envelope.specs.declared.judging.Enveloped.TheVariants.{Complete, Refused}
 use Rattle.envelope.specs.Required.{UNB, UNZ, at, in_UNB, in_UNZ, text}
-use Rattle.envelope.specs.Envelope.{stands, last_of, counts, or_stray, unless_refused, lacks, paired, strays, closed_by, opened_by, envelope_of}
+use Rattle.envelope.specs.Envelope.{
+  Enveloped,
+  Complete,
+  Refused,
+  stands,
+  last_of,
+  counts,
+  or_stray,
+  unless_refused,
+  lacks,
+  paired,
+  strays,
+  closed_by,
+  opened_by,
+  envelope_of,
+}
 use Rattle.envelope.specs.Broken.{Not, Lacks, Broken, FirstBroken}
 use Rattle.envelope.specs.Broken.{too_long, unreadable, no_UNB, no_UNZ, other_reference, other_count, stray, missing}
 use Rattle.envelope.specs.Broken.{none_first, not_UNB, none_last, not_UNZ, of_UNB, of_UNZ}

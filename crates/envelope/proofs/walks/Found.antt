@@ -1,19 +1,19 @@
 -- What a whole walk has found behind a UNB: the messages of the delivery, and the first segment outside that is neither the first nor the last.
-use Prim.Native.Nat.{ℕ, suc, ◌<◌}
+use Prim.Native.Nat.{ℕ, suc}
 use mathlib.Core.Path.{◌≡◌, refl, ◌∙◌, ap}
-use mathlib.Core.Bool.{Bool, true, false, not, false≢true}
+use mathlib.Core.Bool.{false, false≢true}
 use mathlib.Core.List.{List, [], ◌∷◌}
 use native.Mathlib.Nat.{le_refl}
 use native.Mathlib.Omega.{arith}
 use lib.ListN.{length, drop}
-use lib.Dec.{eqb}
-use borrow.Author.Tests.{eq-eqb, ne_eqb}
+use borrow.Author.Tests.{eq-eqb}
+use Rattle.std.specs.Prelude.{Some, None}
 use Rattle.cut.specs.declared.service.Syntax.{Syntax}
-use Rattle.cut.specs.Segments.{Segment, segments_at, begins_in, keep_if}
+use Rattle.cut.specs.Segments.{Segment, segments_at, begins_in}
 use Rattle.cut.specs.Admission.{segments}
-use Rattle.cut.proofs.Starts.{Rising, Below, rising_weaken}
+use Rattle.cut.proofs.Starts.{Rising, rising_weaken}
 use Rattle.cut.proofs.Chains.{segments-rising}
-use Rattle.messages.specs.Messages.{messages_in, messages, inside, others, outside_in, outside}
+use Rattle.messages.specs.Messages.{messages_in, messages, others, outside}
 use Rattle.messages.specs.workers.Walks.{left_over}
 use Rattle.messages.proofs.Finding.{all-rising}
 use Rattle.messages.proofs.Outside.{outside-walk}
@@ -21,18 +21,8 @@ use Rattle.envelope.specs.declared.walking.Walk.{Walk}
 use Rattle.envelope.specs.Envelope.{last_of, strays}
 use Rattle.envelope.specs.workers.Walk.{opened, last_in, Walked}
 use Rattle.envelope.specs.workers.Rows.{whole_in, Opened}
-use Rattle.envelope.proofs.settling.Few.{within, all-within}
 use Rattle.envelope.proofs.walks.Tags.{tag-UNB}
 use Rattle.envelope.proofs.walks.Passing.{passed-messages, first_start, passed-stray}
-
-others_below : (b : ℕ) (is ss : List Segment) → Below b ss → Below b (others is ss)
-unfolding others Below
-others_below b is [] k = tt
-others_below b is (s ∷ ss) k = go (begins_in s.start is) (others_below b is ss k.1)
-  where
-    go : (c : Bool) → Below b (others is ss) → Below b (keep_if (not c) s (others is ss))
-    go true h = h
-    go false h = (k.0, h)
 
 module _ (y : Syntax) (d : List ℕ) (start end : ℕ) (o : Opened y d start end) (w : Walk) (k : Walked y d start end w) where
   abbrev f : Segment
@@ -44,7 +34,7 @@ module _ (y : Syntax) (d : List ℕ) (start end : ℕ) (o : Opened y d start end
   pub messages-found : w.messages ≡ length (messages y d)
   unfolding messages messages_in
   messages-found =
-      ap (λ (v : Walk). v.messages) k.walk ∙ passed-messages (length d) (opened (length d) start end) rest
+      ap (λ (v : Walk). v.messages) k.walk ∙ passed-messages (opened start end) rest
       ∙ rw (o.first, tag-UNB f.bytes o.tag) (omega arith)
 
   rising : Rising (suc start) rest
@@ -58,27 +48,17 @@ module _ (y : Syntax) (d : List ℕ) (start end : ℕ) (o : Opened y d start end
   unfolding others begins_in
   strays-rest = ap (λ (l : Segment). others (f ∷ l ∷ []) (outside y d)) k.last ∙ rw (outside-first, eq-eqb start start refl)
 
-  pub stray-found : w.stray ≡ first_start (length d) (strays y d f (last_in d w))
+  stray-found : w.stray ≡ first_start (strays y d f (last_in d w))
   stray-found =
       ap (λ (v : Walk). v.stray) k.walk
-      ∙ passed-stray (length d) f (opened (length d) start end) f rest refl (λ h. absurd (false≢true h)) (le_refl start)
-      (omega (arith, o.some, o.fits)) rising (within y d end)
-      ∙ rw (eq-eqb (length d) (length d) refl, strays-rest)
-
-  strays-below : Below (length d) (strays y d f (last_in d w))
-  unfolding outside outside_in
-  strays-below =
-      others_below (length d) (f ∷ last_in d w ∷ []) (outside y d)
-      (others_below (length d) (inside (messages_in (segments y d))) (segments y d) (all-within y d))
+      ∙ passed-stray f (opened start end) f rest refl (λ h. absurd (false≢true h)) (le_refl start) rising
+      ∙ rw strays-rest
 
   -- whether there is one
-  pub some-stray : (s : Segment) (ss : List Segment) → strays y d f (last_in d w) ≡ s ∷ ss → (w.stray ≡ s.start) × (eqb w.stray (length d) ≡ false)
-  unfolding first_start Below
-  some-stray s ss e =
-      let at : w.stray ≡ s.start = stray-found ∙ ap (first_start (length d)) e in
-      let b : s.start < length d = (rw e at strays-below).0 in
-      (at, ne_eqb w.stray (length d) (λ z. omega (arith, z)))
-
-  pub no_stray : strays y d f (last_in d w) ≡ [] → eqb w.stray (length d) ≡ true
+  pub some-stray : (s : Segment) (ss : List Segment) → strays y d f (last_in d w) ≡ s ∷ ss → w.stray ≡ Some s.start
   unfolding first_start
-  no_stray e = eq-eqb w.stray (length d) (stray-found ∙ ap (first_start (length d)) e)
+  some-stray s ss e = stray-found ∙ ap first_start e
+
+  pub no_stray : strays y d f (last_in d w) ≡ [] → w.stray ≡ None
+  unfolding first_start
+  no_stray e = stray-found ∙ ap first_start e

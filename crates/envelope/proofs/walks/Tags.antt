@@ -1,78 +1,73 @@
--- Whether a segment begins with a tag, read off the delivery; and what it is by that.
-use Prim.Native.Nat.{ℕ, ◌+◌, ◌-◌, ◌≤◌, ◌<◌}
-use mathlib.Core.Path.{◌≡◌, refl, sym, ◌∙◌, ap}
-use mathlib.Core.Bool.{Bool, true, false, not, ◌&&◌, and-false}
+-- What a segment is by its tag.
+use Prim.Native.Nat.{ℕ}
+use mathlib.Core.Path.{◌≡◌, refl, sym, ◌∙◌}
+use mathlib.Core.Bool.{Bool, true, false, cond}
 use mathlib.Core.List.{List, [], ◌∷◌}
 use native.Mathlib.Omega.{arith}
-use lib.ListN.{length, get_or}
-use lib.Dec.{eqb}
-use borrow.Author.Tests.{eq-eqb, ne_eqb}
-use Rattle.bytewise.specs.Bytes.{bytes_of, part, begins}
-use Rattle.bytewise.proofs.Parts.{part-next, length_part}
-use Rattle.bytewise.proofs.Words.{begins-short, begins-at}
-use Rattle.messages.specs.declared.tags.Tag.TheVariants.{Unt, Other}
+use Rattle.bytewise.specs.Bytes.{bytes_of, begins}
+use Rattle.bytewise.proofs.Words.{begins-at}
+use Rattle.cut.specs.Segments.{Segment, keep_if}
+use Rattle.messages.specs.declared.tags.Tag.{Tag}
+use Rattle.messages.specs.declared.tags.Tag.TheVariants.{Unh, Unt, Unz, Other}
 use Rattle.messages.specs.Messages.{tag_of}
-use Rattle.envelope.specs.declared.walking.Role.{Role}
-use Rattle.envelope.specs.workers.Walk.{role_of}
+use Rattle.messages.specs.workers.Walks.{is_unh, out_by, open_by, left_over}
+use Rattle.envelope.specs.declared.walking.Role.TheVariants.{Begins, Outside}
+use Rattle.envelope.specs.workers.Walk.{is_within, is_outside, role_of}
 
-module _ (d : List ℕ) (s e x : ℕ) where
-  abbrev tag : List ℕ
-  tag = 85 ∷ 78 ∷ x ∷ []
-
-  pub tag-short : s ≤ e → e ≤ length d → e - s < 3 → begins tag (part s e d) ≡ false
-  tag-short h k l = begins-short tag (part s e d) (omega (arith, length_part d s e k))
-
-  three
-      : e ≤ length d → 3 ≤ e - s → part s e d ≡ get_or d s 0 ∷ get_or d (s + 1) 0 ∷ get_or d (s + 2) 0 ∷ part (s + 2 + 1) e d
-  three k l =
-      let a : s + 1 + 1 ≡ s + 2 = omega arith in
-      rw (part-next d s e (omega arith) k, part-next d (s + 1) e (omega arith) k, a, part-next d (s + 2) e (omega arith) k)
-
-  pub tag-not_U : e ≤ length d → 3 ≤ e - s → (get_or d s 0 ≡ 85 → ⊥) → begins tag (part s e d) ≡ false
-  unfolding begins
-  tag-not_U k l n = ap (begins tag) (three k l) ∙ rw (ne_eqb _ _ n)
-
-  pub tag-not_N : e ≤ length d → 3 ≤ e - s → (get_or d (s + 1) 0 ≡ 78 → ⊥) → begins tag (part s e d) ≡ false
-  unfolding begins
-  tag-not_N k l n = ap (begins tag) (three k l) ∙ rw (ne_eqb _ _ n, and-false)
-
-  pub tag-third
-      : e ≤ length d → 3 ≤ e - s → get_or d s 0 ≡ 85 → get_or d (s + 1) 0 ≡ 78 → begins tag (part s e d) ≡ eqb (get_or d (s + 2) 0) x
-  unfolding begins
-  tag-third k l u n = ap (begins tag) (three k l) ∙ rw (eq-eqb _ _ u, eq-eqb _ _ n) (alone (eqb (get_or d (s + 2) 0) x))
-    where
-      alone : (b : Bool) → b && true ≡ b
-      alone true = refl
-      alone false = refl
-
-module _ (bs : List ℕ) (within : Bool) where
-  abbrev role : Bool → Bool → Bool → Role
-  role b o w = record { begins = b; outside = o; within = w }
-
-  pub role_unh : begins (bytes_of "UNH") bs ≡ true → role true false true ≡ role_of (tag_of bs) within
+-- which of the tags a segment begins with
+module _ (bs : List ℕ) where
+  pub tag-unh : begins (bytes_of "UNH") bs ≡ true → tag_of bs ≡ Unh
   unfolding tag_of
-  role_unh h = rw h
+  tag-unh h = rw h
 
-  pub role_unt : begins (bytes_of "UNH") bs ≡ false → begins (bytes_of "UNT") bs ≡ true → role false (not within) false ≡ role_of (tag_of bs) within
-  unfolding tag_of
-  role_unt h t = rw (h, t) (go within)
-    where
-      go : (b : Bool) → role false (not b) false ≡ role_of Unt b
-      go true = refl
-      go false = refl
-
-  module _ (h : begins (bytes_of "UNH") bs ≡ false) (t : begins (bytes_of "UNT") bs ≡ false) where
-    pub role_unz : begins (bytes_of "UNZ") bs ≡ true → role false true false ≡ role_of (tag_of bs) within
+  module _ (h : begins (bytes_of "UNH") bs ≡ false) where
+    pub tag-unt : begins (bytes_of "UNT") bs ≡ true → tag_of bs ≡ Unt
     unfolding tag_of
-    role_unz z = rw (h, t, z)
+    tag-unt t = rw (h, t)
 
-    pub role_other : begins (bytes_of "UNZ") bs ≡ false → role false (not within) within ≡ role_of (tag_of bs) within
-    unfolding tag_of
-    role_other z = rw (h, t, z) (go within)
-      where
-        go : (b : Bool) → role false (not b) b ≡ role_of Other b
-        go true = refl
-        go false = refl
+    module _ (t : begins (bytes_of "UNT") bs ≡ false) where
+      pub tag-unz : begins (bytes_of "UNZ") bs ≡ true → tag_of bs ≡ Unz
+      unfolding tag_of
+      tag-unz z = rw (h, t, z)
+
+      pub tag-other : begins (bytes_of "UNZ") bs ≡ false → tag_of bs ≡ Other
+      unfolding tag_of
+      tag-other z = rw (h, t, z)
+
+      -- where no message is open before it, it is outside
+      pub role-outside : Outside ≡ role_of (tag_of bs) false
+      unfolding tag_of
+      role-outside = rw (h, t) (go (begins (bytes_of "UNZ") bs))
+        where
+          go : (b : Bool) → Outside ≡ role_of (cond b Unz Other) false
+          go true = refl
+          go false = refl
+
+-- outside by its role, and with it what follows: as by its tag and whether a message is open
+pub role-left
+    : (t : Tag) (b : Bool) (s : Segment) (ss : List Segment)
+    → keep_if (is_outside (role_of t b)) s (left_over (is_within (role_of t b)) ss) ≡ keep_if (out_by t b) s (left_over (open_by t b) ss)
+role-left Unh b s ss = refl
+role-left Unt true s ss = refl
+role-left Unt false s ss = refl
+role-left Unz b s ss = refl
+role-left Other true s ss = refl
+role-left Other false s ss = refl
+
+-- what begins a message by its role begins one by its tag
+pub role-begins : (t : Tag) (b : Bool) → role_of t b ≡ Begins → is_unh t ≡ true
+role-begins Unh b h = refl
+role-begins Unt true h = cc
+role-begins Unt false h = cc
+role-begins Unz b h = cc
+role-begins Other true h = cc
+role-begins Other false h = cc
+
+pub role-begins_none : (t : Tag) (b : Bool) → (role_of t b ≡ Begins → ⊥) → is_unh t ≡ false
+role-begins_none Unh b n = absurd (n refl)
+role-begins_none Unt b n = refl
+role-begins_none Unz b n = refl
+role-begins_none Other b n = refl
 
 -- what begins UNB begins no message, and does not end one
 third-other : (bs : List ℕ) (x : ℕ) → (66 ≡ x → ⊥) → begins (bytes_of "UNB") bs ≡ true → begins (85 ∷ 78 ∷ x ∷ []) bs ≡ false

@@ -13,8 +13,7 @@ use Rattle.cut.specs.Segments.{Segment}
 use Rattle.clean.specs.Clean.{allowed_bytes, tagged_bytes}
 use Rattle.plain.specs.Plain.{same}
 use Rattle.value.specs.Digits.{count_of}
-use Rattle.value.specs.declared.counts.Count.{Count}
-use Rattle.value.specs.declared.counts.Count.TheVariants.{Is, Nothing}
+use Rattle.std.specs.Prelude.{Option, Some, None}
 use Rattle.guide.specs.Choices.{pickℕ, or_else}
 use Rattle.guide.specs.Nodes.{Guide, node}
 use Rattle.guide.specs.Page.{Page}
@@ -41,11 +40,11 @@ use Rattle.guide.proofs.Basics.{T_true, true-T, and_left, and_right, same-eq, sa
 use Rattle.guide.proofs.PageHolds.{holds_iff}
 
 -- a count is n exactly if the test says so
-pub is-count : (n : ℕ) (c : Count) → is n c ≡ true → c ≡ Is n
-is-count n (Is k) e = ap Is (eqb-true k n e)
-is-count n Nothing e = absurd (true≢false (sym e))
+pub is-count : (n : ℕ) (c : Option ℕ) → is n c ≡ true → c ≡ Some n
+is-count n (Some k) e = ap Some (eqb-true k n e)
+is-count n None e = absurd (true≢false (sym e))
 
-pub count-is : (n : ℕ) (c : Count) → c ≡ Is n → is n c ≡ true
+pub count-is : (n : ℕ) (c : Option ℕ) → c ≡ Some n → is n c ≡ true
 count-is n c e = rw e (eq-eqb n n refl)
 
 picked_zero : (b : Bool) (k : ℕ) → pickℕ b 0 (suc k) ≡ 0 → b ≡ true
@@ -75,13 +74,13 @@ module _ (y : Syntax) (g : Guide) where
 
   -- the segment i, which is an UNT, has this count and this reference
   pub record Closes (i : ℕ) (r : List ℕ) (s : Segment) : Type 0 where
-    pub counted : count_of (text y s.bytes 1 0) ≡ Is i
+    pub counted : count_of (text y s.bytes 1 0) ≡ Some i
     pub referred : text y s.bytes 2 0 ≡ r
 
   -- the rules for segment i with node n, after k positions, where r is the reference
   pub record Ruled (i k : ℕ) (r : List ℕ) (n : ℕ) (s : Segment) : Type 0 where
     pub closes : T (is_tag g (bytes_of "UNT") n) → Closes i r s
-    pub numbers : T (is_tag g (bytes_of "LIN") n) → count_of (text y s.bytes 1 0) ≡ Is (suc k)
+    pub numbers : T (is_tag g (bytes_of "LIN") n) → count_of (text y s.bytes 1 0) ≡ Some (suc k)
 
 module _ (y : Syntax) (g : Guide) (pages : ℕ → Page) where
   -- segment i has no fault, and node n
@@ -119,11 +118,11 @@ module _ (y : Syntax) (g : Guide) (pages : ℕ → Page) where
   unfolding end_fault
   closes-free i r s c = rw (count-is i _ c.counted, c.referred, true-T (same r r) (same_refl r))
 
-  pub free-line : (n : ℕ) (s : Segment) → line_fault y g pages n s ≡ 0 → count_of (text y s.bytes 1 0) ≡ Is n
+  pub free-line : (n : ℕ) (s : Segment) → line_fault y g pages n s ≡ 0 → count_of (text y s.bytes 1 0) ≡ Some n
   unfolding line_fault
   free-line n s h = is-count n _ (picked_zero _ 21 h)
 
-  pub line-free : (n : ℕ) (s : Segment) → count_of (text y s.bytes 1 0) ≡ Is n → line_fault y g pages n s ≡ 0
+  pub line-free : (n : ℕ) (s : Segment) → count_of (text y s.bytes 1 0) ≡ Some n → line_fault y g pages n s ≡ 0
   unfolding line_fault
   line-free n s e = rw (count-is n _ e)
 

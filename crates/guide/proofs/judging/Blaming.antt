@@ -12,7 +12,7 @@ use Rattle.cut.specs.Segments.{Segment}
 use Rattle.clean.specs.Clean.{allowed_bytes, tagged_bytes}
 use Rattle.plain.specs.Plain.{same}
 use Rattle.value.specs.Digits.{count_of}
-use Rattle.value.specs.declared.counts.Count.TheVariants.{Is}
+use Rattle.std.specs.Prelude.{Some}
 use Rattle.guide.specs.Choices.{pickℕ, or_else}
 use Rattle.guide.specs.Nodes.{Guide}
 use Rattle.guide.specs.Page.{Page}
@@ -67,7 +67,7 @@ module _ (y : Syntax) (g : Guide) (pages : ℕ → Page) (i : ℕ) (m : Memory) 
         (Closes y g i m.reference s → ⊥) → Blamed 21 n
     line :
         {n : ℕ} → Clean y s → sought y g m s ≡ placed n → Holds y (pages n) s.bytes → T (is_tag g (bytes_of "LIN") n) →
-        (count_of (text y s.bytes 1 0) ≡ Is (suc m.positions) → ⊥) → Blamed 22 n
+        (count_of (text y s.bytes 1 0) ≡ Some (suc m.positions) → ⊥) → Blamed 22 n
 
   bytes_blamed : (c : ℕ) → bytes_fault y s ≡ suc c → Blamed (suc c) 0
   unfolding bytes_fault
@@ -87,7 +87,7 @@ module _ (y : Syntax) (g : Guide) (pages : ℕ → Page) (i : ℕ) (m : Memory) 
       or-number (is i (count_of (text y s.bytes 1 0)) && same (text y s.bytes 2 0) m.reference) 21
       (λ z. w (free-closes y g pages i m.reference s z))
 
-  line-fault : (count_of (text y s.bytes 1 0) ≡ Is (suc m.positions) → ⊥) → line_fault y g pages (suc m.positions) s ≡ 22
+  line-fault : (count_of (text y s.bytes 1 0) ≡ Some (suc m.positions) → ⊥) → line_fault y g pages (suc m.positions) s ≡ 22
   unfolding line_fault
   line-fault w = or-number (is (suc m.positions) (count_of (text y s.bytes 1 0))) 22 (λ z. w (free-line y g pages (suc m.positions) s z))
 
@@ -104,7 +104,7 @@ module _ (y : Syntax) (g : Guide) (pages : ℕ → Page) (i : ℕ) (m : Memory) 
           let z : suc c ≡ 21 = sym q ∙ end-fault w in
           rw z (count k e h (T_true a) w)
       go false a true d q =
-          let w : count_of (text y s.bytes 1 0) ≡ Is (suc m.positions) → ⊥ = λ x. omega (arith, line-free y g pages (suc m.positions) s x) in
+          let w : count_of (text y s.bytes 1 0) ≡ Some (suc m.positions) → ⊥ = λ x. omega (arith, line-free y g pages (suc m.positions) s x) in
           let z : suc c ≡ 22 = sym q ∙ line-fault w in
           rw z (line k e h (T_true d) w)
       go false a false d q = absurd (omega arith)
@@ -163,7 +163,7 @@ module _ (y : Syntax) (g : Guide) (pages : ℕ → Page) (i : ℕ) (m : Memory) 
 
   line-content
       : (n : ℕ) → Holds y (pages n) s.bytes → T (is_tag g (bytes_of "LIN") n)
-      → (count_of (text y s.bytes 1 0) ≡ Is (suc m.positions) → ⊥) → content_fault y g pages i m n s ≡ 22
+      → (count_of (text y s.bytes 1 0) ≡ Some (suc m.positions) → ⊥) → content_fault y g pages i m n s ≡ 22
   unfolding content_fault rule_fault
   line-content n h t w =
       rw (

@@ -9,7 +9,7 @@ use Rattle.cut.specs.declared.service.Syntax.{Syntax}
 use Rattle.bytewise.specs.Bytes.{bytes_of}
 use Rattle.cut.specs.Segments.{Segment}
 use Rattle.value.specs.Digits.{count_of}
-use Rattle.value.specs.declared.counts.Count.TheVariants.{Is}
+use Rattle.std.specs.Prelude.{Some}
 use Rattle.guide.specs.Nodes.{Guide}
 use Rattle.guide.specs.Page.{Page}
 use Rattle.guide.specs.Content.{text, Holds}
@@ -30,7 +30,7 @@ nodes_in xs = map (λ (x : Given Segment). x.node) xs
 module _ (y : Syntax) where
   -- one segment that may have a number, and those behind it
   numbered_more
-      : (b : Bool) (k : ℕ) (s : Segment) (ss : List Segment) → (T b → count_of (text y s.bytes 1 0) ≡ Is (suc k))
+      : (b : Bool) (k : ℕ) (s : Segment) (ss : List Segment) → (T b → count_of (text y s.bytes 1 0) ≡ Some (suc k))
       → Numbered y (suc (k + one b)) ss → Numbered y (suc k) (only_if b s ++ ss)
   unfolding Numbered
   numbered_more true k s ss h n =
@@ -42,7 +42,7 @@ module _ (y : Syntax) where
 
   numbered-first
       : (b : Bool) (k : ℕ) (s : Segment) (ss : List Segment) → Numbered y (suc k) (only_if b s ++ ss)
-      → (T b → count_of (text y s.bytes 1 0) ≡ Is (suc k)) × Numbered y (suc (k + one b)) ss
+      → (T b → count_of (text y s.bytes 1 0) ≡ Some (suc k)) × Numbered y (suc (k + one b)) ss
   unfolding Numbered
   numbered-first true k s ss n =
       let z : k + 1 ≡ suc k = omega arith in

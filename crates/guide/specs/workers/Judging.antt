@@ -9,8 +9,7 @@ use Rattle.messages.specs.Messages.{Message, start_of}
 use Rattle.clean.specs.Clean.{allowed_bytes, tagged_bytes}
 use Rattle.plain.specs.Plain.{same}
 use Rattle.value.specs.Digits.{count_of}
-use Rattle.value.specs.declared.counts.Count.{Count}
-use Rattle.value.specs.declared.counts.Count.TheVariants.{Is, Nothing}
+use Rattle.std.specs.Prelude.{Option, Some, None}
 use Rattle.guide.specs.Choices.{pickℕ, or_else}
 use Rattle.guide.specs.Nodes.{Guide, capacity, number_of}
 use Rattle.guide.specs.Views.{view_of}
@@ -33,9 +32,9 @@ abbrev pub fresh : Memory
 fresh = record { state = start capacity; positions = 0; reference = [] }
 
 -- whether a count is n
-abbrev pub is : ℕ → Count → Bool
-is n (Is k) = eqb k n
-is n Nothing = false
+abbrev pub is : ℕ → Option ℕ → Bool
+is n (Some k) = eqb k n
+is n None = false
 
 -- 12, 10, 11, in this order; 0 if none
 unfoldable pub bytes_fault : Syntax → Segment → ℕ

@@ -1,5 +1,5 @@
--- A reader in a local is lent to `step` and comes back moved on: what a walk by hand of a caller cites that makes a reader and steps it.
--- For the call a lifetime ν is made within the delivery's κ, since `step` asks that the delivery outlives the loan. After the call ν is ended, and
+-- A reader in a local is lent to `next` and comes back moved on: what a walk by hand of a caller cites that makes a reader and steps it.
+-- For the call a lifetime ν is made within the delivery's κ, since `next` asks that the delivery outlives the loan. After the call ν is ended, and
 -- the local is the caller's again.
 use mathlib.Core.Path.{◌≡◌, subst}
 use Prim.Native.Nat.{ℕ}
@@ -9,14 +9,14 @@ use base.Share
 use base.Fraction.{full_share}
 use mir.Syntax.{named, erased}
 use mir.Val.{Val, vptr}
-use base.Logic.{SProp, ent, sep, ex, guard, guard_i, via, fst∗, snd∗, ex_e, id⊢}
+use base.Logic.{SProp, emp, ent, sep, ex, guard, guard_i, via, fst∗, snd∗, ex_e, id⊢}
 use base.Fml.{GName, Lft, Share, Fml, ftrue, fsep, flft, fdead, fres, flent, fat}
 use prog.Memory.{Memory}
 use prog.Routine.{Routine}
 use types.Logic.{Logic, sem}
 use contract.BorrowLft.{meet_⊑_right}
-use contract.Monad.{Fun, fact, fact_use}
-use types.Kit.{Item, mean, ‵, raw, given, ◌⊛◌, ⋆, some, later, ◌$◌, ◌∵◌, !, qed, move, keep, use1, use2, use3, split, split3, join, pick, learn}
+use contract.Monad.{Fun, fact, fact_i, fact_use}
+use types.Kit.{Item, mean, ‵, raw, given, ◌⊛◌, ⋆, some, later, ◌$◌, ◌∵◌, !, qed, move, keep, use1, use2, use3, use0, split, split3, join, pick, learn}
 use types.Kit.{fsplit, fjoin, fpick, fpack, frame, await, updating, now as at_once, show, check, done}
 use types.SemTy.{Body}
 use types.Tokens.{lft_new}
@@ -31,16 +31,18 @@ use denote.Struct.Laws as LL
 use denote.Struct.Steps.{spelt}
 use denote.Triple.Statement.{Contract}
 use denote.Triple.Spec.{triple_of}
-use denote.Triple.Clauses.{ensured, lasts}
+use denote.Triple.Clauses.{ensured, lasts, at_exit}
+use Rattle.std.specs.Prelude.{Option, ⊤}
 use Rattle.cut.specs.declared.scan.Cut.{Cut}
+use Rattle.std.specs.contracts.option.Option as O
 use Rattle.cut.specs.contracts.scan.Cut as S
 use Rattle.held.specs.Reading.{answer_of, moved_on}
 use Rattle.held.specs.declared.reader.Reader.{Reader}
 use Rattle.held.specs.contracts.reader.Reader as T
 use Rattle.held.proofs.reader.Reader.TheLaws as T'
-use Rattle.held.specs.contracts.reader.step as step
+use Rattle.held.specs.contracts.reader.ReaderIterator.next as next
 
--- `Reader<'a>`, as `step`'s signature has it
+-- `Reader<'a>`, as `next`'s signature has it
 abbrev pub α : Lft → NamedLft
 α κ = record { mir = named 1; lft = κ }
 
@@ -52,9 +54,9 @@ abbrev pub lies : Lft → ℕ → Reader → Fml
 lies κ l h = (mem (R κ)).own_at h l 0
 
 module _ {M : Type 1} {𝓤 : Ura M} (𝓛 : Logic 𝓤) (mem : Memory → SProp 𝓤) (run : Routine → Fun 𝓤) where
-  -- `step`'s contract
+  -- `next`'s contract
   abbrev pub Stepped : Contract 𝓤
-  Stepped = triple_of 𝓛 step.signature (step.spec 𝓛 mem run)
+  Stepped = triple_of 𝓛 next.signature (next.spec 𝓛 mem run)
 
 module _ {M : Type 1} {𝓤 : Ura M} (𝓛 : Logic 𝓤) (κ : Lft) (l : ℕ) (h : Reader) where
   -- of the local's cell, and back: MIR erases the lifetime in a local's type
@@ -88,7 +90,7 @@ module _ {M : Type 1} {𝓤 : Ura M} (𝓛 : Logic 𝓤) (at_mem : Memory → SP
   abbrev rest : ℕ → GName → Fml
   rest ν γ = flent (ν ∷ κ) (Body (mem (R κ)) l 0 γ)
 
-  -- what the triple of `step` binds outside: half of the delivery's token goes into the loan's, the other half is passed for the delivery
+  -- what the triple of `next` binds outside: half of the delivery's token goes into the loan's, the other half is passed for the delivery
   abbrev pub to_step : ℕ × GName → (Stepped 𝓛 at_mem run).Ghost
   to_step k =
       (((k.0 ∷ κ, (κ, tt)), (Share.left q, (Share.right q, tt)), (meet_⊑_right (k.0 ∷ []) κ, tt), (passed k.1, tt), (vptr l 0 ∷ [], tt)), tt)
@@ -98,9 +100,10 @@ module _ {M : Type 1} {𝓤 : Ura M} (𝓛 : Logic 𝓤) (at_mem : Memory → SP
       ((Stepped 𝓛 at_mem run).pre (to_step (ν, γ)))
   goes ν γ =
       qed 𝓛 (‵ (flft (ν ∷ κ) (Share.left q)) ∷ ‵ (flft κ (Share.right q)) ∷ ‵ (own ν γ) ∷ []) ∵
-      nothing ! $ move ! (3 ∷ 0 ∷ []) $ fjoin ! $ nothing ! $ move ! (3 ∷ 0 ∷ []) $ join ! $ move ! (2 ∷ 0 ∷ []) $ join ! $ join ! $ frame ! $ done !
+      nothing ! $ move ! (3 ∷ 0 ∷ []) $ fjoin ! $ nothing ! $ move ! (3 ∷ 0 ∷ []) $ join ! $ move ! (2 ∷ 0 ∷ []) $ join ! $ join ! $ frame ! $
+      use0 𝓛 (raw (fact 𝓤 ⊤)) (fact_i 𝓤 ⊤ (emp 𝓤) tt) $ done !
 
-  -- with the local lent: what `step` asks, the way back to ν's whole token, and the lender's part
+  -- with the local lent: what `next` asks, the way back to ν's whole token, and the lender's part
   abbrev pub Going : ℕ × GName → Item 𝓤
   Going k = raw ((Stepped 𝓛 at_mem run).pre (to_step k)) ⊛ raw (Rest 𝓛 k.0 (Share.left q)) ⊛ ‵ (rest k.0 k.1)
 
@@ -116,34 +119,41 @@ module _ {M : Type 1} {𝓤 : Ura M} (𝓛 : Logic 𝓤) (at_mem : Memory → SP
       at_once ! $ show ! (λ (k : ℕ × GName). mean 𝓛 (Going k)) (ν, γ) $ move ! (0 ∷ 2 ∷ 4 ∷ []) $
       use3 𝓛 (raw ((Stepped 𝓛 at_mem run).pre (to_step (ν, γ)))) (goes ν γ) $ keep ! (0 ∷ 1 ∷ 3 ∷ []) $ done !))
 
-  -- what the promise of `step` says: the answer, and the last value of what was lent
-  told : (ν : ℕ) (γ : GName) (c : Cut)
-      → ent 𝓤 (ensured 𝓛 step.ended (step.clauses 𝓛 at_mem run) (ν ∷ κ, (κ, tt)) (passed γ, tt) tt c)
+  -- what the promise of `next` says: the answer, and the last value of what was lent
+  told : (ν : ℕ) (γ : GName) (c : Option Cut)
+      → ent 𝓤 (ensured 𝓛 next.ended (next.clauses 𝓛 at_mem run) (ν ∷ κ, (κ, tt)) (passed γ, tt) tt c)
       (guard 𝓤 (c ≡ answer_of h) (A.res γ ((R κ).coded.code (moved_on h))))
   told ν γ c = ex_e 𝓤 _ (λ ws.
-      let L : SProp 𝓤 = sem 𝓛 (lasts step.ended (ν ∷ κ, (κ, tt)) (passed γ, tt) ws) in
-      let E : SProp 𝓤 = fact 𝓤 ((c ≡ answer_of h) × (ws.0 ≡ moved_on h)) in
+      let L : SProp 𝓤 = sem 𝓛 (lasts next.ended (ν ∷ κ, (κ, tt)) (passed γ, tt) ws) in
+      let E : SProp 𝓤 = (next.clauses 𝓛 at_mem run (ν ∷ κ, (κ, tt)) (passed γ, tt)).ensures tt c (at_exit next.ended (ν ∷ κ, (κ, tt)) (passed γ, tt) ws) in
+      let F : SProp 𝓤 = fact 𝓤 ((c ≡ answer_of h) × (ws.0 ≡ moved_on h)) in
+      -- that the walk comes to an end
+      let G : SProp 𝓤 =
+      next.ensures-goes 𝓛 (ν ∷ κ, (κ, tt)) at_mem run (passed γ)
+      (record { entry = passed γ; exit = (at_exit next.ended (ν ∷ κ, (κ, tt)) (passed γ, tt) ws).0 }) c in
       -- the reference's own borrow, closed: the lender's part is all that is needed here
       let B : SProp 𝓤 = A.bor (ν ∷ κ) (Body (mem (R κ)) l 0 γ) in
-      fact_use 𝓤 ((c ≡ answer_of h) × (ws.0 ≡ moved_on h)) (snd∗ 𝓤 L E) (λ e.
+      fact_use 𝓤 ((c ≡ answer_of h) × (ws.0 ≡ moved_on h)) (via 𝓤 E (snd∗ 𝓤 L E) (fst∗ 𝓤 F G)) (λ e.
       subst (λ (z : Reader). ent 𝓤 (sep 𝓤 L E) (guard 𝓤 (c ≡ answer_of h) (A.res γ ((R κ).coded.code z)))) e.1
       (via 𝓤 L (fst∗ 𝓤 L E)
       (via 𝓤 _ (fst∗ 𝓤 (sep 𝓤 (A.res γ ((R κ).coded.code ws.0)) B) (sem 𝓛 ftrue))
       (via 𝓤 _ (fst∗ 𝓤 (A.res γ ((R κ).coded.code ws.0)) B) (guard_i 𝓤 (c ≡ answer_of h) (A.res γ ((R κ).coded.code ws.0)) e.0))))))
 
   -- after the call: the answer c with the machine value u, the reader moved on in its local, and the delivery's token whole
-  abbrev pub Coming : Val → Cut → Item 𝓤
-  Coming u c = given (c ≡ answer_of h) (‵ ((S.the_row).own_val c (u ∷ [])) ⊛ ‵ (lies κ l (moved_on h)) ⊛ (‵ (flft κ q) ⊛ ‵ ftrue))
+  abbrev pub Coming : Val → Option Cut → Item 𝓤
+  Coming u c = given (c ≡ answer_of h) (‵ ((O.the_row S.the_row).own_val c (u ∷ [])) ⊛ ‵ (lies κ l (moved_on h)) ⊛ (‵ (flft κ q) ⊛ ‵ ftrue))
 
   pub comes : (k : ℕ × GName) (u : Val)
       → ent 𝓤 (⋆ 𝓛 (raw ((Stepped 𝓛 at_mem run).post (to_step k) u) ∷ raw (Rest 𝓛 k.0 (Share.left q)) ∷ ‵ (rest k.0 k.1) ∷ []))
-      (H.⇛ (ex 𝓤 (λ (c : Cut). mean 𝓛 (Coming u c))))
+      (H.⇛ (ex 𝓤 (λ (c : Option Cut). mean 𝓛 (Coming u c))))
   comes k u =
       let ν = k.0 in
       let γ = k.1 in
       qed 𝓛 (raw ((Stepped 𝓛 at_mem run).post (to_step k) u) ∷ raw (Rest 𝓛 ν (Share.left q)) ∷ ‵ (rest ν γ) ∷ []) ∵ updating ! $
-      use1 𝓛 (later (some (λ (c : Cut). ((‵ (flft (ν ∷ κ) (Share.left q)) ⊛ ‵ (flft κ (Share.right q)) ⊛ ‵ ftrue) ⊛ ‵ ((S.the_row).own_val c (u ∷ []))) ⊛ raw
-      (ensured 𝓛 step.ended (step.clauses 𝓛 at_mem run) (ν ∷ κ, (κ, tt)) (passed γ, tt) tt c)))) (id⊢ 𝓤 _) $ await ! tt $ pick ! (λ c.
+      use1 𝓛 (later (some (λ (c : Option Cut). ((‵ (flft (ν ∷ κ) (Share.left q)) ⊛ ‵ (flft κ (Share.right q)) ⊛ ‵ ftrue)
+      ⊛ ‵ ((O.the_row S.the_row).own_val c (u ∷ [])))
+      ⊛ raw
+      (ensured 𝓛 next.ended (next.clauses 𝓛 at_mem run) (ν ∷ κ, (κ, tt)) (passed γ, tt) tt c)))) (id⊢ 𝓤 _) $ await ! tt $ pick ! (λ c.
       split ! $ move ! (1 ∷ []) $ use1 𝓛 (given (c ≡ answer_of h) (‵ (fres γ ((R κ).coded.code (moved_on h))))) (told ν γ c) $
       learn ! (λ e. move ! (1 ∷ []) $ split ! $ split3 ! $
       -- [the loan's token; half of the delivery's; true; the answer; the last value; the way back; the lender's part]
@@ -152,4 +162,4 @@ module _ {M : Type 1} {𝓤 : Ura M} (𝓛 : Logic 𝓤) (at_mem : Memory → SP
       move ! (1 ∷ 2 ∷ []) $ use2 𝓛 (‵ (flft κ q)) (𝓛.lfts.lft_join κ q) $
       -- [the delivery's token; the loan is over; true; the answer; the last value; the lender's part]
       move ! (1 ∷ 5 ∷ 4 ∷ []) $ use3 𝓛 (later (‵ (lies κ l (moved_on h)))) (ref_back 𝓛 (R κ) (ν ∷ κ) γ (moved_on h) l 0) $ await ! tt $
-      at_once ! $ show ! (λ (d : Cut). mean 𝓛 (Coming u d)) c $ check ! e $ move ! (3 ∷ 0 ∷ 1 ∷ 2 ∷ []) $ done !))
+      at_once ! $ show ! (λ (d : Option Cut). mean 𝓛 (Coming u d)) c $ check ! e $ move ! (3 ∷ 0 ∷ 1 ∷ 2 ∷ []) $ done !))

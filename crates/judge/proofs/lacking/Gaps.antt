@@ -1,6 +1,6 @@
 -- Laws of the search for a missing node: one level, and the levels outward.
 use Prim.Native.Nat.{ℕ, suc, ◌<◌}
-use mathlib.Core.Path.{◌≡◌, refl, sym, ◌∙◌}
+use mathlib.Core.Path.{◌≡◌, refl, sym, ◌∙◌, ap}
 use mathlib.Core.Bool.{Bool, true, false, not, ◌&&◌, ◌||◌, true≢false}
 use mathlib.Core.List.{List}
 use lib.ListN.{length}
@@ -10,6 +10,9 @@ use Rattle.guide.specs.Nodes.{Guide, node, paired, required}
 use Rattle.guide.specs.workers.Placing.{first_node, levels, tally, lacking, missing}
 use Rattle.guide.specs.declared.edition.Edition.{Edition}
 use Rattle.guide.specs.Editions.{guide_of}
+use Rattle.guide.specs.Options.{unless_0}
+use Rattle.guide.proofs.Options.{some_unless_0, none_unless_0, told_unless_0, untold_unless_0}
+use Rattle.std.specs.Prelude.{Option, Some, None}
 use Rattle.judge.specs.workers.Rows.{child_of, due_of}
 use Rattle.judge.specs.workers.Searches.{wanted, missed, lacks_due}
 use Rattle.judge.proofs.lacking.Links.{Only, pick-none}
@@ -89,30 +92,36 @@ module _ (e : Edition) (cs : List ℕ) (n : ℕ) where
   unfolding levels missing
   level-any k p c = refl
 
-  -- the gap at the level of p
-  module _ (p gap : ℕ) (here : gap ≡ first_node (guide_of e) (lacking (guide_of e) cs n p)) where
-    pub gap_found : (gap ≡ 0 → ⊥) → gap ≡ missing_from p
+  module _ (p : ℕ) where
+    -- the gap at the level of p
+    pub gap_found : (gap : ℕ) → Some gap ≡ unless_0 (first_node (guide_of e) (lacking (guide_of e) cs n p)) → Some gap ≡ unless_0 (missing_from p)
     unfolding levels missing
-    gap_found h = sym (rw (sym here) (or_else-some gap _ h))
+    gap_found gap told =
+        let t = told_unless_0 gap (first_node (guide_of e) (lacking (guide_of e) cs n p)) told in
+        some_unless_0 gap (missing_from p) (sym (rw (sym t.0) (or_else-some gap _ t.1))) t.1
 
-    module _ (none : gap ≡ 0) where
-      pub gap_root : p ≡ 0 → 0 ≡ missing_from p
+    -- there is none
+    module _ (untold : None ≡ unless_0 (first_node (guide_of e) (lacking (guide_of e) cs n p))) where
+      here : 0 ≡ first_node (guide_of e) (lacking (guide_of e) cs n p)
+      here = untold_unless_0 _ untold
+
+      pub gap_root : p ≡ 0 → None ≡ unless_0 (missing_from p)
       unfolding missing
-      gap_root h = sym (rw (levels-root e p 0 h, sym here, none) (pick-none (eqb p (node (guide_of e) n).parent)))
+      gap_root h = none_unless_0 (missing_from p) (sym (rw (levels-root e p 0 h, sym here) (pick-none (eqb p (node (guide_of e) n).parent))))
 
       module _ (q : ℕ) (parent : q ≡ (node (guide_of e) n).parent) where
         -- the level that takes n is the last
-        pub gap_taking : p ≡ q → 0 ≡ missing_from p
+        pub gap_taking : p ≡ q → None ≡ unless_0 (missing_from p)
         unfolding levels missing
-        gap_taking h = sym (rw (eq-eqb p (node (guide_of e) n).parent (h ∙ parent), sym here, none))
+        gap_taking h = none_unless_0 (missing_from p) (sym (rw (eq-eqb p (node (guide_of e) n).parent (h ∙ parent), sym here)))
 
         pub gap_up
-            : (p ≡ q → ⊥) → (p ≡ 0 → ⊥) → p < length (guide_of e) → (r outer : ℕ) → r ≡ (node (guide_of e) p).parent → outer ≡ missing_from r
-            → outer ≡ missing_from p
+            : (p ≡ q → ⊥) → (p ≡ 0 → ⊥) → p < length (guide_of e) → (r : ℕ) (outer : Option ℕ) → r ≡ (node (guide_of e) p).parent
+            → outer ≡ unless_0 (missing_from r) → outer ≡ unless_0 (missing_from p)
         unfolding missing
         gap_up h k l r outer up found =
             let other : eqb p (node (guide_of e) n).parent ≡ false = ne_eqb p _ (λ (z : p ≡ (node (guide_of e) n).parent). h (z ∙ sym parent)) in
             let s : missing_from p ≡ missing_from r =
-            rw (levels_up e p 0 k l, sym here, none, other, up)
+            rw (levels_up e p 0 k l, sym here, other, up)
             (level-any (node (guide_of e) p).parent (node (guide_of e) p).parent (node (guide_of e) p).counter) in
-            found ∙ sym s
+            found ∙ ap unless_0 (sym s)

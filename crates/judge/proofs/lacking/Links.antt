@@ -10,6 +10,9 @@ use borrow.Author.Tests.{ne_eqb, eqb-true, eqb-false, ltb-true, ltb-false}
 use Rattle.guide.specs.Nodes.{Guide, Node, message, nobody, node}
 use Rattle.guide.specs.workers.Placing.{lowest, first_node}
 use Rattle.guide.specs.Choices.{pickℕ}
+use Rattle.guide.specs.Options.{unless_0}
+use Rattle.guide.proofs.Options.{some_unless_0, none_unless_0}
+use Rattle.std.specs.Prelude.{Some, None}
 use Rattle.judge.specs.workers.Rows.{child_of}
 use Rattle.judge.specs.workers.Searches.{onward}
 
@@ -148,9 +151,9 @@ module _ (g : Guide) (kin : ℕ → ℕ → Bool) (p : ℕ) (test : ℕ → Bool
       }
 
 module _ {g : Guide} {kin : ℕ → ℕ → Bool} {p : ℕ} {test : ℕ → Bool} {found n : ℕ} (w : Walking g kin p test found n) where
-  pub walk_out : n ≡ 0 → 0 ≡ found
+  pub walk_out : n ≡ 0 → None ≡ unless_0 found
   unfolding onward
-  walk_out e = sym (rw e) ∙ w.answer
+  walk_out e = none_unless_0 found (sym (rw e) ∙ w.answer)
 
   module _ (some : n ≡ 0 → ⊥) where
     pub walk_inside : n < length g
@@ -159,12 +162,12 @@ module _ {g : Guide} {kin : ℕ → ℕ → Bool} {p : ℕ} {test : ℕ → Bool
     pub walk-child : (node g n).parent ≡ p
     walk-child = eqb-true (node g n).parent p (w.below n (w.kind some))
 
-    pub walk-found : test n ≡ true → n ≡ found
+    pub walk-found : test n ≡ true → Some n ≡ unless_0 found
     unfolding onward lowest
     walk-found t =
         let m : length g - n ≡ suc (length g - suc n) = omega (arith, walk_inside) in
         let q : onward test g n ≡ n = rw (ne_eqb n 0 some, m, t) in
-        sym q ∙ w.answer
+        some_unless_0 n found (sym q ∙ w.answer) some
 
     module _ (next : ℕ) (link : next ≡ lowest (kin (node g n).parent) (suc n) (length g - suc n)) where
       sibling : next ≡ lowest (kin p) (suc n) (length g - suc n)

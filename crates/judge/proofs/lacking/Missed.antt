@@ -16,6 +16,9 @@ use Rattle.guide.proofs.Basics.{T_true, true-T, false-T, every-at, implied, and_
 use Rattle.guide.specs.declared.edition.Edition.{Edition}
 use Rattle.guide.specs.declared.edition.Edition.TheVariants.{D, C}
 use Rattle.guide.specs.Editions.{guide_of}
+use Rattle.guide.specs.Options.{unless_0}
+use Rattle.guide.proofs.Options.{none_unless_0, untold_unless_0}
+use Rattle.std.specs.Prelude.{None}
 use Rattle.judge.specs.workers.Rows.{child_of, due_of}
 use Rattle.judge.specs.workers.Sets.{member, nodes_that, some_level, follows_in, due_after, inside_of, preceding_of}
 use Rattle.judge.specs.workers.Searches.{missed, lacks_due}
@@ -105,8 +108,9 @@ module _ (e : Edition) (cs : List ℕ) (n last s : ℕ) (set : s ≡ bit_and (du
 
   pub gap_none
       : n < length (guide_of e) → last < length (guide_of e) → some_level (follows_in (guide_of e) n) (levels (guide_of e) (suc last) last 0) ≡ true
-      → 0 ≡ first_node (guide_of e) (within s (missed (guide_of e) cs)) → 0 ≡ missing (guide_of e) cs n (levels (guide_of e) (suc last) last 0)
-  gap_none row before follows none = sym (missing-none e cs n (levels (guide_of e) (suc last) last 0) covered)
+      → None ≡ unless_0 (first_node (guide_of e) (within s (missed (guide_of e) cs)))
+      → None ≡ unless_0 (missing (guide_of e) cs n (levels (guide_of e) (suc last) last 0))
+  gap_none row before follows none = none_unless_0 _ (sym (missing-none e cs n (levels (guide_of e) (suc last) last 0) covered))
     where
       all : T (every (covered_at (guide_of e) last n) (length (guide_of e)))
       all =
@@ -123,4 +127,5 @@ module _ (e : Edition) (cs : List ℕ) (n last s : ℕ) (set : s ≡ bit_and (du
           (every-at (covered_at (guide_of e) last n) (length (guide_of e)) m all b) t in
           let i : member s m ≡ true = both_are e (due_in (guide_of e) last) (preceding_in (guide_of e) n) s m both a b ∙ true-T _ k in
           false-T _
-          (λ q. (lowest-least (within s (missed (guide_of e) cs)) 1 (length (guide_of e) - 1) m (omega arith) a (omega arith) (rw i (true-T _ q))).0 (sym none))
+          (λ q. (lowest-least (within s (missed (guide_of e) cs)) 1 (length (guide_of e) - 1) m (omega arith) a (omega arith) (rw i (true-T _ q))).0
+          (sym (untold_unless_0 _ none)))

@@ -1,9 +1,10 @@
 -- Laws of the rows that come in pairs: which they are, what the code needs of them, and one law for each return.
-use Prim.Native.Nat.{ℕ, ◌≤◌, ◌<◌}
+use Prim.Native.Nat.{ℕ, ◌≤◌, ◌<◌, min}
 use mathlib.Core.Path.{◌≡◌, refl, sym, ◌∙◌, ap}
-use mathlib.Core.Bool.{Bool, true, false, not, ◌&&◌, ◌||◌, true≢false}
+use mathlib.Core.Bool.{Bool, true, false, not, ◌&&◌, ◌||◌, true≢false, cond}
 use mathlib.Core.List.{List}
 use native.Mathlib.Omega.{arith}
+use Rattle.std.proofs.Math.Nat.{min-eq_left, min-eq_right}
 use lib.ListN.{length, get_or-eq_default}
 use lib.Dec.{T, eqb, ltb}
 use borrow.Author.Tests.{eq-eqb, ne_eqb, eqb-true, eqb-false, lt-ltb, le-ltb, ltb-true, ltb-false}
@@ -15,6 +16,9 @@ use Rattle.guide.proofs.Basics.{every-at}
 use Rattle.guide.specs.declared.edition.Edition.{Edition}
 use Rattle.guide.specs.declared.edition.Edition.TheVariants.{D, C}
 use Rattle.guide.specs.Editions.{guide_of}
+use Rattle.guide.specs.Options.{unless_0}
+use Rattle.guide.proofs.Options.{none_unless_0, told_unless_0, untold_unless_0}
+use Rattle.std.specs.Prelude.{Some, None}
 use Rattle.judge.specs.workers.Searches.{wanted}
 use Rattle.judge.proofs.lacking.Gaps.{and_left}
 
@@ -38,10 +42,12 @@ row_any test g all none n = go (ltb n (length g)) refl
 abbrev one_of : ℕ → ℕ → ℕ → Node → Bool
 one_of a b n x = eqb n a || (eqb n b || eqb x.partner 0)
 
-alone : (a b : ℕ) (g : Guide) → T (every (λ n. one_of a b n (node g n)) (length g)) → (n : ℕ) → (n ≡ a → ⊥) → (n ≡ b → ⊥) → 0 ≡ (node g n).partner
+alone
+    : (a b : ℕ) (g : Guide) → T (every (λ n. one_of a b n (node g n)) (length g)) → (n : ℕ) → (n ≡ a → ⊥) → (n ≡ b → ⊥) → None
+    ≡ unless_0 (node g n).partner
 alone a b g all n h k =
     let q : one_of a b n (node g n) ≡ true = row_any (one_of a b) g all other n in
-    sym (eqb-true _ 0 (sym (rw (ne_eqb n a h, ne_eqb n b k)) ∙ q))
+    none_unless_0 (node g n).partner (sym (eqb-true _ 0 (sym (rw (ne_eqb n a h, ne_eqb n b k)) ∙ q)))
   where
     or-true : (x : Bool) → x || true ≡ true
     or-true true = refl
@@ -50,11 +56,11 @@ alone a b g all n h k =
     other : (m : ℕ) → one_of a b m message ≡ true
     other m = ap (λ (x : Bool). eqb m a || x) (or-true (eqb m b)) ∙ or-true (eqb m a)
 
-pub alone_20d : (n : ℕ) → (n ≡ 21 → ⊥) → (n ≡ 27 → ⊥) → 0 ≡ (node pricat20d n).partner
+pub alone_20d : (n : ℕ) → (n ≡ 21 → ⊥) → (n ≡ 27 → ⊥) → None ≡ unless_0 (node pricat20d n).partner
 unfolding pricat20d every
 alone_20d = alone 21 27 pricat20d tt
 
-pub alone_20c : (n : ℕ) → (n ≡ 19 → ⊥) → (n ≡ 25 → ⊥) → 0 ≡ (node pricat20c n).partner
+pub alone_20c : (n : ℕ) → (n ≡ 19 → ⊥) → (n ≡ 25 → ⊥) → None ≡ unless_0 (node pricat20c n).partner
 unfolding pricat20c every
 alone_20c = alone 19 25 pricat20c tt
 
@@ -70,8 +76,8 @@ pairs_tested C = tt
 pair_fit : (e : Edition) (n : ℕ) → optional_pair n (node (guide_of e) n) ≡ true
 pair_fit e n = row_any optional_pair (guide_of e) (pairs_tested e) (λ m. refl) n
 
-pub partner-counted : (e : Edition) (n : ℕ) → (node (guide_of e) n).partner < 96
-partner-counted e n = ltb-true _ 96 (and_left _ _ (pair_fit e n))
+counted : (e : Edition) (n : ℕ) → (node (guide_of e) n).partner < 96
+counted e n = ltb-true _ 96 (and_left _ _ (pair_fit e n))
 
 pub pair_optional : (e : Edition) (n : ℕ) → paired (guide_of e) n && (node (guide_of e) n).must ≡ false
 unfolding paired
@@ -91,45 +97,59 @@ some_above k = go (eqb k 0) refl
         let z = eqb-false k 0 e in
         sym (lt-ltb 0 k (omega arith))
 
--- row n, whose partner is q, or which has none
-module _ (g : Guide) (n q : ℕ) (other : q ≡ (node g n).partner) where
-  unpaired : q ≡ 0 → paired g n ≡ false
+-- row n, which has no partner
+module _ (g : Guide) (n : ℕ) (none : None ≡ unless_0 (node g n).partner) where
+  unpaired : paired g n ≡ false
   unfolding paired
-  unpaired h = rw (sym other) (le-ltb 0 q (omega arith))
+  unpaired = le-ltb 0 (node g n).partner (omega (arith, untold_unless_0 (node g n).partner none))
 
-  pairs : (q ≡ 0 → ⊥) → paired g n ≡ true
+  pub wanted_alone : (cs : List ℕ) → true ≡ wanted g cs n
+  unfolding wanted
+  wanted_alone cs = rw unpaired
+
+  pub over_alone : (cs : List ℕ) → 15 ≡ over g n (tally cs)
+  unfolding over
+  over_alone cs = rw unpaired
+
+  pub number_alone : n ≡ number_of g n
+  unfolding number_of
+  number_alone = rw unpaired
+
+-- row n, whose partner is q
+module _ (g : Guide) (n q : ℕ) (told : Some q ≡ unless_0 (node g n).partner) where
+  other : q ≡ (node g n).partner
+  other = (told_unless_0 q (node g n).partner told).0
+
+  pairs : paired g n ≡ true
   unfolding paired
-  pairs h = rw (sym other) (lt-ltb 0 q (omega arith))
+  pairs =
+      let t = told_unless_0 q (node g n).partner told in
+      lt-ltb 0 (node g n).partner (omega (arith, t.0, t.1))
 
   module _ (cs : List ℕ) where
-    pub wanted_alone : q ≡ 0 → true ≡ wanted g cs n
+    pub wanted_pair : not (eqb (tally cs q) 0) ≡ wanted g cs n
     unfolding wanted
-    wanted_alone h = rw (unpaired h)
+    wanted_pair = rw (pairs, sym other) (some_above (tally cs q))
 
-    pub wanted_pair : (q ≡ 0 → ⊥) → not (eqb (tally cs q) 0) ≡ wanted g cs n
-    unfolding wanted
-    wanted_pair h = rw (pairs h, sym other) (some_above (tally cs q))
-
-    pub over_second : (q ≡ 0 → ⊥) → tally cs q ≡ 0 → 25 ≡ over g n (tally cs)
+    pub over_second : tally cs q ≡ 0 → 25 ≡ over g n (tally cs)
     unfolding over
-    over_second h k = rw (pairs h, sym other, eq-eqb (tally cs q) 0 k)
+    over_second k = rw (pairs, sym other, eq-eqb (tally cs q) 0 k)
 
-    pub over_alone : q ≡ 0 → 15 ≡ over g n (tally cs)
+    pub over-third : (tally cs q ≡ 0 → ⊥) → 15 ≡ over g n (tally cs)
     unfolding over
-    over_alone h = rw (unpaired h)
+    over-third k = rw (pairs, sym other, ne_eqb (tally cs q) 0 k)
 
-    pub over-third : (q ≡ 0 → ⊥) → (tally cs q ≡ 0 → ⊥) → 15 ≡ over g n (tally cs)
-    unfolding over
-    over-third h k = rw (pairs h, sym other, ne_eqb (tally cs q) 0 k)
-
-  pub number_alone : q ≡ 0 → n ≡ number_of g n
+  -- the row's number is the lower of the two
+  pub number_least : min q n ≡ number_of g n
   unfolding number_of
-  number_alone h = rw (unpaired h)
+  number_least = rw (pairs, sym other) (go (ltb q n) refl)
+    where
+      go : (b : Bool) → ltb q n ≡ b → min q n ≡ cond b q n
+      go true e =
+          let l : q ≤ n = omega (arith, ltb-true q n e) in
+          min-eq_left l
+      go false e = min-eq_right (ltb-false q n e)
 
-  pub number_lower : (q ≡ 0 → ⊥) → q < n → q ≡ number_of g n
-  unfolding number_of
-  number_lower h l = rw (pairs h, sym other, lt-ltb q n l)
-
-  pub number-own : (q ≡ 0 → ⊥) → n ≤ q → n ≡ number_of g n
-  unfolding number_of
-  number-own h l = rw (pairs h, sym other, le-ltb q n l)
+-- ... for whose partner there is a count
+pub partner-counted : (e : Edition) (n q : ℕ) → Some q ≡ unless_0 (node (guide_of e) n).partner → q < 96
+partner-counted e n q told = omega (arith, counted e n, other (guide_of e) n q told)

@@ -20,6 +20,8 @@ use Rattle.guide.proofs.Basics.{T_true, true-T, false-T, every-at, implied, and_
 use Rattle.guide.specs.declared.edition.Edition.{Edition}
 use Rattle.guide.specs.declared.edition.Edition.TheVariants.{D, C}
 use Rattle.guide.specs.Editions.{guide_of}
+use Rattle.guide.specs.Options.{unless_0}
+use Rattle.std.specs.Prelude.{Option}
 use Rattle.judge.specs.workers.Words.{packed, word_of, picks, Bytes}
 use Rattle.judge.specs.workers.Rows.{child_of, due_of}
 use Rattle.judge.specs.workers.Sets.{member, nodes_that, some_level, follows_in, followers_of, tagged_of, due_after, after_word}
@@ -173,14 +175,15 @@ module _ (e : Edition) (y : Syntax) (d : List ℕ) (start end : ℕ) (bytes : By
 
   -- what the key finds
   pub seek_keyed
-      : (key r : ℕ) → key ≡ word_of ((view_of y (part start end d)).key 1 0)
-      → r ≡ first_node (guide_of e) (λ n. member s n && picks (map packed (node (guide_of e) n).selector.codes) key)
-      → r ≡ seek (guide_of e) (view_of y (part start end d)) (levels (guide_of e) (suc last) last 0)
+      : (key : ℕ) (r : Option ℕ) → key ≡ word_of ((view_of y (part start end d)).key 1 0)
+      → r ≡ unless_0 (first_node (guide_of e) (λ n. member s n && picks (map packed (node (guide_of e) n).selector.codes) key))
+      → r ≡ unless_0 (seek (guide_of e) (view_of y (part start end d)) (levels (guide_of e) (suc last) last 0))
   seek_keyed key r read h =
       h
-      ∙ lowest_like (λ n. member s n && picks (map packed (node (guide_of e) n).selector.codes) key) (within s coded) 1 (length (guide_of e) - 1)
+      ∙ ap unless_0
+      (lowest_like (λ n. member s n && picks (map packed (node (guide_of e) n).selector.codes) key) (within s coded) 1 (length (guide_of e) - 1)
       (λ n a b. ap (λ (x : Bool). member s n && x) (same n a (omega arith)))
-      ∙ answer
+      ∙ answer)
     where
       same : (n : ℕ) → 0 < n → n < length (guide_of e) → picks (map packed (node (guide_of e) n).selector.codes) key ≡ coded n
       same n a b =

@@ -9,7 +9,12 @@ use lib.Bits.{bit_and}
 use lib.Count.{count_trailing_zeros}
 use borrow.Author.Tests.{eqb-true, lt-ltb}
 use Rattle.guide.specs.Nodes.{Guide}
+use Rattle.guide.specs.Options.{unless_0}
 use Rattle.guide.specs.workers.Placing.{first_node}
+use Rattle.guide.proofs.Options.{some_unless_0, none_unless_0}
+use Rattle.std.specs.Prelude.{Option, Some, None}
+use Rattle.judge.specs.declared.sets.NodeSet.{NodeSet}
+use Rattle.judge.specs.workers.NodeSets.{TakesLowest}
 use Rattle.judge.specs.workers.Sets.{member, nodes_that}
 use Rattle.judge.proofs.lacking.Links.{lowest-none, lowest_like, lowest-is}
 use Rattle.judge.proofs.sets.Members.{member-none, member-and, nodes_member, first_member, first-lowest, rest-member, rest_less}
@@ -25,8 +30,8 @@ pub record Sought (g : Guide) (test : ℕ → Bool) (found s : ℕ) : Type 0 whe
   pub answer : first_node g (within s test) ≡ found
 
 module _ {g : Guide} {test : ℕ → Bool} {found s : ℕ} (w : Sought g test found s) where
-  pub sought_out : s ≡ 0 → 0 ≡ found
-  sought_out h = sym (lowest-none (within s test) 1 (length g - 1) (λ m a b. rw (h, member-none m))) ∙ w.answer
+  pub sought_out : s ≡ 0 → None ≡ unless_0 found
+  sought_out h = none_unless_0 found (sym (lowest-none (within s test) 1 (length g - 1) (λ m a b. rw (h, member-none m))) ∙ w.answer)
 
   -- n is the lowest of the set
   module _ (some : s ≡ 0 → ⊥) (n : ℕ) (first : n ≡ count_trailing_zeros 32 s) where
@@ -36,12 +41,14 @@ module _ {g : Guide} {test : ℕ → Bool} {found s : ℕ} (w : Sought g test fo
     pub sought_inside : (0 < n) × (n < length g)
     sought_inside = w.inside n first-in
 
-    pub sought_found : (r : Bool) → r ≡ test n → r ≡ true → n ≡ found
+    pub sought_found : (r : Bool) → r ≡ test n → r ≡ true → Some n ≡ unless_0 found
     sought_found r asked t =
-        sym
+        some_unless_0 n found
+        (sym
         (lowest-is (within s test) 1 (length g - 1) n (omega arith) (omega (arith, sought_inside)) (omega (arith, sought_inside)) (rw (first-in, sym asked, t))
         (λ m a l. rw (first-lowest 32 s m (omega arith))))
-        ∙ w.answer
+        ∙ w.answer)
+        (omega (arith, sought_inside))
 
     -- of the nodes that pass another test the set has none
     pub sought_fails : (other : ℕ → Bool) (t : ℕ) → t ≡ nodes_that g other → bit_and s t ≡ 0 → other n ≡ false
@@ -74,3 +81,10 @@ module _ {g : Guide} {test : ℕ → Bool} {found s : ℕ} (w : Sought g test fo
 
           same : (m : ℕ) → within rest test m ≡ within s test m
           same m = rw (rest_in m) (go m (member s m) (eqb m n) refl)
+
+  -- where all of them pass it is the lowest
+  pub sought_lowest
+      : (r : Option ℕ) (t : NodeSet) → TakesLowest (record { 0 = s }) r t → ((n : ℕ) → (s ≡ 0 → ⊥) → n ≡ count_trailing_zeros 32 s → test n ≡ true) → r
+      ≡ unless_0 found
+  sought_lowest None t k h = sought_out k.0
+  sought_lowest (Some n) t k h = sought_found k.0 n k.1 true (sym (h n k.0 k.1)) refl

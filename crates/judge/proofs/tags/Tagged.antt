@@ -1,10 +1,11 @@
 -- Laws of a node's tag: past the table's end there is none, equal numbers are equal tags, and each is letters.
 use Prim.Native.Nat.{ℕ, zero, suc, ◌-◌, ◌≤◌, ◌<◌}
-use mathlib.Core.Path.{◌≡◌, refl, sym, ◌∙◌, ap₂, subst}
+use mathlib.Core.Path.{◌≡◌, refl, sym, ◌∙◌, ap, ap₂, subst}
 use mathlib.Core.Bool.{Bool, true, false, true≢false}
 use mathlib.Core.List.{List, [], ◌∷◌}
 use native.Mathlib.Omega.{arith}
-use lib.ListN.{length, get_or-eq_default}
+use lib.ListN.{length, take, get_or-eq_default}
+use lib.Seq.{take_all}
 use lib.Dec.{T, eqb, eqb→eq}
 use lib.Bits.{bit_and, and_le_r}
 use borrow.Author.Tests.{ne_eqb}
@@ -36,22 +37,22 @@ tag-bytes : (e : Edition) (n : ℕ) → n < length (guide_of e) → Bytes (node 
 tag-bytes e zero h = rw (root-bare e) none-bytes
 tag-bytes e (suc n) h = (sound-at e (suc n) (omega arith) h).tag
 
-three_bytes : (a b c : ℕ) → a < 256 → b < 256 → c < 256 → Bytes (a ∷ b ∷ c ∷ [])
-three_bytes a b c k l m zero = k
-three_bytes a b c k l m (suc zero) = l
-three_bytes a b c k l m (suc (suc zero)) = m
-three_bytes a b c k l m (suc (suc (suc i))) = omega arith
-
-module _ (e : Edition) (n a b c : ℕ) where
-  pub tag-past : length (guide_of e) ≤ n → false ≡ is_tag (guide_of e) (a ∷ b ∷ c ∷ []) n
+module _ (e : Edition) (n : ℕ) (tag : List ℕ) (three : length tag ≡ 3) where
+  pub tag-past : length (guide_of e) ≤ n → false ≡ is_tag (guide_of e) tag n
   unfolding is_tag same
-  tag-past h = rw (get_or-eq_default (guide_of e) message h)
+  tag-past h = rw (get_or-eq_default (guide_of e) message h) (go tag three)
+    where
+      go : (t : List ℕ) → length t ≡ 3 → false ≡ same [] t
+      go [] k = absurd (omega arith)
+      go (x ∷ xs) k = refl
 
   pub tag_same
-      : n < length (guide_of e) → a < 256 → b < 256 → c < 256 → (t w : ℕ) → t ≡ packed (node (guide_of e) n).tag
-      → w ≡ packed (a ∷ b ∷ c ∷ []) → eqb t w ≡ is_tag (guide_of e) (a ∷ b ∷ c ∷ []) n
+      : n < length (guide_of e) → Bytes tag → (t w : ℕ) → t ≡ packed (node (guide_of e) n).tag → w ≡ packed (take 3 tag)
+      → eqb t w ≡ is_tag (guide_of e) tag n
   unfolding is_tag
-  tag_same h k l m t w p q = ap₂ eqb p q ∙ packed-same _ _ (tag-bytes e n h) (three_bytes a b c k l m)
+  tag_same h k t w p q =
+      let all : take 3 tag ≡ tag = take_all 3 tag (omega arith) in
+      ap₂ eqb p (q ∙ ap packed all) ∙ packed-same _ _ (tag-bytes e n h) k
 
 -- the tags of all nodes, as numbers
 abbrev tags : List ℕ

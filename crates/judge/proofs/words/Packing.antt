@@ -4,8 +4,8 @@ use mathlib.Core.Path.{◌≡◌, refl, sym, ◌∙◌, ap}
 use mathlib.Core.Bool.{true, false, ◌&&◌}
 use mathlib.Core.List.{List, [], ◌∷◌}
 use native.Mathlib.Omega.{arith}
-use lib.ListN.{length, get_or, take, drop, length-take}
-use lib.Seq.{take_all, take-take}
+use lib.ListN.{length, get_or, take, drop}
+use lib.Seq.{take-take}
 use lib.Dec.{T, eqb, leb, leb→le}
 use borrow.Author.Tests.{ne_eqb}
 use Rattle.bytewise.specs.Bytes.{part}
@@ -22,8 +22,34 @@ use Rattle.guide.specs.Views.{view_of}
 use Rattle.guide.proofs.Basics.{T_true, and_left, and_right}
 use Rattle.judge.specs.workers.Words.{packed, word_of, letters, Bytes}
 
+-- the word of the first three bytes, or of fewer where there are no more
+pub word_none : (s : List ℕ) → length s ≡ 0 → 1 ≡ packed (take 3 s)
+unfolding packed
+word_none [] h = refl
+word_none (a ∷ s) h = absurd (omega arith)
+
+pub word_one : (s : List ℕ) → length s ≡ 1 → get_or s 0 0 + 256 ≡ packed (take 3 s)
+unfolding packed
+word_one [] h = absurd (omega arith)
+word_one (a ∷ []) h = refl
+word_one (a ∷ b ∷ s) h = absurd (omega arith)
+
+pub word_two : (s : List ℕ) → length s ≡ 2 → get_or s 0 0 + 256 * (get_or s 1 0 + 256) ≡ packed (take 3 s)
+unfolding packed
+word_two [] h = absurd (omega arith)
+word_two (a ∷ []) h = absurd (omega arith)
+word_two (a ∷ b ∷ []) h = refl
+word_two (a ∷ b ∷ c ∷ s) h = absurd (omega arith)
+
+pub word_three : (s : List ℕ) → 3 ≤ length s → get_or s 0 0 + 256 * (get_or s 1 0 + 256 * (get_or s 2 0 + 256)) ≡ packed (take 3 s)
+unfolding packed
+word_three [] h = absurd (omega arith)
+word_three (a ∷ []) h = absurd (omega arith)
+word_three (a ∷ b ∷ []) h = absurd (omega arith)
+word_three (a ∷ b ∷ c ∷ s) h = refl
+
 -- a part is its first byte and then the rest
-pub pack_none : (d : List ℕ) (a e : ℕ) → e ≤ a → 1 ≡ packed (part a e d)
+pack_none : (d : List ℕ) (a e : ℕ) → e ≤ a → 1 ≡ packed (part a e d)
 unfolding packed
 pack_none d a e h = rw (part_none d a e h)
 
@@ -32,18 +58,8 @@ pack_next
 unfolding packed
 pack_next d a e x r h l first rest = rw (first, rest, part-next d a e h l)
 
--- the part from a up to e, of one or two bytes, and of three
-module _ (d : List ℕ) (a e : ℕ) (inside : e ≤ length d) (x : ℕ) (first : x ≡ get_or d a 0) where
-  pub pack_one : e - a ≡ 1 → x + 256 ≡ packed (part a e d)
-  pack_one h = pack_next d a e x 1 (omega arith) inside first (pack_none d (a + 1) e (omega arith))
-
-  module _ (y : ℕ) (second : y ≡ get_or d (a + 1) 0) where
-    pub pack_two : e - a ≡ 2 → x + 256 * (y + 256) ≡ packed (part a e d)
-    pack_two h =
-        pack_next d a e x (y + 256) (omega arith) inside first
-        (pack_next d (a + 1) e y 1 (omega arith) inside second (pack_none d (a + 1 + 1) e (omega arith)))
-
-pub pack_three
+-- and the word of three bytes
+pack_three
     : (d : List ℕ) (a e : ℕ) → e ≤ length d → e - a ≡ 3 → packed (get_or d a 0 ∷ get_or d (a + 1) 0 ∷ get_or d (a + 2) 0 ∷ []) ≡ packed (part a e d)
 unfolding packed
 pack_three d a e inside h =
@@ -57,19 +73,7 @@ module _ (d : List ℕ) (a e z : ℕ) (limit : z ≡ min e (length d)) where
   within : part a z d ≡ part a e d
   within = limited d a e z limit
 
-  pub tag-none : z ≤ a → 1 ≡ packed (take 3 (part a e d))
-  unfolding packed
-  tag-none h =
-      let q : part a e d ≡ [] = sym within ∙ part_none d a z h in
-      rw q
-
-  pub tag-short : (r : ℕ) → z - a < 3 → r ≡ packed (part a z d) → r ≡ packed (take 3 (part a e d))
-  unfolding part
-  tag-short r h k =
-      let n : length (part a z d) ≤ 3 = simp length-take (omega arith) in
-      k ∙ ap packed (sym (take_all 3 (part a z d) n) ∙ ap (take 3) within)
-
-  pub tag_three : (r : ℕ) → 3 ≤ z - a → r ≡ packed (part a (a + 3) d) → r ≡ packed (take 3 (part a e d))
+  tag_three : (r : ℕ) → 3 ≤ z - a → r ≡ packed (part a (a + 3) d) → r ≡ packed (take 3 (part a e d))
   unfolding part
   tag_three r h k =
       let n : 3 ≤ e - a = omega arith in

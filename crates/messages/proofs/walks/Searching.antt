@@ -1,4 +1,7 @@
 -- The messages that begin at a place, or from a place on, are those of the segments from that place on.
+use Rattle.std.specs.Prelude.{None}
+use Rattle.messages.specs.Calls.{some_message}
+use Rattle.std.specs.Prelude.{None}
 use Prim.Native.Nat.{ℕ, suc, ◌≤◌, ◌<◌}
 use mathlib.Core.Path.{◌≡◌, refl, sym, ◌∙◌}
 use mathlib.Core.Bool.{Bool, true, false}
@@ -9,7 +12,6 @@ use lib.Dec.{eqb, leb}
 use borrow.Author.Tests.{eq-eqb, ne_eqb, le-leb, leb-true, leb-false, eqb-false}
 use Rattle.messages.specs.declared.tags.Tag.{Tag}
 use Rattle.messages.specs.declared.tags.Tag.TheVariants.{Unh, Unt, Unz, Other}
-use Rattle.messages.specs.declared.found.Found.TheVariants as found
 use Rattle.cut.specs.Segments.{Segment, end_of, last_end, begins_in, keep_if}
 use Rattle.messages.specs.Messages.{Message, start_of, tag_of, body, begin, messages_in}
 use Rattle.messages.specs.Calls.{found_at, found_from}
@@ -81,7 +83,7 @@ found-at-since at q (s ∷ ss) k = go (leb at s.start) refl (found-at-since at (
         begin_elsewhere at (tag_of s.bytes) (record { first = s; rest = body ss }) (messages_in ss) (λ i. omega (arith, leb-false at s.start e)) ∙ ih
 
 -- none begins before the first segment
-found-past : (at q : ℕ) (ss : List Segment) → Rising q ss → at < q → found_at at (messages_in ss) ≡ found.Nothing
+found-past : (at q : ℕ) (ss : List Segment) → Rising q ss → at < q → found_at at (messages_in ss) ≡ None
 unfolding messages_in found_at Rising
 found-past at q [] k h = refl
 found-past at q (s ∷ ss) k h =
@@ -89,7 +91,7 @@ found-past at q (s ∷ ss) k h =
     ∙ found-past at (suc s.start) ss k.1 (omega (arith, k.0))
 
 -- no message begins where no segment does
-pub found_nowhere : (at : ℕ) (ss : List Segment) → begins_in at ss ≡ false → found_at at (messages_in ss) ≡ found.Nothing
+pub found_nowhere : (at : ℕ) (ss : List Segment) → begins_in at ss ≡ false → found_at at (messages_in ss) ≡ None
 unfolding messages_in found_at begins_in
 found_nowhere at [] h = refl
 found_nowhere at (s ∷ ss) h =
@@ -98,11 +100,11 @@ found_nowhere at (s ∷ ss) h =
 
 module _ (at : ℕ) (s : Segment) (ss : List Segment) (k : Rising (suc at) ss) (e : s.start ≡ at) where
   -- the first of some segments begins a message there
-  pub found_first : is_unh (tag_of s.bytes) ≡ true → found_at at (messages_in (s ∷ ss)) ≡ found.Message s.start (last_end (end_of s) (body ss))
+  pub found_first : is_unh (tag_of s.bytes) ≡ true → found_at at (messages_in (s ∷ ss)) ≡ some_message s.start (last_end (end_of s) (body ss))
   unfolding messages_in found_at
   found_first u = rw (begin-here _ _ _ u, eq-eqb _ _ (sym e))
 
   -- or begins none, and none of those after it begins there
-  pub found-other : is_unh (tag_of s.bytes) ≡ false → found_at at (messages_in (s ∷ ss)) ≡ found.Nothing
+  pub found-other : is_unh (tag_of s.bytes) ≡ false → found_at at (messages_in (s ∷ ss)) ≡ None
   unfolding messages_in
   found-other u = rw (begin_on _ _ _ u) (found-past at (suc at) ss k (le_refl (suc at)))

@@ -1,24 +1,23 @@
 -- A message's end, seen past segments that begin with no U: none of them ends it.
-use Prim.Native.Nat.{ℕ, zero, suc, ◌+◌, ◌-◌, ◌≤◌, ◌<◌}
+use Prim.Native.Nat.{ℕ, zero, suc, ◌+◌, ◌-◌, ◌≤◌, ◌<◌, min}
 use mathlib.Core.Path.{◌≡◌, refl, sym, ◌∙◌, ap, subst}
 use mathlib.Core.Bool.{Bool, true, false, cond, not, ◌&&◌, true≢false}
 use mathlib.Core.List.{List, [], ◌∷◌, ◌++◌, append-nil}
 use native.Mathlib.Nat.{add-zero, le_refl}
 use native.Mathlib.Omega.{arith}
 use lib.ListN.{length, get_or}
-use lib.Dec.{eqb, ltb}
-use borrow.Author.Tests.{eq-eqb, ltb-true, ltb-false}
+use lib.Dec.{eqb}
+use borrow.Author.Tests.{eq-eqb}
 use Rattle.cut.specs.declared.service.Syntax.{Syntax}
 use Rattle.messages.specs.declared.tags.Tag.TheVariants.{Other}
 use Rattle.bytewise.specs.Bytes.{part}
-use Rattle.bytewise.specs.Eights.{on_from}
+use Rattle.bytewise.specs.Search.{FirstThat}
 use Rattle.cut.specs.Segments.{Segment, end_of, is_break, trim, trimmed, segments_of, segments_at, last_end}
 use Rattle.cut.specs.Fronts.{whole, glued, meet}
 use Rattle.cut.specs.Calls.{back_at}
 use Rattle.cut.proofs.Backing.{Back, backs}
 use Rattle.messages.specs.Messages.{tag_of, body}
-use Rattle.messages.specs.workers.Walks.{NoU, Skipped}
-use Rattle.bytewise.proofs.Booleans.{and_both}
+use Rattle.messages.specs.workers.Walks.{Skipped}
 use Rattle.bytewise.proofs.Parts.{part_none, part-last, part-parts}
 use Rattle.bytewise.proofs.Limits.{part_out}
 use Rattle.cut.proofs.Appended.{meet-whole}
@@ -118,9 +117,9 @@ module _ (y : Syntax) (d : List ℕ) where
         subst Plain (sym (ap (segments_of y from) l ∙ segments-last y from (part from i d) (get_or d i 0)))
         (plain-behind (upto i) (whole (upto i)) _ (get_or d i 0) _ refl p n)
 
-    pub plain-one_more
-        : (i : ℕ) (b : Bool) → from ≤ i → i < length d → Plain (upto i) → b ≡ (eqb (get_or d i 0) 85 && whole (upto i)) → b ≡ false → Plain (upto (i + 1))
-    plain-one_more i b h k p e f = plain_step i h k p (λ u w. true≢false (sym (e ∙ rw (eq-eqb _ _ u, w)) ∙ f))
+    -- a byte where no segment begins
+    pub plain-inside : (i : ℕ) (b : Bool) → from ≤ i → i < length d → Plain (upto i) → b ≡ whole (upto i) → b ≡ false → Plain (upto (i + 1))
+    plain-inside i b h k p e f = plain_step i h k p (λ u w. true≢false (sym w ∙ sym e ∙ f))
 
     -- n bytes, none of them U
     plain_more
@@ -132,11 +131,13 @@ module _ (y : Syntax) (d : List ℕ) where
         (plain_step (i + n) (omega arith) (omega arith) (plain_more n i h (omega arith) p (λ k a b. t k a (omega arith)))
         (λ u w. t (i + n) (omega arith) (omega arith) u))
 
-    pub plain_on : (i j : ℕ) → from ≤ i → Plain (upto i) → NoU d i j → Plain (upto j)
-    plain_on i j h p n =
-        let z : i + (j - i) ≡ j = omega (arith, n.onward) in
-        subst (λ (k : ℕ). Plain (upto k)) z
-        (plain_more (j - i) i h (omega (arith, n.onward, n.inside)) p (λ k a b. n.none k a (omega (arith, n.onward))))
+    -- up to the first U from i on
+    pub plain_on : (i k : ℕ) → from ≤ i → i ≤ length d → Plain (upto i) → FirstThat (λ x. eqb x 85) d i (min (length d) (length d)) k → Plain (upto k)
+    plain_on i k h l p f =
+        let z : i + (k - i) ≡ k = omega (arith, f.onward) in
+        subst (λ (n : ℕ). Plain (upto n)) z
+        (plain_more (k - i) i h (omega (arith, f.onward, f.within)) p
+        (λ n a b u. true≢false (sym (eq-eqb (get_or d n 0) 85 u) ∙ f.before n a (omega (arith, f.onward)))))
 
     -- where the bytes up to a place end where a segment ends, the last segment ends before the line breaks there
     pub ends-back
@@ -168,13 +169,6 @@ module _ (y : Syntax) (d : List ℕ) where
         let q = ends-back k r h l (sym e ∙ f) c in
         skipped_at r q.0 c.fits q.1 q.2 (plain_back k r q.0 c.before l q.1 p)
 
-    -- and U stands there
-    pub skipped-here
-        : (k r : ℕ) (b : Bool) → from ≤ k → k < length d → Plain (upto k) → b ≡ (eqb (get_or d k 0) 85 && whole (upto k)) → b ≡ true → r ≡ back_at y d from k
-        → Skipped y d from r
-    skipped-here k r b h l p e f z =
-        skipped-closed k r (whole (upto k)) h (omega arith) p refl (and_both (eqb (get_or d k 0) 85) (whole (upto k)) (sym e ∙ f)).1 z
-
     -- a piece ends with the delivery
     pub skipped_open : (k : ℕ) (b : Bool) → from ≤ k → k ≤ length d → length d ≤ k → Plain (upto k) → b ≡ whole (upto k) → b ≡ false → Skipped y d from k
     unfolding body last_end
@@ -185,19 +179,3 @@ module _ (y : Syntax) (d : List ℕ) where
         let ends : last_end from (segments_at y d from) ≡ length d = last_open y d from (segments_at y d from) refl (ap whole (sym all) ∙ sym e ∙ f) in
         let z : length d ≡ k = omega arith in
         record { onward = h; same = ap (last_end from) plain ∙ ends ∙ z ∙ sym (ap (λ (ss : List Segment). last_end k (body ss)) (none-past y d k m)) }
-
--- the search for U
-module _ (d : List ℕ) where
-  pub none_yet : (i : ℕ) → i ≤ length d → NoU d i i
-  none_yet i h = record { onward = le_refl i; inside = h; none = λ k a b u. absurd (omega arith) }
-
-  -- n bytes more
-  pub none_more : (from i n : ℕ) → NoU d from i → i + n ≤ length d → ((k : ℕ) → k < n → eqb (on_from d i k) 85 ≡ false) → NoU d from (i + n)
-  none_more from i n q h t = record { onward = omega (arith, q.onward); inside = h; none = λ k a b u. go k a b u (ltb k i) refl }
-    where
-      go : (k : ℕ) → from ≤ k → k < i + n → get_or d k 0 ≡ 85 → (b : Bool) → ltb k i ≡ b → ⊥
-      go k a b u true e = q.none k a (ltb-true _ _ e) u
-      go k a b u false e =
-          let l = ltb-false k i e in
-          let z : i + (k - i) ≡ k = omega arith in
-          true≢false (sym (eq-eqb (get_or d k 0) 85 u) ∙ ap (λ (j : ℕ). eqb (get_or d j 0) 85) (sym z) ∙ t (k - i) (omega arith))

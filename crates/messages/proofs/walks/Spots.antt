@@ -1,5 +1,11 @@
 -- One step of a walk over segments: what a spot says of the list, and what each kind of segment does to a message's end and to the search.
+use Rattle.std.specs.Prelude.{None}
+use Rattle.messages.specs.workers.Walks.{some_spot}
+use Rattle.messages.specs.Calls.{some_message}
+use Rattle.std.specs.Prelude.{None}
+use Rattle.std.proofs.lemmas.Option.{same_Some}
 use Prim.Native.Nat.{ℕ, ◌≤◌, ◌<◌}
+use mathlib.Core.Logic.{◌⊎◌, inl, inr}
 use mathlib.Core.Path.{◌≡◌, refl, ◌∙◌, ap}
 use mathlib.Core.Bool.{true, false, true≢false, false≢true}
 use mathlib.Core.List.{List, [], ◌∷◌}
@@ -7,9 +13,8 @@ use native.Mathlib.Omega.{arith}
 use lib.ListN.{length}
 use Rattle.cut.specs.declared.service.Syntax.{Syntax}
 use Rattle.messages.specs.declared.tags.Tag.{Tag}
+use Rattle.messages.specs.declared.tags.Spot.{Spot}
 use Rattle.messages.specs.declared.tags.Tag.TheVariants.{Unh, Unt, Unz, Other}
-use Rattle.messages.specs.declared.tags.Spot.TheVariants as spot
-use Rattle.messages.specs.declared.found.Found.TheVariants as found
 use Rattle.cut.specs.Segments.{Segment, end_of, segments_at, past_at, last_end}
 use Rattle.messages.specs.Messages.{Message, tag_of, follow, body, begin, messages_in}
 use Rattle.messages.specs.workers.Walks.{head_spot, head_found, is_unh, goes_on, last_by}
@@ -73,29 +78,31 @@ spotted_first y d at s t e x xs l a b c =
     }
 
 module _ (y : Syntax) (d : List ℕ) (at : ℕ) where
-  pub spotted : (s : ℕ) (t : Tag) (e : ℕ) → head_spot (segments_at y d at) ≡ spot.At s t e → Spotted y d at s t e
+  pub spotted : (s : ℕ) (t : Tag) (e : ℕ) → head_spot (segments_at y d at) ≡ some_spot s t e → Spotted y d at s t e
   unfolding head_spot
   spotted s t e h = go (segments_at y d at) refl h
     where
-      go : (ss : List Segment) → segments_at y d at ≡ ss → head_spot ss ≡ spot.At s t e → Spotted y d at s t e
+      go : (ss : List Segment) → segments_at y d at ≡ ss → head_spot ss ≡ some_spot s t e → Spotted y d at s t e
       go [] l k = absurd (let z : ◌≡◌ {A = ℕ} 0 1 = cc in omega arith)
-      go (x ∷ xs) l k = spotted_first y d at s t e x xs l (cc) (cc) (cc)
+      go (x ∷ xs) l k =
+          let q = same_Some _ _ k in
+          spotted_first y d at s t e x xs l (ap (λ (r : Spot). r.start) q) (ap (λ (r : Spot). r.tag) q) (ap (λ (r : Spot). r.end) q)
 
-  pub unspotted : head_spot (segments_at y d at) ≡ spot.Nothing → segments_at y d at ≡ []
+  pub unspotted : head_spot (segments_at y d at) ≡ None → segments_at y d at ≡ []
   unfolding head_spot
   unspotted h = go (segments_at y d at) refl h
     where
-      go : (ss : List Segment) → segments_at y d at ≡ ss → head_spot ss ≡ spot.Nothing → segments_at y d at ≡ []
+      go : (ss : List Segment) → segments_at y d at ≡ ss → head_spot ss ≡ None → segments_at y d at ≡ []
       go [] l k = l
       go (x ∷ xs) l k = absurd (let z : ◌≡◌ {A = ℕ} 0 1 = cc in omega arith)
 
   -- a message's end, seen from the segment that comes next
-  pub end_none : head_spot (segments_at y d at) ≡ spot.Nothing → last_end at (body (segments_at y d at)) ≡ at
+  pub end_none : head_spot (segments_at y d at) ≡ None → last_end at (body (segments_at y d at)) ≡ at
   unfolding body last_end
   end_none h = rw (unspotted h)
 
   -- the search for a message, seen from the segment that comes next
-  pub found_none : head_spot (segments_at y d at) ≡ spot.Nothing → head_found (messages_in (segments_at y d at)) ≡ found.Nothing
+  pub found_none : head_spot (segments_at y d at) ≡ None → head_found (messages_in (segments_at y d at)) ≡ None
   unfolding messages_in head_found
   found_none h = rw (unspotted h)
 
@@ -105,9 +112,16 @@ module _ (y : Syntax) (d : List ℕ) (at : ℕ) where
     unfolding body
     end_on g = rw (q.list, q.tag) (follow_on t q.segment _ at e q.closes g)
 
-    pub end_stop : goes_on t ≡ false → last_end at (body (segments_at y d at)) ≡ last_by t at e
+    end_stop : goes_on t ≡ false → last_end at (body (segments_at y d at)) ≡ last_by t at e
     unfolding body
     end_stop g = rw (q.list, q.tag) (follow-stop t q.segment _ at e q.closes g)
+
+    pub end_through : t ≡ Unt → last_end at (body (segments_at y d at)) ≡ e
+    end_through u = end_stop (ap goes_on u) ∙ ap (λ (v : Tag). last_by v at e) u
+
+    pub end_before : (t ≡ Unh) ⊎ (t ≡ Unz) → last_end at (body (segments_at y d at)) ≡ at
+    end_before (inl u) = end_stop (ap goes_on u) ∙ ap (λ (v : Tag). last_by v at e) u
+    end_before (inr u) = end_stop (ap goes_on u) ∙ ap (λ (v : Tag). last_by v at e) u
 
     pub found_on
         : is_unh t ≡ false → head_found (messages_in (segments_at y d at)) ≡ head_found (messages_in (segments_at y d e))
@@ -116,6 +130,6 @@ module _ (y : Syntax) (d : List ℕ) (at : ℕ) where
 
     pub found_here
         : (m : ℕ) → is_unh t ≡ true → m ≡ last_end e (body (segments_at y d e))
-        → head_found (messages_in (segments_at y d at)) ≡ found.Message s m
+        → head_found (messages_in (segments_at y d at)) ≡ some_message s m
     unfolding messages_in head_found
     found_here m u l = rw (q.list, q.tag, begin-here t _ _ u, l, q.closes, q.starts)

@@ -1,5 +1,8 @@
 -- The tag of a segment, read off the delivery; and that of the first segment, read off the first three bytes.
-use Prim.Native.Nat.{ℕ, suc, ◌+◌, ◌-◌, ◌≤◌, ◌<◌}
+use Rattle.std.specs.Prelude.{None}
+use Rattle.messages.specs.workers.Walks.{some_spot}
+use Rattle.std.specs.Prelude.{None}
+use Prim.Native.Nat.{ℕ, suc, ◌-◌, ◌≤◌, ◌<◌}
 use mathlib.Core.Path.{◌≡◌, refl, sym, ◌∙◌, ap}
 use mathlib.Core.Bool.{Bool, true, false, and-false, false≢true}
 use mathlib.Core.List.{List, [], ◌∷◌}
@@ -10,16 +13,14 @@ use lib.Seq.{take_all}
 use lib.Dec.{ltb}
 use borrow.Author.Tests.{ne_eqb, eqb-true, ltb-true, ltb-false}
 use Rattle.cut.specs.declared.service.Syntax.{Syntax}
-use Rattle.cut.specs.declared.scan.Cut.TheVariants as cut
+use Rattle.cut.specs.Calls.{some_cut}
 use Rattle.messages.specs.declared.tags.Tag.{Tag}
 use Rattle.messages.specs.declared.tags.Tag.TheVariants.{Other}
-use Rattle.messages.specs.declared.tags.Spot.TheVariants as spot
 use Rattle.bytewise.specs.Bytes.{part, begins}
 use Rattle.cut.specs.Segments.{Segment, ends, frees, join, segments_from, is_break, trimmed, segments_at, past_at}
 use Rattle.messages.specs.Messages.{tag_of}
 use Rattle.cut.specs.Calls.{cut_at, segment_at}
 use Rattle.messages.specs.workers.Walks.{head_spot, first_tag, tag_at}
-use Rattle.bytewise.proofs.Parts.{part-next, length_part}
 use Rattle.bytewise.proofs.Words.{begins-short}
 use Rattle.cut.proofs.First.{cutting, nothing}
 use Rattle.cut.proofs.Skips.{trim-kept, segments_are}
@@ -27,7 +28,7 @@ use Rattle.cut.proofs.Ahead.{none-past, pasts, cut_ahead, none_ahead, found_end}
 use Rattle.cut.proofs.cutting.Scanning.{segments-at, segments-none}
 
 -- fewer than three bytes say nothing
-tag-short : (bs : List ℕ) → length bs < 3 → tag_of bs ≡ Other
+pub tag-short : (bs : List ℕ) → length bs < 3 → Other ≡ tag_of bs
 unfolding tag_of
 tag-short bs h =
     rw (begins-short (85 ∷ 78 ∷ 72 ∷ []) bs h, begins-short (85 ∷ 78 ∷ 84 ∷ []) bs h, begins-short (85 ∷ 78 ∷ 90 ∷ []) bs h)
@@ -45,47 +46,51 @@ tag-not_N : (a b : ℕ) (bs : List ℕ) → (b ≡ 78 → ⊥) → tag_of (a ∷
 unfolding tag_of begins
 tag-not_N a b bs n = rw (ne_eqb _ _ n, and-false)
 
-module _ (d : List ℕ) (s e : ℕ) where
-  pub part-short : s ≤ e → e ≤ length d → e - s < 3 → tag_of (part s e d) ≡ Other
-  part-short h k l = tag-short (part s e d) (omega (arith, length_part d s e k))
+tag-no_third : (a b c : ℕ) → (c ≡ 72 → ⊥) → (c ≡ 84 → ⊥) → (c ≡ 90 → ⊥) → tag_of (a ∷ b ∷ c ∷ []) ≡ Other
+unfolding tag_of begins
+tag-no_third a b c h t z = rw (ne_eqb _ _ h, ne_eqb _ _ t, ne_eqb _ _ z, and-false, and-false)
 
-  part_three : e ≤ length d → 3 ≤ e - s → tag_of (part s e d) ≡ tag_of (get_or d s 0 ∷ get_or d (s + 1) 0 ∷ get_or d (s + 2) 0 ∷ [])
-  part_three k l =
-      let a : s + 1 + 1 ≡ s + 2 = omega arith in
-      rw (part-next d s e (omega arith) k, part-next d (s + 1) e (omega arith) k, a, part-next d (s + 2) e (omega arith) k)
-      (tag-first (get_or d s 0) (get_or d (s + 1) 0) (get_or d (s + 2) 0) _)
+tag_three : (bs : List ℕ) → 3 ≤ length bs → tag_of bs ≡ tag_of (get_or bs 0 0 ∷ get_or bs 1 0 ∷ get_or bs 2 0 ∷ [])
+tag_three [] l = absurd (omega arith)
+tag_three (a ∷ []) l = absurd (omega arith)
+tag_three (a ∷ b ∷ []) l = absurd (omega arith)
+tag_three (a ∷ b ∷ c ∷ bs) l = tag-first a b c bs
 
-  pub part-not_U : e ≤ length d → 3 ≤ e - s → (get_or d s 0 ≡ 85 → ⊥) → tag_of (part s e d) ≡ Other
-  part-not_U k l n = part_three k l ∙ tag-not_U _ _ n
+-- the first three bytes are known, or one of them is none that counts
+module _ (bs : List ℕ) (l : 3 ≤ length bs) where
+  pub tag_known : (x : ℕ) → get_or bs 0 0 ≡ 85 → get_or bs 1 0 ≡ 78 → get_or bs 2 0 ≡ x → tag_of (85 ∷ 78 ∷ x ∷ []) ≡ tag_of bs
+  tag_known x u n e = sym (tag_three bs l ∙ rw (u, n, e))
 
-  pub part-not_N : e ≤ length d → 3 ≤ e - s → (get_or d (s + 1) 0 ≡ 78 → ⊥) → tag_of (part s e d) ≡ Other
-  part-not_N k l n = part_three k l ∙ tag-not_N _ _ _ n
+  pub tag-not_first : (get_or bs 0 0 ≡ 85 → ⊥) → Other ≡ tag_of bs
+  tag-not_first n = sym (tag_three bs l ∙ tag-not_U _ _ n)
 
-  pub part_UN
-      : e ≤ length d → 3 ≤ e - s → get_or d s 0 ≡ 85 → get_or d (s + 1) 0 ≡ 78 → tag_of (part s e d) ≡ tag_of (85 ∷ 78 ∷ get_or d (s + 2) 0 ∷ [])
-  part_UN k l u n = part_three k l ∙ rw (u, n)
+  pub tag-not_second : (get_or bs 1 0 ≡ 78 → ⊥) → Other ≡ tag_of bs
+  tag-not_second n = sym (tag_three bs l ∙ tag-not_N _ _ _ n)
+
+  pub tag-not_third : (get_or bs 2 0 ≡ 72 → ⊥) → (get_or bs 2 0 ≡ 84 → ⊥) → (get_or bs 2 0 ≡ 90 → ⊥) → Other ≡ tag_of bs
+  tag-not_third h t z = sym (tag_three bs l ∙ tag-no_third _ _ _ h t z)
 
 -- a segment's answer, as a spot
 pub spot_of_lem
-    : (y : Syntax) (d : List ℕ) (at s e : ℕ) (p : Bool) (t : Tag) → segment_at y d at ≡ cut.Segment s e p → t ≡ tag_of (part s e d)
-    → head_spot (segments_at y d at) ≡ spot.At s t e
+    : (y : Syntax) (d : List ℕ) (at s e : ℕ) (p : Bool) (t : Tag) → segment_at y d at ≡ some_cut s e p → t ≡ tag_of (part s e d)
+    → head_spot (segments_at y d at) ≡ some_spot s t e
 unfolding head_spot
 spot_of_lem y d at s e p t h k =
     let q = cut_ahead y d at s e p h in
     rw (q.list, found_end y d at s e p q, k)
 
-pub spot-none : (y : Syntax) (d : List ℕ) (at : ℕ) → segment_at y d at ≡ cut.Nothing → head_spot (segments_at y d at) ≡ spot.Nothing
+pub spot-none : (y : Syntax) (d : List ℕ) (at : ℕ) → segment_at y d at ≡ None → head_spot (segments_at y d at) ≡ None
 unfolding head_spot
 spot-none y d at h = rw (none_ahead y d at h)
 
 -- what is cut at a place, by its tag
-pub tag_cut : (y : Syntax) (d : List ℕ) (at s e : ℕ) (p : Bool) (t : Tag) → cut_at y d at ≡ cut.Segment s e p → t ≡ tag_of (part s e d) → t ≡ tag_at y d at
+pub tag_cut : (y : Syntax) (d : List ℕ) (at s e : ℕ) (p : Bool) (t : Tag) → cut_at y d at ≡ some_cut s e p → t ≡ tag_of (part s e d) → t ≡ tag_at y d at
 unfolding tag_at first_tag
 tag_cut y d at s e p t h k =
     let q = cutting y d at false s e p h in
     rw (q.list, ← q.starts) k
 
-pub tag_uncut : (y : Syntax) (d : List ℕ) (at : ℕ) → cut_at y d at ≡ cut.Nothing → Other ≡ tag_at y d at
+pub tag_uncut : (y : Syntax) (d : List ℕ) (at : ℕ) → cut_at y d at ≡ None → Other ≡ tag_at y d at
 unfolding tag_at first_tag
 tag_uncut y d at h = rw (nothing y d at false h)
 

@@ -1,31 +1,27 @@
 -- What the workers of the walks promise each other: one segment by its tag, and what it does to a message's end and to a search.
-use Rattle.std.specs.Prelude.{ℕ, ◌≤◌, ◌<◌, ◌≡◌, Bool, true, false, List, [], ◌∷◌, length, get_or, drop}
+use Rattle.std.specs.Prelude.{ℕ, ◌≤◌, ◌≡◌, Bool, true, false, List, [], ◌∷◌, Option, Some, None, drop}
 use Rattle.cut.specs.declared.service.Syntax.{Syntax}
 use Rattle.cut.specs.Segments.{Segment, end_of, segments_from, segments_at, last_end, keep_if}
 use Rattle.messages.specs.declared.tags.Tag.{Tag}
 use Rattle.messages.specs.declared.tags.Tag.TheVariants.{Unh, Unt, Unz, Other}
 use Rattle.messages.specs.declared.tags.Spot.{Spot}
-use Rattle.messages.specs.declared.tags.Spot.TheVariants as spot
-use Rattle.messages.specs.declared.found.Found.{Found}
-use Rattle.messages.specs.declared.found.Found.TheVariants as found
+use Rattle.messages.specs.declared.found.Message.{Message as Found}
 use Rattle.messages.specs.Messages.{Message, tag_of, body}
 use Rattle.messages.specs.Calls.{as_found}
-
--- from i up to j no byte is U (85)
-pub record NoU (d : List ℕ) (i j : ℕ) : Type 0 where
-  pub onward : i ≤ j
-  pub inside : j ≤ length d
-  pub none : (k : ℕ) → i ≤ k → k < j → get_or d k 0 ≡ 85 → ⊥
 
 -- a message that is open before the segments from i on ends where one does that is open before those from j on, not before i
 pub record Skipped (y : Syntax) (d : List ℕ) (i j : ℕ) : Type 0 where
   pub onward : i ≤ j
   pub same : last_end i (body (segments_at y d i)) ≡ last_end j (body (segments_at y d j))
 
+-- a segment found, by its first byte, its tag and the byte after its last
+abbrev pub some_spot : ℕ → Tag → ℕ → Option Spot
+some_spot s t e = Some (record { start = s; tag = t; end = e })
+
 -- the first of some segments, by its tag
-unfoldable pub head_spot : List Segment → Spot
-head_spot [] = spot.Nothing
-head_spot (s ∷ ss) = spot.At s.start (tag_of s.bytes) (end_of s)
+unfoldable pub head_spot : List Segment → Option Spot
+head_spot [] = None
+head_spot (s ∷ ss) = some_spot s.start (tag_of s.bytes) (end_of s)
 
 -- its tag alone
 unfoldable pub first_tag : List Segment → Tag
@@ -37,8 +33,8 @@ unfoldable pub tag_at : Syntax → List ℕ → ℕ → Tag
 tag_at y d at = first_tag (segments_from y at false (drop at d))
 
 -- the first of some messages
-unfoldable pub head_found : List Message → Found
-head_found [] = found.Nothing
+unfoldable pub head_found : List Message → Option Found
+head_found [] = None
 head_found (m ∷ ms) = as_found m
 
 abbrev pub is_unh : Tag → Bool

@@ -22,7 +22,20 @@ use Rattle.page.proofs.CellTests.{word_at, word_of, row_word, opening_of, mood_o
 use Rattle.page.proofs.words.Ties.{element_arm, row_arm}
 use Rattle.page.proofs.formed.Faults.{filled, must-status, filled-any, empty-text, not-asked, asked-may}
 use Rattle.page.proofs.rows.Lookup.{element-here, row_here}
-use Rattle.page.proofs.pages.Moods.{opening_asks, opening_idle, ending_may, ending_calm, known_text, mood-kept, mood-filled, mood_owing, mood_idle}
+use Rattle.page.proofs.pages.Moods.{
+  opening_asks,
+  opening_idle,
+  ending_may,
+  ending_idle,
+  ending_owing,
+  ending_tag,
+  asking_text,
+  idle_text,
+  asking-kept,
+  mood-filled,
+  mood_owing,
+  mood_idle,
+}
 use Rattle.page.proofs.places.Sought.{places_inner, places_first, places_third, places_other}
 
 -- the words of an element of a page and of a row of an element
@@ -84,27 +97,32 @@ module _ (y : Syntax) (w r : ℕ) (h : T (freed w r)) (t : List ℕ) (some : 0 <
 
 -- a component of n bytes with the text t on the row that has the word r, in the mood m
 module _ (r n m : ℕ) (low : m < 2) where
-  pub mood-on : MoodAfter n m (row_in r) (mood_on n m r)
+  pub mood-on : MoodAfter n (stand_of m) (row_in r) (stand_of (mood_on n m r))
   unfolding mood_on
   mood-on t e = go n m low e
     where
       empty : (b : Bool) → leb 2 (r / 65536 % 4) ≡ b → 0 ≡ length t → stand_of (cond b 2 0) ≡ stand_after (stand_of 0) (row_in r) t
-      empty true q e = mood_owing (row_in r) t 0 (omega arith) (omega (arith, e)) (sym (must-status r) ∙ q)
-      empty false q e = mood_idle (row_in r) t 0 (omega arith) (omega (arith, e)) (sym (must-status r) ∙ q)
+      empty true q e = mood_owing (row_in r) t (omega (arith, e)) (sym (must-status r) ∙ q)
+      empty false q e = mood_idle (row_in r) t (omega (arith, e)) (sym (must-status r) ∙ q)
 
       go : (n m : ℕ) → m < 2 → n ≡ length t → stand_of (mood_on n m r) ≡ stand_after (stand_of m) (row_in r) t
       go zero zero l e = empty (leb 2 (r / 65536 % 4)) refl e
-      go zero (suc zero) l e = mood-kept (row_in r) t 1 (omega arith)
+      go zero (suc zero) l e = asking-kept (row_in r) t
       go zero (suc (suc m)) l e = absurd (omega arith)
-      go (suc n) zero l e = mood-filled (row_in r) t 0 (omega arith) (omega (arith, e))
-      go (suc n) (suc zero) l e = mood-kept (row_in r) t 1 (omega arith)
+      go (suc n) zero l e = mood-filled (row_in r) t (omega (arith, e))
+      go (suc n) (suc zero) l e = asking-kept (row_in r) t
       go (suc n) (suc (suc m)) l e = absurd (omega arith)
 
   pub calm_fault
       : (y : Syntax) (t : List ℕ) → n ≡ length t → (0 < n → text_fault y false (row_in r) t ≡ 0) → T (calm n m r) → 0 ≡ stand_fault y (stand_of m) (row_in r) t
   unfolding calm
-  calm_fault y t e f h = go n refl h ∙ known_text y (row_in r) t m low
+  calm_fault y t e f h = go n refl h ∙ known m low
     where
+      known : (m : ℕ) → m < 2 → text_fault y (eqb m 1) (row_in r) t ≡ stand_fault y (stand_of m) (row_in r) t
+      known zero l = idle_text y (row_in r) t
+      known (suc zero) l = asking_text y (row_in r) t
+      known (suc (suc m)) l = absurd (omega arith)
+
       empty : (m : ℕ) (b : Bool) → is_must (row_in r) ≡ b → T (eqb m 0 || not b) → m < 2 → length t ≡ 0 → 0 ≡ text_fault y (eqb m 1) (row_in r) t
       empty zero b q h l z = not-asked (is_must (row_in r)) false refl ∙ empty-text y false (row_in r) t z
       empty (suc zero) true q h l z = absurd h
@@ -116,13 +134,15 @@ module _ (r n m : ℕ) (low : m < 2) where
       go (suc k) q h = sym (f (omega arith)) ∙ filled-any y (row_in r) t (omega arith) (eqb m 1)
 
 -- nothing is lacking where the element ends behind it
-pub last-row : (w c m : ℕ) → T (last_row m w c) → EndFault w c m 0
+pub last-row : (w c m : ℕ) → T (last_row m w c) → EndFault w c (stand_of m) 0
 unfolding last_row
-last-row w c m h k e = go (eqb m 1) refl h
+last-row w c m h k e = go m h
   where
-    go : (b : Bool) → eqb m 1 ≡ b → T (not b || leb (w / 32768 % 32) (c + 1)) → 0 ≡ stand_end (stand_of m) (drop (c + 1) k.rows)
-    go true q h = ending_may w c k e m (eqb-true m 1 q) (leb→le (w / 32768 % 32) (c + 1) h)
-    go false q h = ending_calm m (drop (c + 1) k.rows) (eqb-false m 1 q)
+    go : (m : ℕ) → T (not (eqb m 1) || leb (w / 32768 % 32) (c + 1)) → 0 ≡ stand_end (stand_of m) (drop (c + 1) k.rows)
+    go zero h = ending_idle (drop (c + 1) k.rows)
+    go (suc zero) h = ending_may w c k e (leb→le (w / 32768 % 32) (c + 1) h)
+    go (suc (suc zero)) h = ending_owing (drop (c + 1) k.rows)
+    go (suc (suc (suc m))) h = ending_tag (drop (c + 1) k.rows)
 
 -- the places that are kept
 pub kept_places : (e c k : ℕ) (s : Span) (p r : Places) → k ≡ kept_of e c → r ≡ keep_of k s p → r ≡ places_on (e + 1) c s p

@@ -12,14 +12,14 @@ use Rattle.cut.specs.declared.service.Syntax.{Syntax}
 use Rattle.cut.proofs.Carrying.{carries_on, carries_run, carries_released}
 use Rattle.clean.specs.Clean.{between, allowed_byte}
 use Rattle.element.specs.Elements.{ending_of, stays, releases}
-use Rattle.element.specs.workers.Scans.{Foremost}
+use Rattle.element.specs.workers.Scans.{Foremost, Scanned, Sought, fresh}
 use Rattle.element.specs.Services.{is_service, is_mark, usual_services, Service}
 use Rattle.element.proofs.MarkFace.{allowed_each, text-allowed, mark-not, mark-both, plain-stays, plain_no_mark, stays-inside}
 use Rattle.element.proofs.UsualServices.{usual_are}
-use Rattle.page.specs.workers.Marks.{MarkScanned, MarkSought, CleanAhead}
-use Rattle.page.specs.declared.scan.Scan.{Scan}
-use Rattle.page.proofs.scan.Releases.{Past, past_first, past-found, past-mark}
-use Rattle.page.proofs.scan.Flags.{scan_begins}
+use Rattle.page.specs.workers.Marks.{CleanAhead}
+use Rattle.element.specs.declared.ahead.Scan.{Scan}
+use Rattle.page.proofs.marks.Releases.{Past, past_first, past-found, past-mark}
+use Rattle.page.proofs.marks.Flags.{scan_begins}
 
 -- ---- one byte
 
@@ -34,22 +34,22 @@ pub record Clean (y : Syntax) (d : List ℕ) (a : ℕ) (from : Scan) (removed : 
   pub past : Past y d a (length d) from.at removed
   pub allowed : (k : ℕ) → a ≤ k → k < from.at → allowed_byte (get_or d k 0) ≡ true
   pub carried : Carries y d a from.at
-  pub scanned : MarkScanned d from.at from.next from.left
+  pub scanned : Scanned is_mark d from
 
-pub clean-first : (y : Syntax) (d : List ℕ) (s : Scan) → s.at ≤ length d → MarkScanned d s.at s.next s.left → Clean y d s.at s 0
+pub clean-first : (y : Syntax) (d : List ℕ) (s : Scan) → s.at ≤ length d → Scanned is_mark d s → Clean y d s.at s 0
 clean-first y d s h q =
     record { past = past_first y d s.at (length d) h; allowed = λ k i j. absurd (omega arith); carried = λ e k. k; scanned = q }
 
 -- the first mark from there on stands at the place end
 module _
     (y : Syntax) (usual : usual_services y ≡ true) (d : List ℕ) (a : ℕ) (from : Scan) (removed : ℕ) (g : Clean y d a from removed) (r : Scan)
-    (q : MarkSought d from.at r)
+    (q : Sought is_mark d from.at r)
     (end : ℕ) (e : end ≡ r.at - 1) where
   here : Foremost is_mark d from.at end
-  here = rw (← e) at q.mark
+  here = rw (← e) at q.first
 
   mark-within : end < length d
-  mark-within = omega (arith, q.onward, q.inside)
+  mark-within = omega (arith, q.onward, q.scanned.ahead, q.scanned.within)
 
   up_allowed : (k : ℕ) → a ≤ k → k < end → allowed_byte (get_or d k 0) ≡ true
   up_allowed k i j = go (leb from.at k) refl
@@ -106,10 +106,10 @@ module _
             rw z (text-allowed (get_or d (end + 1) 0) x)
 
     pub clean-mark
-        : between 32 126 (get_or d (end + 1) 0) ≡ true → (t : Scan) → t ≡ record { at = end + 2; next = end + 2; left = 0 }
+        : between 32 126 (get_or d (end + 1) 0) ≡ true → (t : Scan) → t ≡ fresh (end + 2)
         → Clean y d a t (removed + 1)
     clean-mark x t z =
-        let tested = scan_begins is_mark d (length d) (end + 2) h t z in
+        let tested = scan_begins is_mark d (end + 2) h t z in
         rw z (record {
           past = past-mark y d a (length d) (omega arith) from.at removed g.past end (service (release_serves y (get_or d end 0) m)) m h f;
           allowed = released_allowed x;

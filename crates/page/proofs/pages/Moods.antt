@@ -1,11 +1,11 @@
 -- The moods of the pass as the code has them.
-use Prim.Native.Nat.{ℕ, zero, suc, ◌+◌, ◌/◌, ◌%◌, ◌≤◌, ◌<◌}
+use Prim.Native.Nat.{ℕ, ◌+◌, ◌/◌, ◌%◌, ◌≤◌, ◌<◌}
 use mathlib.Core.Bool.{Bool, true, false, cond}
 use mathlib.Core.Path.{◌≡◌, refl}
 use mathlib.Core.List.{List, [], ◌∷◌}
 use native.Mathlib.Omega.{arith}
 use lib.ListN.{length, drop}
-use lib.Dec.{eqb, ltb}
+use lib.Dec.{ltb}
 use borrow.Author.Tests.{eq-eqb, ne_eqb, lt-ltb, le-ltb}
 use Rattle.cut.specs.declared.service.Syntax.{Syntax}
 use Rattle.value.specs.Numeral.{some}
@@ -13,30 +13,43 @@ use Rattle.guide.specs.Page.{Row, Composite}
 use Rattle.guide.specs.workers.PageFault.{text_fault}
 use Rattle.guide.specs.Choices.{pickℕ}
 use Rattle.guide.specs.workers.Moods.{asking, idle, owing, is_must, opened, mood_after, mood_fault, end_fault, absent_fault}
-use Rattle.page.specs.workers.Walk.{inside, stand_of, stand_fault, stand_after, stand_end}
+use Rattle.page.specs.workers.Walk.{tag, inside, stand_fault, stand_after, stand_end}
 use Rattle.page.specs.workers.Words.{element_in, ElementWord, page_in, NodeWord}
 use Rattle.page.proofs.words.Spans.{must-reach, absent_reach}
 
 -- before the first component of the element that has the word w
-pub opening_asks : (w : ℕ) → w / 1048576 ≡ 1 → stand_of 1 ≡ inside (opened (element_in w))
+pub opening_asks : (w : ℕ) → w / 1048576 ≡ 1 → inside asking ≡ inside (opened (element_in w))
 unfolding opened element_in
 opening_asks w h = rw (eq-eqb _ _ h)
 
-pub opening_idle : (w : ℕ) → (w / 1048576 ≡ 1 → ⊥) → stand_of 0 ≡ inside (opened (element_in w))
+pub opening_idle : (w : ℕ) → (w / 1048576 ≡ 1 → ⊥) → inside idle ≡ inside (opened (element_in w))
 unfolding opened element_in
 opening_idle w h = rw (ne_eqb _ _ h)
 
--- what it lacks where it ends behind component c
-module _ (w c : ℕ) (k : Composite) (e : ElementWord w k) (m : ℕ) (q : m ≡ 1) where
-  ending_fault : (b : Bool) → ltb (c + 1) (w / 32768 % 32) ≡ b → pickℕ b 17 0 ≡ stand_end (stand_of m) (drop (c + 1) k.rows)
+-- what it lacks where it ends behind component c and asks for its components
+module _ (w c : ℕ) (k : Composite) (e : ElementWord w k) where
+  ending_fault : (b : Bool) → ltb (c + 1) (w / 32768 % 32) ≡ b → pickℕ b 17 0 ≡ stand_end (inside asking) (drop (c + 1) k.rows)
   unfolding stand_end end_fault
-  ending_fault b h = rw (q, must-reach k.rows (c + 1), ← e.reach, h)
+  ending_fault b h = rw (must-reach k.rows (c + 1), ← e.reach, h)
 
-  pub ending_must : c + 1 < w / 32768 % 32 → 17 ≡ stand_end (stand_of m) (drop (c + 1) k.rows)
+  pub ending_must : c + 1 < w / 32768 % 32 → 17 ≡ stand_end (inside asking) (drop (c + 1) k.rows)
   ending_must h = ending_fault true (lt-ltb _ _ h)
 
-  pub ending_may : w / 32768 % 32 ≤ c + 1 → 0 ≡ stand_end (stand_of m) (drop (c + 1) k.rows)
+  pub ending_may : w / 32768 % 32 ≤ c + 1 → 0 ≡ stand_end (inside asking) (drop (c + 1) k.rows)
   ending_may h = ending_fault false (le-ltb _ _ h)
+
+-- and where it does not
+pub ending_idle : (rs : List Row) → 0 ≡ stand_end (inside idle) rs
+unfolding stand_end end_fault
+ending_idle rs = refl
+
+pub ending_owing : (rs : List Row) → 0 ≡ stand_end (inside owing) rs
+unfolding stand_end end_fault
+ending_owing rs = refl
+
+pub ending_tag : (rs : List Row) → 0 ≡ stand_end tag rs
+unfolding stand_end
+ending_tag rs = refl
 
 -- what the page with the word w lacks behind element e
 module _ (w : ℕ) (n : NodeWord w (page_in w)) (e : ℕ) where
@@ -49,78 +62,68 @@ module _ (w : ℕ) (n : NodeWord w (page_in w)) (e : ℕ) where
   pub absent_none : w / 32768 ≤ e → 0 ≡ absent_fault (drop e (page_in w))
   absent_none h = absent-fault false (le-ltb _ _ h)
 
-pub ending_calm : (m : ℕ) (rs : List Row) → (m ≡ 1 → ⊥) → 0 ≡ stand_end (stand_of m) rs
-unfolding stand_end end_fault
-ending_calm zero rs h = refl
-ending_calm (suc zero) rs h = absurd (h refl)
-ending_calm (suc (suc zero)) rs h = refl
-ending_calm (suc (suc (suc m))) rs h = refl
-
+-- the fault at a component with the text t on the row r
 module _ (y : Syntax) (r : Row) (t : List ℕ) where
-  pub known_text : (m : ℕ) → m < 2 → text_fault y (eqb m 1) r t ≡ stand_fault y (stand_of m) r t
+  pub asking_text : text_fault y true r t ≡ stand_fault y (inside asking) r t
   unfolding stand_fault mood_fault
-  known_text zero h = refl
-  known_text (suc zero) h = refl
-  known_text (suc (suc m)) h = absurd (omega arith)
+  asking_text = refl
 
-  pub owing_empty : (m : ℕ) → 2 ≤ m → length t ≡ 0 → 0 ≡ stand_fault y (stand_of m) r t
+  pub idle_text : text_fault y false r t ≡ stand_fault y (inside idle) r t
+  unfolding stand_fault mood_fault
+  idle_text = refl
+
+  pub owing_empty : length t ≡ 0 → 0 ≡ stand_fault y (inside owing) r t
   unfolding stand_fault mood_fault some
-  owing_empty zero h l = absurd (omega arith)
-  owing_empty (suc zero) h l = absurd (omega arith)
-  owing_empty (suc (suc zero)) h l = go t l
+  owing_empty = go t
     where
       go : (u : List ℕ) → length u ≡ 0 → 0 ≡ pickℕ (some u) 17 0
       go [] l = refl
       go (x ∷ xs) l = absurd (omega arith)
-  owing_empty (suc (suc (suc m))) h l = refl
 
-  pub owing_filled : (m : ℕ) → m ≡ 2 → (length t ≡ 0 → ⊥) → 17 ≡ stand_fault y (stand_of m) r t
+  pub owing_filled : 0 < length t → 17 ≡ stand_fault y (inside owing) r t
   unfolding stand_fault mood_fault some
-  owing_filled m h l = rw h (go t l)
+  owing_filled = go t
     where
-      go : (u : List ℕ) → (length u ≡ 0 → ⊥) → 17 ≡ pickℕ (some u) 17 0
-      go [] l = absurd (l refl)
+      go : (u : List ℕ) → 0 < length u → 17 ≡ pickℕ (some u) 17 0
+      go [] l = absurd (omega arith)
       go (x ∷ xs) l = refl
 
-  pub tag_calm : (m : ℕ) → 2 ≤ m → (m ≡ 2 → ⊥) → 0 ≡ stand_fault y (stand_of m) r t
+  pub tag_calm : 0 ≡ stand_fault y tag r t
   unfolding stand_fault
-  tag_calm zero h n = absurd (omega arith)
-  tag_calm (suc zero) h n = absurd (omega arith)
-  tag_calm (suc (suc zero)) h n = absurd (n refl)
-  tag_calm (suc (suc (suc m))) h n = refl
+  tag_calm = refl
 
+-- where the pass stands behind it
 module _ (r : Row) (t : List ℕ) where
-  pub mood-kept : (m : ℕ) → 0 < m → stand_of m ≡ stand_after (stand_of m) r t
+  pub asking-kept : inside asking ≡ stand_after (inside asking) r t
   unfolding stand_after mood_after
-  mood-kept zero h = absurd (omega arith)
-  mood-kept (suc zero) h = refl
-  mood-kept (suc (suc zero)) h = refl
-  mood-kept (suc (suc (suc m))) h = refl
+  asking-kept = refl
 
-  module _ (m : ℕ) (z : m ≤ 0) where
-    idle_now : stand_of m ≡ inside idle
-    idle_now =
-        let q : m ≡ 0 = omega arith in
-        rw q
+  pub owing-kept : inside owing ≡ stand_after (inside owing) r t
+  unfolding stand_after mood_after
+  owing-kept = refl
 
-    pub mood-filled : 0 < length t → stand_of 1 ≡ stand_after (stand_of m) r t
-    unfolding stand_after mood_after some
-    mood-filled l = rw idle_now (go t l)
-      where
-        go : (u : List ℕ) → 0 < length u → inside asking ≡ stand_after (inside idle) r u
-        go [] l = absurd (omega arith)
-        go (x ∷ xs) l = refl
+  pub tag-kept : tag ≡ stand_after tag r t
+  unfolding stand_after
+  tag-kept = refl
 
-    mood-empty : (b : Bool) → is_must r ≡ b → length t ≤ 0 → inside (cond b owing idle) ≡ stand_after (stand_of m) r t
-    unfolding stand_after mood_after some
-    mood-empty b p l = rw idle_now (go t l)
-      where
-        go : (u : List ℕ) → length u ≤ 0 → inside (cond b owing idle) ≡ stand_after (inside idle) r u
-        go [] l = rw p
-        go (x ∷ xs) l = absurd (omega arith)
+  pub mood-filled : 0 < length t → inside asking ≡ stand_after (inside idle) r t
+  unfolding stand_after mood_after some
+  mood-filled = go t
+    where
+      go : (u : List ℕ) → 0 < length u → inside asking ≡ stand_after (inside idle) r u
+      go [] l = absurd (omega arith)
+      go (x ∷ xs) l = refl
 
-    pub mood_owing : length t ≤ 0 → is_must r ≡ true → stand_of 2 ≡ stand_after (stand_of m) r t
-    mood_owing l p = mood-empty true p l
+  mood-empty : (b : Bool) → is_must r ≡ b → length t ≤ 0 → inside (cond b owing idle) ≡ stand_after (inside idle) r t
+  unfolding stand_after mood_after some
+  mood-empty b p = go t
+    where
+      go : (u : List ℕ) → length u ≤ 0 → inside (cond b owing idle) ≡ stand_after (inside idle) r u
+      go [] l = rw p
+      go (x ∷ xs) l = absurd (omega arith)
 
-    pub mood_idle : length t ≤ 0 → is_must r ≡ false → stand_of 0 ≡ stand_after (stand_of m) r t
-    mood_idle l p = mood-empty false p l
+  pub mood_owing : length t ≤ 0 → is_must r ≡ true → inside owing ≡ stand_after (inside idle) r t
+  mood_owing l p = mood-empty true p l
+
+  pub mood_idle : length t ≤ 0 → is_must r ≡ false → inside idle ≡ stand_after (inside idle) r t
+  mood_idle l p = mood-empty false p l

@@ -14,43 +14,26 @@ use Rattle.guide.specs.Page.{Page}
 use Rattle.guide.specs.workers.PageFault.{page_fault}
 use Rattle.guide.specs.workers.Moods.{absent_fault}
 use Rattle.guide.proofs.PageFace.{empty_pass}
+use Rattle.std.specs.Prelude.{Result, Ok, Err}
 use Rattle.page.specs.Examined.{examined_by, examined_of}
 use Rattle.page.specs.workers.Words.{page_in, NodeWord}
-use Rattle.page.specs.declared.places.Examined.{Examined}
+use Rattle.page.specs.Reading.{empty_at}
 use Rattle.page.specs.declared.places.Places.{Places}
 
-module _ (f : ℕ) (p : Places) (start : ℕ) (r : Examined) where
-  pub told_fault
-      : (f ≡ 0 → ⊥) → (q : Places) → q ≡ record { first = record { start = start; end = start }; third = record { start = start; end = start } }
-      → r ≡ record { fault = f; first = q.first; third = q.third } → r ≡ examined_by f p.first p.third start
-  unfolding examined_by
-  told_fault h q n e = e ∙ rw n (go f h)
-    where
-      go
-          : (k : ℕ) → (k ≡ 0 → ⊥)
-          → record { fault = k; first = record { start = start; end = start }; third = record { start = start; end = start } }
-          ≡ examined_by k p.first p.third start
-      go zero h = absurd (h refl)
-      go (suc k) h = refl
-
-  pub told_right : f ≡ 0 → r ≡ record { fault = 0; first = p.first; third = p.third } → r ≡ examined_by f p.first p.third start
-  unfolding examined_by
-  told_right h e = e ∙ rw h
-
 -- that is what the page check says
-module _ (y : Syntax) (page : Page) (d : List ℕ) (start end : ℕ) (f : ℕ) (g : f ≡ page_fault y page (part start end d)) (p : Places) (r : Examined)
-    (e : r ≡ examined_by f p.first p.third start) where
-  pub result_told : 0 < f → r ≡ examined_of y page d start end
+module _ (y : Syntax) (page : Page) (d : List ℕ) (start end f : ℕ) (g : f ≡ page_fault y page (part start end d)) where
+  pub result_told : 0 < f → Err f ≡ examined_of y page d start end
   unfolding examined_of examined_by
-  result_told h = e ∙ rw (← g) (go f h)
+  result_told h = rw (← g) (go f h)
     where
-      go : (k : ℕ) → 0 < k → examined_by k p.first p.third start ≡ examined_by k (component_at y d start end 1 0) (component_at y d start end 3 0) start
+      go : (k : ℕ) → 0 < k → Err k ≡ examined_by k (component_at y d start end 1 0) (component_at y d start end 3 0)
       go zero h = absurd (omega arith)
       go (suc k) h = refl
 
-  pub result_done : (p.first ≡ component_at y d start end 1 0) × (p.third ≡ component_at y d start end 3 0) → r ≡ examined_of y page d start end
-  unfolding examined_of
-  result_done q = e ∙ rw (← g, ← q.0, ← q.1)
+  pub result_done
+      : f ≡ 0 → (p : Places) → (p.first ≡ component_at y d start end 1 0) × (p.third ≡ component_at y d start end 3 0) → Ok p ≡ examined_of y page d start end
+  unfolding examined_of examined_by
+  result_done h p q = rw (← g, h, ← q.0, ← q.1)
 
 -- the page of a node has the node's word, and an end past the delivery counts as the delivery's end
 module _ (w : ℕ) (page : Page) (n : NodeWord w page) where
@@ -67,24 +50,17 @@ module _ (w : ℕ) (page : Page) (n : NodeWord w page) where
       unfolding component_at components elements in_elements span_in
       nothing-at t = rw bare
 
-      pub examined_none
-          : (f : ℕ) → f ≡ absent_fault (drop 0 (page_in w)) → (p : Places) → p
-          ≡ record { first = record { start = start; end = start }; third = record { start = start; end = start } }
-          → (r : Examined) → r ≡ examined_by f p.first p.third start → r ≡ examined_of y page d start end
-      examined_none f a p q r e =
-          result_done y page d start end f (a ∙ rw n.page (empty_pass y page (part start end d) bare)) p r e
-          (ap (λ (s : Places). s.first) q ∙ nothing-at 1, ap (λ (s : Places). s.third) q ∙ nothing-at 3)
+      module _ (f : ℕ) (a : f ≡ absent_fault (drop 0 (page_in w))) where
+        bare_fault : f ≡ page_fault y page (part start end d)
+        bare_fault = a ∙ rw n.page (empty_pass y page (part start end d) bare)
 
-    pub examined_some : (r : Examined) → r ≡ examined_of y (page_in w) d start limit → r ≡ examined_of y page d start end
+        pub examined_absent : 0 < f → Err f ≡ examined_of y page d start end
+        examined_absent = result_told y page d start end f bare_fault
+
+        pub examined_none : f ≡ 0 → (p : Places) → p ≡ record { first = empty_at start; third = empty_at start } → Ok p ≡ examined_of y page d start end
+        examined_none z p q =
+            result_done y page d start end f bare_fault z p (ap (λ (s : Places). s.first) q ∙ nothing-at 1, ap (λ (s : Places). s.third) q ∙ nothing-at 3)
+
+    pub examined_some : (r : Result Places ℕ) → r ≡ examined_of y (page_in w) d start limit → r ≡ examined_of y page d start end
     unfolding examined_of component_at
     examined_some r p = p ∙ rw (n.page, limited d start end limit h)
-
--- the fault in what it says
-module _ (y : Syntax) (page : Page) (d : List ℕ) (start end : ℕ) where
-  pub result_fault : (examined_of y page d start end).fault ≡ page_fault y page (part start end d)
-  unfolding examined_of examined_by
-  result_fault = go (page_fault y page (part start end d))
-    where
-      go : (k : ℕ) → (examined_by k (component_at y d start end 1 0) (component_at y d start end 3 0) start).fault ≡ k
-      go zero = refl
-      go (suc k) = refl

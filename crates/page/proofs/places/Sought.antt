@@ -16,9 +16,11 @@ use Rattle.element.specs.Cursors.{rest_from}
 use Rattle.element.specs.declared.components.Span.{Span}
 use Rattle.element.proofs.ComponentFace.{from, Ended, components-some, rest-last, rest-element, rest-component}
 use Rattle.page.specs.workers.Places.{first_of, places_on}
-use Rattle.page.specs.workers.Walk.{stop_of}
+use Rattle.element.specs.Elements.{ending_at}
+use Rattle.element.specs.declared.endings.Ending.{Ending}
+use Rattle.element.specs.declared.endings.Ending.TheVariants as ends
 use Rattle.page.specs.declared.places.Places.{Places}
-use Rattle.page.proofs.pages.Stops.{stop-further, stop-none, stop_enters, stop-done}
+use Rattle.page.proofs.pages.Stops.{element-not_component, segment-not_component, stop-further, stop-none, stop_enters, stop-done}
 
 -- ---- one component
 
@@ -120,8 +122,8 @@ module _ (t : ℕ) where
         ∙ sought_once start 0 start (elements y (part start limit d))
 
     -- behind component c of element e
-    module _ (z : Span) (ans : Span) (a limit e c stop : ℕ) (q : sought z (rest_from e c a (from y d a limit)) ≡ ans) (n : Ended y d a limit stop) (k : ℕ)
-        (s : k ≡ stop_of y d stop limit)
+    module _ (z : Span) (ans : Span) (a limit e c stop : ℕ) (q : sought z (rest_from e c a (from y d a limit)) ≡ ans) (n : Ended y d a limit stop)
+        (fits : limit ≤ length d) (k : Ending) (s : k ≡ ending_at y d stop limit)
         (z' : Span) (f : z' ≡ first_of t e c (record { start = a; end = stop }) z) where
       stepped
           : (ks : List Component) → rest_from e c a (from y d a limit)
@@ -133,23 +135,23 @@ module _ (t : ℕ) where
       place = omega (arith, n.ends)
 
       module _ (on : ℕ) (o : on ≡ stop + 1) where
-        pub sought_further : k ≡ 2 → sought z' (rest_from e (c + 1) on (from y d on limit)) ≡ ans
+        pub sought_further : k ≡ ends.Component → sought z' (rest_from e (c + 1) on (from y d on limit)) ≡ ans
         sought_further i =
-            let m = stop-further y d a limit stop n k s i in
+            let m = stop-further y d a limit stop n fits k s i in
             rw o (stepped _ (rw place at (rest-component e c a (from y d a limit) (from y d (stop + 1) limit) m.0 m.1)))
 
-        pub sought_enter : (k ≡ 0 → ⊥) → (k ≡ 2 → ⊥) → sought z' (rest_from (e + 1) 0 on (from y d on limit)) ≡ ans
-        sought_enter i j =
+        pub sought_enter : k ≡ ends.Element → sought z' (rest_from (e + 1) 0 on (from y d on limit)) ≡ ans
+        sought_enter i =
             rw o
             (stepped _
-            (rw place at (rest-element e c a (from y d a limit) (from y d (stop + 1) limit) (stop-none y d a limit stop n k s j)
-            (stop_enters y d a limit stop n k s i j))))
+            (rw place at (rest-element e c a (from y d a limit) (from y d (stop + 1) limit) (stop-none y d a limit stop n fits k s (element-not_component k i))
+            (stop_enters y d a limit stop n fits k s i))))
 
-      pub sought_done : k ≡ 0 → (k ≡ 2 → ⊥) → z' ≡ ans
+      pub sought_done : k ≡ ends.Segment → z' ≡ ans
       unfolding sought
-      sought_done i j =
+      sought_done i =
           stepped [] (rest-last e c a (from y d a limit)
-          (record { components = stop-none y d a limit stop n k s j; elements = stop-done y d a limit stop n k s i }))
+          (record { components = stop-none y d a limit stop n fits k s (segment-not_component k i); elements = stop-done y d a limit stop n fits k s i }))
 
 -- ---- both places
 
@@ -165,7 +167,8 @@ module _ (y : Syntax) (d : List ℕ) (start limit : ℕ) where
       → (a : ℕ) → a ≡ start → Gathered y d start limit p a 0 0
   gather_begins h fits p e a g = rw (e, g) (record { first = sought_begins 1 y d start limit h fits; third = sought_begins 3 y d start limit h fits })
 
-  module _ (p : Places) (a e c : ℕ) (q : Gathered y d start limit p a e c) (stop : ℕ) (n : Ended y d a limit stop) (k : ℕ) (s : k ≡ stop_of y d stop limit)
+  module _ (p : Places) (a e c : ℕ) (q : Gathered y d start limit p a e c) (stop : ℕ) (n : Ended y d a limit stop)
+      (fits : limit ≤ length d) (k : Ending) (s : k ≡ ending_at y d stop limit)
       (p' : Places) (f : p' ≡ places_on e c (record { start = a; end = stop }) p) where
     now-first : p'.first ≡ first_of 1 e c (record { start = a; end = stop }) p.first
     unfolding places_on
@@ -176,18 +179,18 @@ module _ (y : Syntax) (d : List ℕ) (start limit : ℕ) where
     now-third = ap (λ (r : Places). r.third) f
 
     module _ (on : ℕ) (o : on ≡ stop + 1) where
-      pub gather_further : k ≡ 2 → Gathered y d start limit p' on e (c + 1)
+      pub gather_further : k ≡ ends.Component → Gathered y d start limit p' on e (c + 1)
       gather_further i = record {
-        first = sought_further 1 y d _ _ a limit e c stop q.first n k s _ now-first on o i;
-        third = sought_further 3 y d _ _ a limit e c stop q.third n k s _ now-third on o i;
+        first = sought_further 1 y d _ _ a limit e c stop q.first n fits k s _ now-first on o i;
+        third = sought_further 3 y d _ _ a limit e c stop q.third n fits k s _ now-third on o i;
       }
 
-      pub gather_enter : (k ≡ 0 → ⊥) → (k ≡ 2 → ⊥) → Gathered y d start limit p' on (e + 1) 0
-      gather_enter i j = record {
-        first = sought_enter 1 y d _ _ a limit e c stop q.first n k s _ now-first on o i j;
-        third = sought_enter 3 y d _ _ a limit e c stop q.third n k s _ now-third on o i j;
+      pub gather_enter : k ≡ ends.Element → Gathered y d start limit p' on (e + 1) 0
+      gather_enter i = record {
+        first = sought_enter 1 y d _ _ a limit e c stop q.first n fits k s _ now-first on o i;
+        third = sought_enter 3 y d _ _ a limit e c stop q.third n fits k s _ now-third on o i;
       }
 
-    pub gather_done : k ≡ 0 → (k ≡ 2 → ⊥) → (p'.first ≡ component_at y d start limit 1 0) × (p'.third ≡ component_at y d start limit 3 0)
-    gather_done i j =
-        (sought_done 1 y d _ _ a limit e c stop q.first n k s _ now-first i j, sought_done 3 y d _ _ a limit e c stop q.third n k s _ now-third i j)
+    pub gather_done : k ≡ ends.Segment → (p'.first ≡ component_at y d start limit 1 0) × (p'.third ≡ component_at y d start limit 3 0)
+    gather_done i =
+        (sought_done 1 y d _ _ a limit e c stop q.first n fits k s _ now-first i, sought_done 3 y d _ _ a limit e c stop q.third n fits k s _ now-third i)

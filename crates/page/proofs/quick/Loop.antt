@@ -9,30 +9,29 @@ use native.Mathlib.Omega.{arith}
 use lib.ListN.{length, get_or}
 use borrow.Author.Tests.{eqb-false}
 use Rattle.bytewise.specs.Bytes.{part}
-use Rattle.cut.specs.Calls.{cut_at}
+use Rattle.cut.specs.Calls.{cut_at, some_cut}
 use Rattle.cut.specs.workers.Carrying.{Carries}
-use Rattle.cut.specs.declared.scan.Cut.TheVariants as cut
 use Rattle.cut.specs.declared.service.Syntax.{Syntax}
 use Rattle.cut.proofs.Carrying.{carries_on, carries_plain, ended_here}
 use Rattle.clean.specs.Clean.{allowed_bytes}
 use Rattle.plain.specs.Plain.{decoded}
 use Rattle.element.specs.Services.{is_service, is_mark}
-use Rattle.element.proofs.ComponentFace.{Ended, extent_ended, extent-length}
+use Rattle.element.proofs.ComponentFace.{Ended, extent_ended, extent-length, at-segment, at-element, at-component}
 use Rattle.element.proofs.Cuts.{elements_cut, component-at_cut}
 use Rattle.guide.specs.Page.{Page}
 use Rattle.guide.specs.workers.PageFault.{text_fault, page_fault}
 use Rattle.page.specs.workers.Cells.{Spot, spot_of, states, cell_of, FirstCell, steps_of, may_end, next_of, row_of_cell, keep_of}
-use Rattle.page.specs.workers.Marks.{MarkScanned, CleanAhead}
+use Rattle.element.specs.workers.Scans.{Tested, fresh}
+use Rattle.page.specs.workers.Marks.{CleanAhead}
 use Rattle.page.specs.workers.Words.{free_row}
 use Rattle.page.specs.workers.Quick.{Begun, FaultlessAt}
 use Rattle.page.specs.declared.places.Places.{Places}
-use Rattle.page.specs.declared.quick.Faultless.{Faultless}
-use Rattle.page.specs.declared.scan.Ahead.{Ahead}
-use Rattle.page.specs.declared.scan.Scan.{Scan}
+use Rattle.page.specs.declared.reads.Reading.{Reading}
+use Rattle.page.specs.declared.marks.Ahead.{Ahead}
+use Rattle.element.specs.declared.ahead.Scan.{Scan}
 use Rattle.page.proofs.cells.Fields.{next-by}
 use Rattle.page.proofs.CellTests.{behind_of, cell_fits, cell_further, cell_behind, cell_end}
-use Rattle.page.proofs.scan.Flags.{scan_begins}
-use Rattle.page.proofs.pages.Stops.{stop-segment, stop-element, stop-component}
+use Rattle.page.proofs.marks.Flags.{scan_begins}
 use Rattle.page.proofs.quick.Start.{
   plain-allowed,
   allowed-parts,
@@ -56,16 +55,16 @@ module _ (y : Syntax) (d : List ℕ) (start : ℕ) where
     pub beyond : start + 4 ≤ at
     pub carried : Carries y d start at
     pub allowed : allowed_bytes (part start at d) ≡ true
-    pub scanned : MarkScanned d at next left
+    pub scanned : Tested is_mark d (length d) at next left
 
   -- against each page that the first state is of, the pass stands before the spot of the state s
   abbrev pub OnPages : ℕ → Places → ℕ → ℕ → Type 0
   OnPages state p a s = (page : Page) → FirstCell state page → (s < states) × ((s ≡ 0 → ⊥) → Stood y page d start p a (spot_of s))
 
   module _ (b : Begun y d start) where
-    pub walk_begins : (s : Scan) → s ≡ record { at = start + 4; next = start + 4; left = 0 } → Walked s.at s.next s.left
+    pub walk_begins : (s : Scan) → s ≡ fresh (start + 4) → Walked s.at s.next s.left
     walk_begins s e =
-        let m = scan_begins is_mark d (length d) (start + 4) (omega (arith, begun-room y d start b)) s e in
+        let m = scan_begins is_mark d (start + 4) (omega (arith, begun-room y d start b)) s e in
         let a : s.at ≡ start + 4 = ap (λ (k : Scan). k.at) e in
         record {
           inside = omega (arith, begun-room y d start b);
@@ -158,7 +157,7 @@ module _ (y : Syntax) (d : List ℕ) (start : ℕ) where
                 λ h. subst (λ (i : Spot). Stood y page d start p' r.scan.at i) (sym q.4)
                     (stood_behind y page d start p a (spot_of s) (g.1 q.0) (row_of_cell (cell_of s)) (cell_fits s low q.0) r.end here_ended
                     r.length here-counted right-here q.1 p' kept_here q.2
-                    r.scan.at k.onward (stop-element y d r.end (length d) k.inside (λ i. n (xe ∙ i)) (sym xe ∙ w.0)) l),
+                    r.scan.at k.onward (sym (at-element y d r.end (length d) k.inside (le_refl (length d)) (λ i. n (xe ∙ i)) (sym xe ∙ w.0))) l),
               ))
               (λ w.
               let q = cell_further s low r.length s' w.2 z in (
@@ -166,14 +165,14 @@ module _ (y : Syntax) (d : List ℕ) (start : ℕ) where
                 λ h. subst (λ (i : Spot). Stood y page d start p' r.scan.at i) (sym q.3)
                     (stood_further y page d start p a (spot_of s) (g.1 q.0) (row_of_cell (cell_of s)) (cell_fits s low q.0) r.end here_ended
                     r.length here-counted right-here q.1 p' kept_here
-                    r.scan.at k.onward (stop-component y d r.end (length d) k.inside (λ i. n (xe ∙ i)) (λ i. w.0 (xe ∙ i)))),
+                    r.scan.at k.onward (sym (at-component y d r.end (length d) k.inside (le_refl (length d)) (λ i. n (xe ∙ i)) (λ i. w.0 (xe ∙ i))))),
               ))
               (next-by y x (steps_of (cell_of s) r.length) s' e z)
 
           -- at the segment's end
-          module _ (tm : x ≡ y.terminator) (may : may_end (cell_of s) r.length ≡ true) (res : Faultless)
-              (rs : res ≡ record { end = r.end + 1; places = p' }) where
-            cut_here : cut_at y d start ≡ cut.Segment start (r.end + 1) false
+          module _ (tm : x ≡ y.terminator) (may : may_end (cell_of s) r.length ≡ true) (res : Reading)
+              (rs : res ≡ record { first = p'.first; third = p'.third; end = r.end + 1 }) where
+            cut_here : cut_at y d start ≡ some_cut start (r.end + 1) false
             cut_here = carried (r.end + 1) (ended_here y d r.end k.inside (sym xe ∙ tm))
 
             pub faultless_here : (page : Page) → FirstCell state page → FaultlessAt y page d start res
@@ -184,7 +183,7 @@ module _ (y : Syntax) (d : List ℕ) (start : ℕ) where
                 let q = cell_end s low r.length may in
                 let st = stood_done y page d start p a (spot_of s) (g.1 q.0) (row_of_cell (cell_of s)) (cell_fits s low q.0) r.end here_ended
                 r.length here-counted right-here q.1 p' kept_here q.2
-                (stop-segment y d r.end (length d) k.inside (sym xe ∙ tm)) q.3 in
+                (sym (at-segment y d r.end (length d) k.inside (le_refl (length d)) (sym xe ∙ tm))) q.3 in
                 let h = here-onward in
                 let v = plain_terminator y b.services in
                 let lo = v.0 in

@@ -17,21 +17,23 @@ use Rattle.clean.specs.Clean.{between, allowed_byte, allowed_bytes, capital, end
 use Rattle.element.specs.Elements.{ending_of, stays}
 use Rattle.plain.specs.Plain.{decoded}
 use Rattle.element.specs.Services.{is_service, Service, usual_services}
-use Rattle.element.proofs.ComponentFace.{Ended, extent_ended, extent-stop, tag-short, tag_four}
+use Rattle.element.proofs.ComponentFace.{Ended, extent_ended, extent-stop, at-element}
+use Rattle.page.proofs.quick.FourBytes.{tag-short, tag_four}
 use Rattle.element.proofs.UsualServices.{usual_are}
 use Rattle.guide.specs.Page.{Page}
 use Rattle.page.specs.workers.Cells.{Spot, spot}
-use Rattle.page.specs.workers.Walk.{stop_of}
+use Rattle.page.specs.workers.Walk.{tag, stand_of}
+use Rattle.element.specs.Elements.{ending_at}
+use Rattle.element.specs.declared.endings.Ending.TheVariants as ends
 use Rattle.page.specs.workers.Words.{row_in, NodeWord}
 use Rattle.page.specs.workers.Quick.{Begun}
 use Rattle.page.specs.declared.places.Places.{Places}
 use Rattle.page.proofs.CellTests.{word_at, word_of, opening_of}
 use Rattle.page.proofs.cells.Rows.{word-here, opening-is}
 use Rattle.page.proofs.rows.Lookup.{row-past}
-use Rattle.page.proofs.pages.Moods.{ending_calm, mood-kept, tag_calm}
+use Rattle.page.proofs.pages.Moods.{ending_tag, tag_calm, tag-kept}
 use Rattle.page.proofs.places.Sought.{gather_begins, gather_enter, places_other}
 use Rattle.page.proofs.pages.Steps.{Before, Behind, pass_begins, pass_on, pass_enter}
-use Rattle.page.proofs.pages.Stops.{stop-element}
 use Rattle.page.proofs.quick.Onward.{full_fault, Stood}
 
 pub two : (a b : Bool) → a && b ≡ true → (a ≡ true) × (b ≡ true)
@@ -213,18 +215,18 @@ module _ (y : Syntax) (d : List ℕ) (start : ℕ) (b : Begun y d start) where
     abbrev full : ℕ
     full = full_fault y page d start
 
-    tag-before : Before y page d (length d) full start 0 0 0 3
+    tag-before : Before y page d (length d) full start 0 0 0 tag
     tag-before = pass_begins y page d (length d) start (omega (arith, begun-room)) (le_refl (length d)) start refl
 
-    tag-behind : Behind y page d (length d) full start 0 0 3
+    tag-behind : Behind y page d (length d) full start 0 0 tag
     tag-behind =
-        pass_on y page d (length d) full start 0 0 0 3 tag-before (start + 3) tag_ended 0 (row-past 0 0 (omega arith)) 0
-        (tag_calm y (row_in 0) (decoded y start (start + 3) d) 3 (omega arith) (λ z. omega (arith, z))) (omega arith)
-        (length (decoded y start (start + 3) d)) 3 refl
-        (λ t e. mood-kept (row_in 0) t 3 (omega arith))
+        pass_on y page d (length d) full start 0 0 0 tag tag-before (start + 3) tag_ended 0 (row-past 0 0 (omega arith)) 0
+        (tag_calm y (row_in 0) (decoded y start (start + 3) d)) (omega arith)
+        (length (decoded y start (start + 3) d)) tag refl
+        (λ t e. tag-kept (row_in 0) t)
 
-    tag-stop : 1 ≡ stop_of y d (start + 3) (length d)
-    tag-stop = stop-element y d (start + 3) (length d) begun-room b.inner separator
+    tag-stop : ends.Element ≡ ending_at y d (start + 3) (length d)
+    tag-stop = sym (at-element y d (start + 3) (length d) begun-room (le_refl (length d)) b.inner separator)
 
     behind_tag : a ≡ start + 3 + 1
     behind_tag = omega (arith, o)
@@ -234,14 +236,14 @@ module _ (y : Syntax) (d : List ℕ) (start : ℕ) (b : Begun y d start) where
     stood_begins = record {
       node = n;
       before =
-          pass_enter y page d (length d) full start 0 0 0 3 tag-before (start + 3) tag_ended 3 tag-behind 1 tag-stop a behind_tag (λ i. omega (arith, i)) 0
-          (λ k e. ending_calm 3 (drop 1 k.rows) (λ z. omega (arith, z))) (omega arith) (λ i. omega (arith, i)) (word_at w 0) (opening_of (word_at w 0))
+          pass_enter y page d (length d) full start 0 0 0 tag tag-before (start + 3) tag_ended tag tag-behind (le_refl
+          (length d)) ends.Element tag-stop a behind_tag (λ i. cc) 0
+          (λ k e. ending_tag (drop 1 k.rows)) (omega arith) refl (word_at w 0) (stand_of (opening_of (word_at w 0)))
           (word-here w 0 page n l) (opening-is (word_at w 0));
       gathered =
           gather_enter y d start (length d) p start 0 0 (gather_begins y d start (length d) (omega (arith, begun-room)) (le_refl (length d)) p g start refl)
-          (start + 3) tag_ended 1 tag-stop
-          p (places_other 0 0 (record { start = start; end = start + 3 }) p refl (λ z. omega (arith, z)) (λ z. omega (arith, z))) a behind_tag
-          (λ i. omega (arith, i)) (λ i. omega (arith, i));
+          (start + 3) tag_ended (le_refl (length d)) ends.Element tag-stop
+          p (places_other 0 0 (record { start = start; end = start + 3 }) p refl (λ z. omega (arith, z)) (λ z. omega (arith, z))) a behind_tag refl;
     }
 
 -- the spot before the first component behind the tag

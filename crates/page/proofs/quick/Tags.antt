@@ -12,7 +12,7 @@ use Rattle.cut.specs.declared.service.Syntax.{Syntax}
 use Rattle.bytewise.proofs.Bytewise.{eight_long}
 use Rattle.clean.specs.Clean.{capital, ends_tag}
 use Rattle.element.specs.Services.{usual_services}
-use Rattle.element.proofs.ComponentFace.{tag_four}
+use Rattle.page.proofs.quick.FourBytes.{tag_four}
 use Rattle.element.proofs.UsualServices.{usual_are}
 use Rattle.page.specs.workers.Cells.{is_tag_word}
 use Rattle.page.specs.workers.Quick.{Begun}

@@ -1,18 +1,25 @@
 -- What the workers of the page check promise each other; no public call cites these.
-use Rattle.std.specs.Prelude.{ℕ, zero, suc, ◌+◌, false, ◌≡◌, List, length, get_or, drop, leb}
+use Rattle.std.specs.Prelude.{ℕ, zero, suc, ◌+◌, ◌≡◌, List, length, drop}
 use Rattle.cut.specs.declared.service.Syntax.{Syntax}
-use Rattle.element.specs.Elements.{Ending, ends-segment, ends-element, ends-component, ends-nothing, ending_of}
 use Rattle.guide.specs.Page.{Row, Composite}
-use Rattle.guide.specs.Choices.{pickℕ}
 use Rattle.guide.specs.workers.Moods.{Mood, asking, idle, owing, mood_after, mood_fault, end_fault}
 use Rattle.page.specs.workers.Words.{ElementWord}
+use Rattle.page.specs.declared.pages.Mood.{Mood as Feeling}
+use Rattle.page.specs.declared.pages.Mood.TheVariants.{Asking, Idle, Owing, Tag}
 
 -- where the pass stands: in the tag, of which nothing is asked, or in an element, with its mood
 pub data Stand : Type 0 where
   tag : Stand
   inside : Mood → Stand
 
--- 0 idle, 1 asking, 2 owing, else the tag
+-- by the code's mood
+abbrev pub stand_in : Feeling → Stand
+stand_in Asking = inside asking
+stand_in Idle = inside idle
+stand_in Owing = inside owing
+stand_in Tag = tag
+
+-- by a spot's: 0 idle, 1 asking, 2 owing, else the tag
 abbrev pub stand_of : ℕ → Stand
 stand_of zero = inside idle
 stand_of (suc zero) = inside asking
@@ -34,21 +41,10 @@ unfoldable pub stand_end : Stand → List Row → ℕ
 stand_end tag rs = 0
 stand_end (inside m) rs = end_fault m rs
 
--- the number of where the pass stands after a component of n bytes on the row r
-abbrev pub MoodAfter : ℕ → ℕ → Row → ℕ → Type 0
-MoodAfter n m r m' = (t : List ℕ) → n ≡ length t → stand_of m' ≡ stand_after (stand_of m) r t
+-- where the pass stands after a component of n bytes on the row r
+abbrev pub MoodAfter : ℕ → Stand → Row → Stand → Type 0
+MoodAfter n s r s' = (t : List ℕ) → n ≡ length t → s' ≡ stand_after s r t
 
 -- the fault that is known where the element that has the word w ends behind component c
-abbrev pub EndFault : ℕ → ℕ → ℕ → ℕ → Type 0
-EndFault w c m fault = (k : Composite) → ElementWord w k → fault ≡ stand_end (stand_of m) (drop (c + 1) k.rows)
-
--- what ends where a component does: 0 the segment, 1 the element, 2 the component alone
-abbrev pub stop_by : Ending → ℕ
-stop_by ends-segment = 0
-stop_by ends-element = 1
-stop_by ends-component = 2
-stop_by ends-nothing = 2
-
--- the same for a component that ends at the place n of a part up to e
-unfoldable pub stop_of : Syntax → List ℕ → ℕ → ℕ → ℕ
-stop_of y d n e = pickℕ (leb e n) 0 (stop_by (ending_of y false (get_or d n 0)))
+abbrev pub EndFault : ℕ → ℕ → Stand → ℕ → Type 0
+EndFault w c s fault = (k : Composite) → ElementWord w k → fault ≡ stand_end s (drop (c + 1) k.rows)

@@ -1,12 +1,12 @@
 -- The answers for a part of the delivery, from those for all that follows its start.
 use Prim.Native.Nat.{ℕ, zero, suc, ◌+◌, ◌-◌, ◌≤◌, ◌<◌, min}
-use mathlib.Core.Path.{◌≡◌, sym, ap, subst, ◌∙◌}
+use mathlib.Core.Path.{◌≡◌, refl, sym, ap, subst, ◌∙◌}
 use mathlib.Core.Bool.{Bool, true, false, cond}
 use mathlib.Core.List.{List, [], ◌∷◌}
+use native.Mathlib.Nat.{sub-zero}
 use native.Mathlib.Omega.{arith}
 use lib.ListN.{length, take, drop, drop_of_length-le}
 use lib.Seq.{take-nil, drop-nil}
-use lib.IntN.{ℤ}
 use lib.Dec.{ltb}
 use borrow.Author.Tests.{lt-ltb, le-ltb}
 use Rattle.cut.specs.declared.service.Syntax.{Syntax}
@@ -16,13 +16,11 @@ use Rattle.cut.proofs.Skips.{segments_of_none}
 use Rattle.bytewise.proofs.Parts.{part-part, length_part}
 use Rattle.element.specs.Components.{component_at, span_in}
 use Rattle.element.specs.declared.components.Span.{Span}
-use Rattle.bytewise.proofs.Limits.{part_out, part-front}
+use Rattle.bytewise.proofs.Limits.{limited, part-front}
 use Rattle.guide.specs.Accepted.{Each}
-use Rattle.price.specs.declared.spots.Held.{Held}
-use Rattle.price.specs.declared.filling.Filled.{Filled}
 use Rattle.price.specs.Numbers.{Listed, article_in}
 use Rattle.price.specs.Listing.{prices_from, prices_of}
-use Rattle.price.specs.Calls.{prices_in, filled_of, row_after, first_article, article_at}
+use Rattle.price.specs.Calls.{prices_in, first_article, article_at}
 use Rattle.price.specs.workers.Parts.{HeldFirst, HeldAt}
 use Rattle.price.proofs.numbers.Answers.{component-bounds}
 use Rattle.price.proofs.inside.Lies.{PriceLies, prices_in_lie, article_lies}
@@ -34,50 +32,50 @@ each_drop P (suc k) [] e = tt
 each_drop P (suc k) (q ∷ qs) e = each_drop P k qs e.1
 
 -- the bytes before a place
-abbrev front : List ℕ → ℕ → List ℕ
+abbrev pub front : List ℕ → ℕ → List ℕ
 front d end = take (end - 0) (drop 0 d)
 
-module _ (y : Syntax) (d : List ℕ) (start end : ℕ) where
-  all-in : length d ≤ end → prices_of start (segments_at y d start) ≡ prices_in y d start end
-  unfolding prices_in
-  all-in h = rw (part_out d start end h)
+-- as `&d[..end]` has them
+pub front-is : (d : List ℕ) (end : ℕ) → take end d ≡ front d end
+front-is d end = rw (sub-zero end)
 
+module _ (y : Syntax) (d : List ℕ) (start end : ℕ) where
   pub front_in : end ≤ length d → prices_of start (segments_at y (front d end) start) ≡ prices_in y d start end
   unfolding prices_in
   front_in h = rw (part-front d start end h)
 
   module _ (k : ℕ) where
-    -- the row and the answer for these prices
-    module _ (row row' : List ℤ) (r : Filled) where
-      abbrev Fills : List Listed → Type 0
-      Fills qs = (r ≡ filled_of y start k qs row) × (row' ≡ row_after y start k qs row)
-
-      pub fills_all : length d ≤ end → Fills (prices_of start (segments_at y d start)) → Fills (prices_in y d start end)
-      fills_all h f = subst Fills (all-in h) f
-
-      pub fills_front : end ≤ length d → Fills (prices_of start (segments_at y (front d end) start)) → Fills (prices_in y d start end)
-      fills_front h f = subst Fills (front_in h) f
-
-    -- the position of the first of these prices
-    module _ (p : Held) where
-      pub held_all : length d ≤ end → HeldAt start d k (prices_of start (segments_at y d start)) p → HeldAt start d k (prices_in y d start end) p
-      held_all h f = subst (λ (qs : List Listed). HeldAt start d k qs p) (all-in h) f
-
-      held-by : end ≤ length d → (qs : List Listed) → HeldFirst start (front d end) qs p → HeldFirst start d qs p
+    -- the LIN of the first of these prices
+    module _ (p : Span) (m : ℕ) (is : m ≡ min end (length d)) where
+      held-by : (qs : List Listed) → HeldFirst start (front d m) qs p → HeldFirst start d qs p
       unfolding HeldFirst part
-      held-by h [] f = f
-      held-by h (q ∷ qs) f =
-          let l : length (front d end) ≡ end - 0 = length_part d 0 end h in
-          let k : p.end ≤ end - 0 = omega (arith, f.1) in
+      held-by [] f = f
+      held-by (q ∷ qs) f =
+          let l : length (front d m) ≡ m - 0 = length_part d 0 m (omega arith) in
+          let k : p.end ≤ m - 0 = omega (arith, f.1) in
           let z : 0 + p.start ≡ p.start = omega arith in
           let w : 0 + p.end ≡ p.end = omega arith in
-          (record { starts = f.0.starts; bytes = f.0.bytes ∙ part-part d 0 end p.start p.end k ∙ rw (z, w) }, omega (arith, f.1))
+          (record { starts = f.0.starts; bytes = f.0.bytes ∙ part-part d 0 m p.start p.end k ∙ rw (z, w) }, omega (arith, f.1))
 
-      pub held-front
-          : end ≤ length d → HeldAt start (front d end) k (prices_of start (segments_at y (front d end) start)) p
-          → HeldAt start d k (prices_in y d start end) p
+      limit-in : prices_of start (segments_at y (front d m) start) ≡ prices_in y d start end
+      unfolding prices_in
+      limit-in = rw (part-front d start m (omega arith), limited d start end m is)
+
+      held-front : HeldAt start (take m d) k (prices_of start (segments_at y (take m d) start)) p → HeldAt start d k (prices_in y d start end) p
       unfolding HeldAt
-      held-front h f = held-by h (drop k (prices_in y d start end)) (subst (λ (qs : List Listed). HeldAt start (front d end) k qs p) (front_in h) f)
+      held-front f =
+          let g : HeldAt start (front d m) k (prices_of start (segments_at y (front d m) start)) p =
+          subst (λ (b : List ℕ). HeldAt start b k (prices_of start (segments_at y b start)) p) (front-is d m) f in
+          held-by (drop k (prices_in y d start end)) (subst (λ (qs : List Listed). HeldAt start (front d m) k qs p) limit-in g)
+
+    pub held-until
+        : (p : Span) (x : Syntax) (b : List ℕ) → x ≡ y → b ≡ part 0 end d
+        → HeldAt start b k (prices_of start (segments_at x b start)) p → HeldAt start d k (prices_in y d start end) p
+    unfolding part
+    held-until p x b same whole f =
+        let m = min end (length d) in
+        let cut : b ≡ take m d = whole ∙ sym (limited d 0 end m refl) ∙ sym (front-is d m) in
+        held-front p m refl (rw (← same, ← cut) f)
 
     abbrev empty : ℕ → Span
     empty m = record { start = m; end = m }
@@ -91,7 +89,7 @@ module _ (y : Syntax) (d : List ℕ) (start end : ℕ) where
         let m : min start (length d) ≡ length d = omega arith in
         rw (n, take-nil (end - start), segments_of_none y start, drop-nil k, m)
 
-    module _ (p : Held) (s : Span) (inside : start ≤ length d) (held : HeldAt start d k (prices_in y d start end) p)
+    module _ (p : Span) (s : Span) (inside : start ≤ length d) (held : HeldAt start d k (prices_in y d start end) p)
         (is : s ≡ component_at y d p.start p.end 3 0) where
       -- the message's start, where it is not past the delivery
       first : min start (length d) ≡ start
@@ -105,8 +103,8 @@ module _ (y : Syntax) (d : List ℕ) (start end : ℕ) where
       unfolding HeldFirst
       article-none f =
           let b = component-bounds y d p.start p.end s 3 0 is in
-          let a : p.start ≡ start = ap (λ (h : Held). h.start) f in
-          let e : p.end ≡ start = ap (λ (h : Held). h.end) f in
+          let a : p.start ≡ start = ap (λ (h : Span). h.start) f in
+          let e : p.end ≡ start = ap (λ (h : Span). h.end) f in
           omega (arith, b.from, b.to)
 
       pub article-found : s.start < s.end → s ≡ article_at y d start end k

@@ -1,17 +1,20 @@
 -- The numbers of a message's prices are the same wherever it stands. Demand 3: "same prices, places moved": a price's places count from the
 -- message's start.
-use Prim.Native.Nat.{ℕ, zero, suc, ◌+◌, ◌-◌, ◌≤◌, ◌<◌}
+use Prim.Native.Nat.{ℕ, zero, suc, ◌+◌, ◌-◌, ◌≤◌, ◌<◌, min}
 use mathlib.Core.Path.{◌≡◌, refl, sym, ap, ap₂, ◌∙◌}
 use mathlib.Core.Bool.{Bool, true, false, cond, ◌&&◌}
 use mathlib.Core.List.{List, [], ◌∷◌, map}
 use native.Mathlib.Decide.{dec_le}
+use native.Mathlib.Nat.{add-zero}
 use native.Mathlib.Omega.{arith}
-use lib.ListN.{length, drop, length-map}
+use lib.ListN.{length, take, drop, length-map}
 use lib.Dec.{eqb, ltb}
 use lib.IntN.{ℤ}
 use borrow.Author.Tests.{lt-ltb, le-ltb}
 use Rattle.cut.specs.declared.service.Syntax.{Syntax}
 use Rattle.bytewise.specs.Bytes.{part}
+use Rattle.bytewise.proofs.Limits.{limited}
+use Rattle.bytewise.proofs.Parts.{part_none}
 use Rattle.cut.specs.Segments.{Segment, segments_of}
 use Rattle.cut.specs.Fronts.{moved}
 use Rattle.cut.proofs.Moving.{segments-moved}
@@ -149,31 +152,75 @@ map_same : {A B C : Type 0} (f : B → C) (g : A → B) (h : A → C) → ((a : 
 map_same f g h e [] = refl
 map_same f g h e (x ∷ xs) = ap₂ ◌∷◌ (e x) (map_same f g h e xs)
 
+-- the prices of bytes that stand k places later fill a row alike, from any price on, and the answer is the same
+module _ (y : Syntax) (k start : ℕ) (b : List ℕ) where
+  abbrev here : List Listed
+  here = prices_of start (segments_of y start b)
+
+  abbrev there : List Listed
+  there = prices_of (k + start) (segments_of y (k + start) b)
+
+  later : there ≡ map (later_price k) here
+  later = rw (segments-moved y k start b) (prices-moved k start (segments_of y start b))
+
+  numbers-later : (n : ℕ) → numbers_from y (k + start) n there ≡ numbers_from y start n here
+  unfolding numbers_from
+  numbers-later n =
+      map-drop (numbers_of y (k + start)) n there
+      ∙ ap (drop n)
+      (ap (map (numbers_of y (k + start))) later
+      ∙ map_same (numbers_of y (k + start)) (later_price k) (numbers_of y start) (numbers-moved k y start) here)
+      ∙ sym (map-drop (numbers_of y start) n here)
+
+  pub row-moved : (n : ℕ) (row : List ℤ) → row_after y (k + start) n there row ≡ row_after y start n here row
+  unfolding row_after
+  row-moved n row = rw (numbers-later n)
+
+  pub filled-moved : (n : ℕ) (row : List ℤ) → filled_of y (k + start) n there row ≡ filled_of y start n here row
+  unfolding filled_of
+  filled-moved n row =
+      let c : length there ≡ length here = ap length later ∙ length-map here (later_price k) in
+      rw (numbers-later n, c)
+
 -- two messages of the same bytes, one k places later in its delivery
 module _ (y : Syntax) (d d' : List ℕ) (k start end : ℕ) (bytes : part (k + start) (k + end) d' ≡ part start end d) where
   pub prices-later : prices_in y d' (k + start) (k + end) ≡ map (later_price k) (prices_in y d start end)
   unfolding prices_in
-  prices-later = rw (bytes, segments-moved y k start (part start end d)) (prices-moved k start (segments_of y start (part start end d)))
-
-  numbers-later : (n : ℕ) → numbers_from y (k + start) n (prices_in y d' (k + start) (k + end)) ≡ numbers_from y start n (prices_in y d start end)
-  unfolding numbers_from
-  numbers-later n =
-      map-drop (numbers_of y (k + start)) n (prices_in y d' (k + start) (k + end))
-      ∙ ap (drop n)
-      (ap (map (numbers_of y (k + start))) prices-later
-      ∙ map_same (numbers_of y (k + start)) (later_price k) (numbers_of y start) (numbers-moved k y start) (prices_in y d start end))
-      ∙ sym (map-drop (numbers_of y start) n (prices_in y d start end))
+  prices-later = rw bytes (later y k start (part start end d))
 
   -- they fill a row alike, from any price on, and the answer is the same
   pub row-later : (n : ℕ) (row : List ℤ) → row_after y (k + start) n (prices_in y d' (k + start) (k + end)) row
       ≡ row_after y start n (prices_in y d start end) row
-  unfolding row_after
-  row-later n row = rw (numbers-later n)
+  unfolding prices_in
+  row-later n row = rw bytes (row-moved y k start (part start end d) n row)
 
   pub filled-later
       : (n : ℕ) (row : List ℤ) → filled_of y (k + start) n (prices_in y d' (k + start) (k + end)) row ≡ filled_of y start n (prices_in y d start end) row
-  unfolding filled_of
-  filled-later n row =
-      let c : length (prices_in y d' (k + start) (k + end)) ≡ length (prices_in y d start end) =
-      ap length prices-later ∙ length-map (prices_in y d start end) (later_price k) in
-      rw (numbers-later n, c)
+  unfolding prices_in
+  filled-later n row = rw bytes (filled-moved y k start (part start end d) n row)
+
+-- a message by itself, cut out of its delivery, fills a row as it does there
+module _ (y : Syntax) (d : List ℕ) (start end s e : ℕ) (ends : e ≡ min end (length d)) (starts : s ≡ min start e) where
+  abbrev own : List ℕ
+  own = take (e - s) (drop s d)
+
+  own-bytes : own ≡ part start end d
+  unfolding part
+  own-bytes = go (dec_le start e)
+    where
+      go : Dec (start ≤ e) → own ≡ part start end d
+      go (yes h) =
+          let z : s ≡ start = omega arith in
+          rw z (limited d start end e ends)
+      go (no h) =
+          let z : e - s ≡ 0 = omega arith in
+          rw z (sym (sym (limited d start end e ends) ∙ part_none d start e (omega arith)))
+
+  pub row-own : (n : ℕ) (row : List ℤ) → row_after y 0 n (prices_of 0 (segments_of y 0 own)) row ≡ row_after y start n (prices_in y d start end) row
+  unfolding prices_in
+  row-own n row = rw own-bytes (sym (rw (add-zero start) at (row-moved y start 0 (part start end d) n row)))
+
+  pub filled-own
+      : (n : ℕ) (row : List ℤ) → filled_of y 0 n (prices_of 0 (segments_of y 0 own)) row ≡ filled_of y start n (prices_in y d start end) row
+  unfolding prices_in
+  filled-own n row = rw own-bytes (sym (rw (add-zero start) at (filled-moved y start 0 (part start end d) n row)))

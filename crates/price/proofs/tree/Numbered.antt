@@ -10,7 +10,7 @@ use Rattle.bytewise.specs.Bytes.{bytes_of}
 use Rattle.cut.specs.Segments.{Segment}
 use Rattle.messages.specs.Messages.{Message}
 use Rattle.value.specs.Digits.{count_of}
-use Rattle.value.specs.declared.counts.Count.TheVariants.{Is}
+use Rattle.std.specs.Prelude.{Some}
 use Rattle.guide.specs.Nodes.{Guide, node}
 use Rattle.guide.specs.Page.{Page}
 use Rattle.guide.specs.Content.{text}
@@ -77,10 +77,10 @@ module _ (y : Syntax) (g : Guide) (t : Priced g) where
 
 -- a price whose position is the number that its LIN gives
 abbrev pub Placed : Syntax → Listed → Type 0
-Placed y q = count_of (text y q.lin.bytes 1 0) ≡ Is q.position
+Placed y q = count_of (text y q.lin.bytes 1 0) ≡ Some q.position
 
 prices_placed
-    : (y : Syntax) (n : ℕ) (p : Position) (xs : List Price) → count_of (text y p.lin.bytes 1 0) ≡ Is n
+    : (y : Syntax) (n : ℕ) (p : Position) (xs : List Price) → count_of (text y p.lin.bytes 1 0) ≡ Some n
     → Each (Placed y) (map (λ (x : Price). record { position = n; lin = p.lin; price = x }) xs)
 unfolding Each
 prices_placed y n p [] h = tt

@@ -1,7 +1,6 @@
 -- From one state of the printer to the next: what the workers promise each other.
 use Rattle.std.specs.Prelude.{ℕ, ◌+◌}
-use Rattle.verdict.specs.declared.answers.Verdict.{Verdict}
-use Rattle.verdict.specs.declared.answers.Verdict.TheVariants.{Accepted, Refused}
+use Rattle.guide.specs.Answers.{Verdict, accepts, refuses}
 use Rattle.price.specs.Cursors.{first_cursor}
 use Rattle.schaumtruhe.specs.workers.Answers.{one_if}
 use Rattle.print.specs.declared.state.Counts.{Counts}
@@ -10,8 +9,8 @@ use Rattle.print.specs.declared.state.Stage.TheVariants as stage
 
 -- the prices of an accepted message come next
 abbrev pub stage_after : Verdict → ℕ → Stage
-stage_after (Accepted n e) start = stage.Prices (first_cursor start)
-stage_after (Refused k i p n) start = stage.Between
+stage_after (accepts n e) start = stage.Prices (first_cursor start)
+stage_after (refuses k i p n) start = stage.Between
 
 -- the counts behind a message with this verdict
 abbrev pub counted_after : Counts → Verdict → ℕ → Counts

@@ -1,13 +1,12 @@
 -- The verdict at a place and the accepted message there: one law for each answer of the workers.
 use Prim.Native.Nat.{ℕ, zero, suc, ◌≤◌, ◌<◌}
 use mathlib.Core.Path.{◌≡◌, refl, sym, ◌∙◌, ap, ap₂}
-use mathlib.Core.Bool.{Bool, true, false}
+use mathlib.Core.Bool.{Bool, true, false, cond}
 use mathlib.Core.List.{List}
 use native.Mathlib.Omega.{arith}
 use lib.ListN.{length}
 use Rattle.cut.specs.declared.service.Syntax.{Syntax}
-use Rattle.messages.specs.declared.found.Found.{Found}
-use Rattle.messages.specs.declared.found.Found.TheVariants as found
+use Rattle.messages.specs.declared.found.Message.{Message as Found}
 use Rattle.cut.specs.Admission.{admission_of}
 use Rattle.bytewise.specs.Bytes.{part}
 use Rattle.cut.specs.Segments as cut
@@ -16,99 +15,84 @@ use Rattle.messages.specs.Held.{held}
 use Rattle.messages.specs.Messages.{Message, start_of, close_of, messages}
 use Rattle.messages.specs.Calls.{is_found, message_at}
 use Rattle.guide.specs.Accepted.{segments_of}
+use Rattle.guide.specs.Choices.{or_else}
 use Rattle.guide.specs.Answers.{accepts, refuses, Verdict as Judged}
-use Rattle.verdict.specs.Answers.{declared, judged_as}
+use Rattle.guide.proofs.judging.Verdicts.{accepts_refuses}
+use Rattle.verdict.specs.Answers.{told, judged_as}
 use Rattle.verdict.specs.declared.answers.Judged.{Judged as JudgedAt}
 use Rattle.verdict.specs.Verdicts.{verdict_named, named_of, verdict_of}
-use Rattle.verdict.specs.declared.answers.Verdict.{Verdict}
-use Rattle.verdict.specs.declared.answers.Verdict.TheVariants as verdict
-use Rattle.schaumtruhe.specs.Calls.{
-  beginning_at,
-  nowhere,
-  unless_refused,
-  verdict_at,
-  judged,
-  Sheet,
-  stands,
-  missing,
-  sheet_by,
-  sheet_in,
-  sheet_unless,
-  sheet_at,
-}
-use Rattle.schaumtruhe.specs.workers.Answers.{standing_of, standing_by}
-use Rattle.schaumtruhe.specs.declared.sheets.Standing.{Standing}
-use Rattle.schaumtruhe.specs.declared.sheets.Standing.TheVariants.{Accepted, Refused}
+use Rattle.verdict.specs.declared.answers.Accepted.{Accepted}
+use Rattle.verdict.specs.declared.answers.Refused.{Refused}
+use Rattle.schaumtruhe.specs.Calls.{beginning_at, nowhere, verdict_at, judged, stands, missing, sheet_by, sheet_in, sheet_unless, sheet_at}
+use Rattle.schaumtruhe.specs.workers.Answers.{standing_of, asked}
+use Rattle.std.specs.Prelude.{Option, Some, None, Result, Ok, Err}
+use Rattle.schaumtruhe.specs.declared.sheets.Sheet.{Sheet as Standing}
 use Rattle.schaumtruhe.proofs.places.Found.{Here, here, nowhere-here, Begins, not-begun, is-begun}
 
-refuses_more : (a : ℕ) (v : Judged) → (a ≡ 0 → ⊥) → nowhere a ≡ unless_refused a v
-refuses_more zero v h = absurd (h refl)
-refuses_more (suc a) v h = refl
+abbrev as_sheet : ℕ → ℕ → Result Standing ℕ
+as_sheet s e = Ok (record { start = s; end = e })
 
-sheet_more : (a : ℕ) (s : Sheet) → (a ≡ 0 → ⊥) → missing a ≡ sheet_unless a s
-sheet_more zero s h = absurd (h refl)
-sheet_more (suc a) s h = refl
+module _ (y : Syntax) (d : List ℕ) (at : ℕ) where
+  abbrev begins : Bool
+  begins = is_found (message_at y d at)
 
-pub by-accepted : (v : Verdict) (n c s e : ℕ) → v ≡ verdict.Accepted n c → Accepted s e ≡ standing_by v s e
-by-accepted v n c s e h = rw h
+  -- the delivery is refused, or no message begins there
+  not-asked
+      : (a n : ℕ) (b : Bool) → admission_of y d ≡ a → begins ≡ b → n ≡ or_else a (cond b 0 31) → (n ≡ 0 → ⊥)
+      → (nowhere n ≡ verdict_at y d at) × (missing n ≡ sheet_at y d at)
+  unfolding verdict_at sheet_at
+  not-asked zero n true e f k r = absurd (r k)
+  not-asked zero n false e f k r = rw (e, not-begun y d at begins refl f, k) (refl, refl)
+  not-asked (suc a) n b e f k r = rw (e, k) (refl, refl)
 
-pub by_refused : (v : Verdict) (k i p n s e : ℕ) → v ≡ verdict.Refused k i p n → Refused 30 ≡ standing_by v s e
-by_refused v k i p n s e h = rw h
+  module _ (n : ℕ) (asks : n ≡ asked y d at) (refused : n ≡ 0 → ⊥) where
+    pub none-judged : nowhere n ≡ verdict_at y d at
+    none-judged = (not-asked (admission_of y d) n begins refl refl asks refused).0
 
-standing-same : (m : Message) (v : Judged) → standing_by (declared v) (start_of m) (close_of m) ≡ standing_of (sheet_by v m)
-standing-same m (accepts n e) = refl
-standing-same m (refuses k i p n) = refl
+    pub none-stands : Err n ≡ standing_of (sheet_at y d at)
+    none-stands = ap standing_of (not-asked (admission_of y d) n begins refl refl asks refused).1
 
-module _ (y : Syntax) (d : List ℕ) (at : ℕ) (a : ℕ) (admits : a ≡ admission_of y d) where
-  -- the delivery is refused
-  module _ (refused : a ≡ 0 → ⊥) where
-    pub delivery_refused : (r : Verdict) → r ≡ declared (nowhere a) → r ≡ declared (verdict_at y d at)
-    unfolding verdict_at
-    delivery_refused r h = rw (← admits) (h ∙ ap declared (refuses_more a _ refused))
+  -- one does
+  both : (a : ℕ) (b : Bool) → 0 ≡ or_else a (cond b 0 31) → (a ≡ 0) × (b ≡ true)
+  both zero true k = (refl, refl)
+  both zero false k = absurd (omega (arith, k))
+  both (suc a) b k = absurd (omega (arith, k))
 
-    pub delivery_missing : Refused a ≡ standing_of (sheet_at y d at)
-    unfolding sheet_at
-    delivery_missing = rw (← admits) (ap standing_of (sheet_more a _ refused))
-
-  module _ (admitted : a ≡ 0) (b : Bool) (begins : b ≡ is_found (message_at y d at)) where
+  module _ (asks : 0 ≡ asked y d at) (j : JudgedAt)
+      (judges : judged_as j ≡ (verdict_named y at (held (segments_at y d at)), last_end at (held (segments_at y d at)))) where
     is-admitted : admission_of y d ≡ 0
-    is-admitted = sym admits ∙ admitted
+    is-admitted = (both (admission_of y d) begins asks).0
 
-    -- no message begins there
-    module _ (none : b ≡ false) where
-      pub place_refused : (r : Verdict) → r ≡ declared (nowhere 31) → r ≡ declared (verdict_at y d at)
-      unfolding verdict_at
-      place_refused r h = rw (is-admitted, not-begun y d at b begins none) h
+    abbrev h : Begins y d at
+    h = is-begun y d at begins refl (both (admission_of y d) begins asks).1
 
-      pub place-missing : Refused 31 ≡ standing_of (sheet_at y d at)
-      unfolding sheet_at
-      place-missing = rw (is-admitted, not-begun y d at b begins none)
+    is-judged : told j.verdict ≡ judged y h.message
+    unfolding verdict_named named_of verdict_of
+    is-judged = ap (λ (x : Judged × ℕ). x.0) judges ∙ rw (h.starts, ← h.takes)
 
-    -- one does
-    module _ (some : b ≡ true) (j : JudgedAt)
-        (judges : j ≡ judged_as (declared (verdict_named y at (held (segments_at y d at)))) (last_end at (held (segments_at y d at)))) where
-      abbrev h : Begins y d at
-      h = is-begun y d at b begins some
+    closes : close_of h.message ≡ j.end
+    unfolding last_end
+    closes = sym (ap (λ (x : Judged × ℕ). x.1) judges ∙ ap (last_end at) h.takes)
 
-      is-judged : j.verdict ≡ declared (judged y h.message)
-      unfolding verdict_named named_of verdict_of
-      is-judged = ap (λ (x : JudgedAt). x.verdict) judges ∙ rw (h.starts, ← h.takes)
+    pub message-judged : told j.verdict ≡ verdict_at y d at
+    unfolding verdict_at
+    message-judged = rw (is-admitted, h.only) is-judged
 
-      closes : close_of h.message ≡ j.end
-      unfolding last_end
-      closes = sym (ap (λ (x : JudgedAt). x.end) judges ∙ ap (last_end at) h.takes)
+    pub message-stands : (a : Accepted) → j.verdict ≡ Ok a → Ok (record { start = at; end = j.end }) ≡ standing_of (sheet_at y d at)
+    unfolding sheet_at
+    message-stands a k = rw (is-admitted, h.only) (go (judged y h.message) (sym is-judged ∙ ap told k))
+      where
+        go : (v : Judged) → v ≡ told (Ok a) → Ok (record { start = at; end = j.end }) ≡ standing_of (sheet_by v h.message)
+        go (accepts n e) l = ap₂ as_sheet (sym h.starts) (sym closes)
+        go (refuses k i p n) l = absurd (accepts_refuses (sym l))
 
-      pub message-judged : j.verdict ≡ declared (verdict_at y d at)
-      unfolding verdict_at
-      message-judged = rw (is-admitted, h.only) is-judged
-
-      pub message-stands : (r : Standing) → r ≡ standing_by j.verdict at j.end → r ≡ standing_of (sheet_at y d at)
-      unfolding sheet_at
-      message-stands r k =
-          let w = declared (judged y h.message) in
-          let z : standing_by j.verdict at j.end ≡ standing_by w (start_of h.message) (close_of h.message) =
-          ap (λ (x : Verdict). standing_by x at j.end) is-judged ∙ ap₂ (standing_by w) (sym h.starts) (sym closes) in
-          rw (is-admitted, h.only) (k ∙ z ∙ standing-same h.message (judged y h.message))
+    pub message_refused : (r : Refused) → j.verdict ≡ Err r → Err 30 ≡ standing_of (sheet_at y d at)
+    unfolding sheet_at
+    message_refused r k = rw (is-admitted, h.only) (go (judged y h.message) (sym is-judged ∙ ap told k))
+      where
+        go : (v : Judged) → v ≡ told (Err r) → Err 30 ≡ standing_of (sheet_by v h.message)
+        go (accepts n e) l = absurd (accepts_refuses l)
+        go (refuses k i p n) l = refl
 
 -- where a message stands at the place, it stands there by itself
 pub record Stands (y : Syntax) (d : List ℕ) (m : Message) : Type 0 where
@@ -134,12 +118,12 @@ module _ (y : Syntax) (d : List ℕ) (at : ℕ) (m : Message) where
         fits = omega (arith, b, k.fits);
       }
 
-  by-found : (f : Found) → message_at y d at ≡ f → sheet_in y (beginning_at at (messages y d)) ≡ stands m → Stands y d m
-  by-found found.Nothing e k =
+  by-found : (f : Option Found) → message_at y d at ≡ f → sheet_in y (beginning_at at (messages y d)) ≡ stands m → Stands y d m
+  by-found None e k =
       let w : missing 31 ≡ stands m = rw (nowhere-here y d at e) at k in
       let z : ◌≡◌ {A = ℕ} 0 1 = cc in
       absurd (omega arith)
-  by-found (found.Message s c) e k = in_sheet s c (here y d at s c e) k
+  by-found (Some f) e k = in_sheet f.start f.end (here y d at f.start f.end e) k
 
   by_admission : (a : ℕ) → sheet_unless a (sheet_in y (beginning_at at (messages y d))) ≡ stands m → Stands y d m
   by_admission zero h = by-found (message_at y d at) refl h

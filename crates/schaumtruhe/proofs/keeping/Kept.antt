@@ -5,10 +5,11 @@ use mathlib.Core.List.{List, map, Memᴰ}
 use native.Mathlib.Nat.{le_refl}
 use native.Mathlib.Omega.{arith}
 use lib.Dec.{ltb}
+use Rattle.std.specs.Prelude.{Ok}
 use lib.IntN.{ℤ}
 use lib.ListN.{length, drop, length-map}
 use Rattle.cut.specs.declared.service.Syntax.{Syntax}
-use Rattle.messages.specs.declared.found.Found.TheVariants as found
+use Rattle.messages.specs.Calls.{some_message}
 use Rattle.cut.specs.Admission.{admission_of}
 use Rattle.bytewise.specs.Bytes.{part}
 use Rattle.messages.specs.Messages.{Message, start_of, close_of, messages}
@@ -31,7 +32,6 @@ use Rattle.schaumtruhe.specs.Calls.{
   sheet_by,
   sheet_at,
   listed,
-  written,
   priced_by,
   row_by,
   priced_at,
@@ -132,7 +132,7 @@ module _ (y : Syntax) (d' d : List ℕ) (k : ℕ) (admits' : admission_of y d' �
 
     priced-by : (v : Verdict) → priced_by y (sheet_by (moved_verdict k v) m') j row ≡ priced_by y (sheet_by v m) j row
     unfolding moved_verdict
-    priced-by (accepts n e) = ap written filled-same
+    priced-by (accepts n e) = ap Ok filled-same
     priced-by (refuses r i p n) = refl
 
     row-by : (v : Verdict) → row_by y (sheet_by (moved_verdict k v) m') j row ≡ row_by y (sheet_by v m) j row
@@ -174,7 +174,7 @@ module _ (y : Syntax) (d' d : List ℕ) (k : ℕ) (admits' : admission_of y d' �
   kept =
       record {
         held = here';
-        next = next_here y d' m' here' ∙ ap (found.Message (k + start_of m)) (close-moved k m);
+        next = next_here y d' m' here' ∙ ap (some_message (k + start_of m)) (close-moved k m);
         own = verdict-here y d admits m here;
         verdict = verdict-here y d' admits' m' here' ∙ judged-later ∙ ap (moved_verdict k) (sym (verdict-here y d admits m here));
         priced = priced-later;

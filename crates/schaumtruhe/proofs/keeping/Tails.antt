@@ -64,8 +64,8 @@ use Rattle.price.specs.Listing.{kind_of, rng_next, prices_from, prices_of}
 use Rattle.price.specs.Numbers.{article_in, article_place, article_length, price_in, unit_rank, place_of_first, numbers_of}
 use Rattle.price.specs.Rows.{all_numbers, fitting, filled_row}
 use Rattle.schaumtruhe.specs.Calls.{beginning_at, verdict_at, sheet_at, priced_at, row_at, article_refusal, article_at}
-use Rattle.schaumtruhe.specs.declared.pricing.Priced.{Priced}
-use Rattle.schaumtruhe.specs.declared.pricing.Priced.TheVariants as priced
+use Rattle.price.specs.declared.filling.Filled.{Filled}
+use Rattle.std.specs.Prelude.{Result, Ok}
 
 -- judge_at
 unfoldable pub judged_at : List ℕ → ℕ → Verdict
@@ -86,7 +86,7 @@ unfolding
 judged_at d at = verdict_at edifact d at
 
 -- prices: the answer and the row
-unfoldable pub filled_at : List ℕ → ℕ → ℕ → List ℤ → Priced × List ℤ
+unfoldable pub filled_at : List ℕ → ℕ → ℕ → List ℤ → Result Filled ℕ × List ℤ
 unfolding
     judged_at in_element width in_elements components span_in number_of numbers_from filled_of row_after first_article kind_of rng_next prices_from prices_of
     article_in
@@ -157,7 +157,7 @@ row = pos 7 ∷ pos 7 ∷ pos 7 ∷ pos 7 ∷ pos 7 ∷ pos 7 ∷ pos 7 ∷ pos 
 abbrev pub filled : List ℤ
 filled = pos 1 ∷ pos 105 ∷ pos 1 ∷ pos 16806 ∷ pos 2 ∷ pos 0 ∷ pos 111 ∷ negsuc 0 ∷ pos 7 ∷ []
 
-pub sheet-priced : (priced_at edifact priced_second 35 0 row ≡ priced.Written 1 1) × (row_at edifact priced_second 35 0 row ≡ filled)
+pub sheet-priced : (priced_at edifact priced_second 35 0 row ≡ Ok (record { written = 1; total = 1 })) × (row_at edifact priced_second 35 0 row ≡ filled)
 unfolding filled_at
 sheet-priced = (refl, refl)
 

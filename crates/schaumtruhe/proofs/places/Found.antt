@@ -8,14 +8,14 @@ use lib.Dec.{eqb, leb}
 use lib.ListN.{length}
 use borrow.Author.Tests.{eq-eqb, ne_eqb, leb-false}
 use Rattle.cut.specs.declared.service.Syntax.{Syntax}
-use Rattle.messages.specs.declared.found.Found.{Found}
-use Rattle.messages.specs.declared.found.Found.TheVariants as found
+use Rattle.std.specs.Prelude.{Option, Some, None}
+use Rattle.messages.specs.declared.found.Message.{Message as Found}
 use Rattle.bytewise.specs.Bytes.{part}
 use Rattle.cut.specs.Segments as cut
 use Rattle.cut.specs.Segments.{segments_at}
 use Rattle.messages.specs.Messages.{Message, start_of, close_of, messages}
 use Rattle.messages.specs.Held.{held}
-use Rattle.messages.specs.Calls.{as_found, is_found, found_at, message_at}
+use Rattle.messages.specs.Calls.{some_message, as_found, is_found, found_at, message_at}
 use Rattle.messages.proofs.Face.{keep_message, messages_from, next-message, message-at}
 use Rattle.guide.specs.Accepted.{segments_of}
 use Rattle.schaumtruhe.specs.Calls.{beginning_at}
@@ -38,14 +38,14 @@ module _ (at : ℕ) where
           let lt = leb-false at (start_of n) l in
           rw (ne_eqb at (start_of n) (λ (q : at ≡ start_of n). omega arith)) (ih k s)
 
-  found_none : (ms : List Message) → found_at at ms ≡ found.Nothing → beginning_at at ms ≡ []
+  found_none : (ms : List Message) → found_at at ms ≡ None → beginning_at at ms ≡ []
   unfolding found_at beginning_at
   found_none [] h = refl
   found_none (n ∷ ns) h = go (eqb at (start_of n)) refl h (found_none ns)
     where
       go
-          : (b : Bool) → eqb at (start_of n) ≡ b → cond b (as_found n) (found_at at ns) ≡ found.Nothing
-          → (found_at at ns ≡ found.Nothing → beginning_at at ns ≡ []) → cond b (n ∷ []) (beginning_at at ns) ≡ []
+          : (b : Bool) → eqb at (start_of n) ≡ b → cond b (as_found n) (found_at at ns) ≡ None
+          → (found_at at ns ≡ None → beginning_at at ns ≡ []) → cond b (n ∷ []) (beginning_at at ns) ≡ []
       go true e k ih =
           let z : ◌≡◌ {A = ℕ} 0 1 = cc in
           absurd (omega arith)
@@ -63,7 +63,7 @@ pub record Here (y : Syntax) (d : List ℕ) (at s e : ℕ) : Type 0 where
   pub fits : e ≤ length d
 
 module _ (y : Syntax) (d : List ℕ) (at : ℕ) where
-  pub here : (s e : ℕ) → message_at y d at ≡ found.Message s e → Here y d at s e
+  pub here : (s e : ℕ) → message_at y d at ≡ some_message s e → Here y d at s e
   here s e h =
       let w = message-at y d at s e h in
       let n = next-message y d at s e w.1 in
@@ -85,23 +85,23 @@ module _ (y : Syntax) (d : List ℕ) (at : ℕ) where
     pub starts : start_of message ≡ at
     pub takes : held (segments_at y d at) ≡ segments_of message
 
-  pub nowhere-here : message_at y d at ≡ found.Nothing → beginning_at at (messages y d) ≡ []
+  pub nowhere-here : message_at y d at ≡ None → beginning_at at (messages y d) ≡ []
   unfolding message_at
   nowhere-here h = found_none at (messages y d) h
 
   module _ (b : Bool) (begins : b ≡ is_found (message_at y d at)) where
-    by-none : (f : Found) → message_at y d at ≡ f → is_found f ≡ false → beginning_at at (messages y d) ≡ []
-    by-none found.Nothing e k = nowhere-here e
-    by-none (found.Message s c) e k = absurd (let z : ◌≡◌ {A = ℕ} 0 1 = cc in omega arith)
+    by-none : (f : Option Found) → message_at y d at ≡ f → is_found f ≡ false → beginning_at at (messages y d) ≡ []
+    by-none None e k = nowhere-here e
+    by-none (Some f) e k = absurd (let z : ◌≡◌ {A = ℕ} 0 1 = cc in omega arith)
 
     pub not-begun : b ≡ false → beginning_at at (messages y d) ≡ []
     not-begun h = by-none (message_at y d at) refl (sym begins ∙ h)
 
-    by-some : (f : Found) → message_at y d at ≡ f → is_found f ≡ true → Begins
-    by-some found.Nothing e k = absurd (let z : ◌≡◌ {A = ℕ} 0 1 = cc in omega arith)
-    by-some (found.Message s c) e k =
-        let h = here s c e in
-        let w : s ≡ at = (message-at y d at s c e).0 in
+    by-some : (f : Option Found) → message_at y d at ≡ f → is_found f ≡ true → Begins
+    by-some None e k = absurd (let z : ◌≡◌ {A = ℕ} 0 1 = cc in omega arith)
+    by-some (Some f) e k =
+        let h = here f.start f.end e in
+        let w : f.start ≡ at = (message-at y d at f.start f.end e).0 in
         record {
           message = h.message;
           only = h.only;

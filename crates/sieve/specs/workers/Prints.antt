@@ -1,13 +1,13 @@
 -- The print of a position: a number made of all that is compared of it, so that positions that agree have the same.
-use Rattle.std.specs.Prelude.{ℕ, ◌+◌, ◌*◌, ◌%◌, ◌≤◌, ◌<◌, ◌≡◌, Bool, true, false, cond, List, [], ◌∷◌, eqb, leb}
+use Rattle.std.specs.Prelude.{ℕ, ◌+◌, ◌*◌, ◌%◌, ◌≤◌, ◌<◌, ◌≡◌, Bool, true, false, cond, List, [], ◌∷◌, length, drop, eqb, Option, Some, None}
 use Rattle.cut.specs.declared.service.Syntax.{Syntax}
 use Rattle.bytewise.specs.Bytes.{part}
-use Rattle.element.specs.Elements.{Ending, ends-segment, ends-element, ends-component, ends-nothing, Split, elements, split_from}
+use Rattle.element.specs.Elements.{Split, elements, split_from}
+use Rattle.element.specs.declared.endings.Ending.{Ending}
+use Rattle.element.specs.declared.endings.Ending.TheVariants as ends
 use Rattle.plain.specs.Plain.{plain}
 use Rattle.element.specs.declared.components.Span.{Span}
 use Rattle.sieve.specs.declared.prints.Printed.{Printed}
-use Rattle.sieve.specs.declared.prints.Stop.{Stop}
-use Rattle.sieve.specs.declared.prints.Stop.TheVariants.{Segment, Element, Component, Nothing}
 
 -- the print a, and then a byte x of the component that w names
 unfoldable pub mixed_by : ℕ → ℕ → ℕ → ℕ
@@ -49,9 +49,10 @@ print_in y (s ∷ ss) a = print_in y ss (print_segment y 0 s a)
 unfoldable pub print_parts : Syntax → List ℕ → List (List ℕ) → List (List ℕ) → ℕ
 print_parts y lin pia imd = mixed_by (print_in y imd (print_in y pia (print_segment y 1 lin 0))) 0 0
 
--- a segment that may be missing: an empty part is none
-unfoldable pub part_in : Span → List ℕ → List (List ℕ)
-part_in s d = cond (leb s.end s.start) [] (part s.start s.end d ∷ [])
+-- a segment that may be missing
+abbrev pub part_in : Option Span → List ℕ → List (List ℕ)
+part_in None d = []
+part_in (Some s) d = part s.start s.end d ∷ []
 
 -- the print a, and then what stands in the bytes xs, which go on in component c of element e; r says that the first of them is released
 unfoldable pub print_split : Syntax → ℕ → ℕ → ℕ → Bool → Split → ℕ → ℕ
@@ -62,34 +63,19 @@ print_split y x e c r s a =
 unfoldable pub print_rest : Syntax → ℕ → ℕ → ℕ → Bool → List ℕ → ℕ → ℕ
 print_rest y x e c r xs a = print_split y x e c r (split_from y r xs) a
 
--- what a byte stops that ends this
-abbrev pub stop_by : Ending → Stop
-stop_by ends-segment = Segment
-stop_by ends-element = Element
-stop_by ends-component = Component
-stop_by ends-nothing = Nothing
-
-abbrev pub stopping : Stop → Bool
-stopping Segment = true
-stopping Element = true
-stopping Component = true
-stopping Nothing = false
-
 -- whether the segment goes on behind it
-abbrev pub passing : Stop → Bool
-passing Segment = false
-passing Element = true
-passing Component = true
-passing Nothing = false
+abbrev pub passing : Ending → Bool
+passing ends.Segment = false
+passing ends.Element = true
+passing ends.Component = true
 
--- the print a, and then what follows from the place i up to `end` where component c of element e is stopped so
-unfoldable pub print_behind : Syntax → List ℕ → ℕ → ℕ → ℕ → ℕ → Stop → ℕ → ℕ → ℕ
-print_behind y d x e c end Segment i a = a
-print_behind y d x e c end Element i a = print_rest y x (e + 1) 0 false (part i end d) a
-print_behind y d x e c end Component i a = print_rest y x e (c + 1) false (part i end d) a
-print_behind y d x e c end Nothing i a = a
+-- the print a, and then what follows from the place i on where component c of element e is stopped so
+unfoldable pub print_behind : Syntax → List ℕ → ℕ → ℕ → ℕ → Ending → ℕ → ℕ → ℕ
+print_behind y d x e c ends.Segment i a = a
+print_behind y d x e c ends.Element i a = print_rest y x (e + 1) 0 false (drop i d) a
+print_behind y d x e c ends.Component i a = print_rest y x e (c + 1) false (drop i d) a
 
 -- r is how the component c of element e that begins at `from` is stopped, and the print up to there
-pub record PrintedTo (y : Syntax) (d : List ℕ) (x e c from end a : ℕ) (r : Printed) : Type 0 where
-  pub same : print_rest y x e c false (part from end d) a ≡ print_behind y d x e c end r.stop r.place r.print
-  pub onward : passing r.stop ≡ true → (from < r.place) × (r.place ≤ end)
+pub record PrintedTo (y : Syntax) (d : List ℕ) (x e c from a : ℕ) (r : Printed) : Type 0 where
+  pub same : print_rest y x e c false (drop from d) a ≡ print_behind y d x e c r.stop r.place r.print
+  pub onward : passing r.stop ≡ true → (from < r.place) × (r.place ≤ length d)

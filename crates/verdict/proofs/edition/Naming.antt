@@ -6,11 +6,11 @@ use mathlib.Core.List.{List, [], ◌∷◌}
 use native.Mathlib.Nat.{le_refl}
 use lib.ListN.{length, drop}
 use Rattle.cut.specs.declared.scan.Cut.{Cut}
-use Rattle.cut.specs.declared.scan.Cut.TheVariants as cut
+use Rattle.std.specs.Prelude.{Option, Some, None}
 use Rattle.cut.specs.declared.service.Syntax.{Syntax}
 use Rattle.bytewise.specs.Bytes.{bytes_of, part}
 use Rattle.messages.specs.Held.{held}
-use Rattle.cut.specs.Calls.{cut_at, segment_at}
+use Rattle.cut.specs.Calls.{cut_at, segment_at, some_cut}
 use Rattle.cut.specs.Segments.{Segment, segments_from, segments_at, past_at}
 use Rattle.cut.proofs.First.{some-segment, cutting, nothing}
 use Rattle.cut.proofs.Ahead.{segment-past, CutAhead, cut_ahead, none_ahead}
@@ -23,7 +23,7 @@ use Rattle.guide.specs.Editions.{guide_of, pages_of}
 use Rattle.guide.specs.declared.edition.Edition.{Edition}
 use Rattle.guide.specs.declared.edition.Edition.TheVariants.{D, C}
 use Rattle.verdict.specs.declared.answers.Judged.{Judged}
-use Rattle.verdict.specs.Answers.{declared, judged_as}
+use Rattle.verdict.specs.Answers.{judged_as}
 use Rattle.verdict.specs.Named.{edition_in, edition_of}
 use Rattle.verdict.specs.Verdicts.{verdict_named, verdict_from}
 
@@ -52,11 +52,11 @@ module _ (y : Syntax) (d : List ℕ) (at s : ℕ) (o : s ≡ past_at y d at) whe
   abbrev named : Type 0
   named = edition_in y (part s (length d) d) ≡ edition_of y (held (segments_at y d at))
 
-  none_names : cut_at y d s ≡ cut.Nothing → segments_at y d at ≡ [] → named
+  none_names : cut_at y d s ≡ None → segments_at y d at ≡ [] → named
   none_names h e =
       no_name y _ (part_out d s (length d) (le_refl (length d)) ∙ no_bytes y s (drop s d) (nothing y d s false h)) ∙ no_named y _ e
 
-  first_names : (a e : ℕ) (p : Bool) → cut_at y d s ≡ cut.Segment a e p → CutAhead y d at a e p → named
+  first_names : (a e : ℕ) (p : Bool) → cut_at y d s ≡ some_cut a e p → CutAhead y d at a e p → named
   unfolding edition_in edition_of held text
   first_names a e p h q = rw (q.list, component_cut y d s a e p h 2 4, (cutting y d s false a e p h).starts)
 
@@ -67,12 +67,12 @@ module _ (y : Syntax) (d : List ℕ) (at s : ℕ) (o : s ≡ past_at y d at) whe
       here : segment_at y d at ≡ cut_at y d s
       here = segment-past y d at ∙ ap (cut_at y d) (sym o)
 
-      go : (c : Cut) → segment_at y d at ≡ c → named
-      go cut.Nothing h = none_names (sym here ∙ h) (none_ahead y d at h)
-      go (cut.Segment a e p) h = first_names a e p (sym here ∙ h) (cut_ahead y d at a e p h)
+      go : (c : Option Cut) → segment_at y d at ≡ c → named
+      go None h = none_names (sym here ∙ h) (none_ahead y d at h)
+      go (Some k) h = first_names k.start k.end k.piece (sym here ∙ h) (cut_ahead y d at k.start k.end k.piece h)
 
 pub judged-named
     : (y : Syntax) (a : ℕ) (ss : List Segment) (ed : Edition) → ed ≡ edition_of y ss → (c : ℕ) (j : Judged)
-    → j ≡ judged_as (declared (verdict_from y (guide_of ed) (pages_of ed) a ss)) c → j ≡ judged_as (declared (verdict_named y a ss)) c
+    → judged_as j ≡ (verdict_from y (guide_of ed) (pages_of ed) a ss, c) → judged_as j ≡ (verdict_named y a ss, c)
 unfolding verdict_named
 judged-named y a ss ed h c j g = rw (← h) g

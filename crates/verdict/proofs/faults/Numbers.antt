@@ -1,17 +1,14 @@
 -- The faults of one segment, one law for each answer of the workers.
 use Prim.Native.Nat.{ℕ, suc, ◌+◌}
-use mathlib.Core.Path.{◌≡◌, sym, ◌∙◌, ap}
+use mathlib.Core.Path.{◌≡◌, ◌∙◌}
 use mathlib.Core.Bool.{Bool, true, false}
 use mathlib.Core.List.{List}
 use native.Mathlib.Omega.{arith}
-use lib.Dec.{eqb}
 use Rattle.cut.specs.declared.service.Syntax.{Syntax}
 use Rattle.bytewise.specs.Bytes.{part}
 use Rattle.cut.specs.Segments.{Segment}
 use Rattle.value.specs.Digits.{count_of}
 use Rattle.plain.specs.Plain.{same}
-use Rattle.value.specs.declared.counts.Count.{Count}
-use Rattle.value.specs.declared.counts.Count.TheVariants.{Is, Nothing}
 use Rattle.guide.specs.Content.{text}
 use Rattle.guide.specs.workers.Judging.{Memory, is, end_fault, line_fault, rule_fault, content_fault}
 use Rattle.guide.specs.workers.PageFault.{page_fault}
@@ -22,14 +19,6 @@ use Rattle.verdict.specs.declared.roles.Role.{Role}
 use Rattle.verdict.specs.declared.roles.Role.TheVariants.{Lin, Unt}
 use Rattle.verdict.specs.workers.Segments.{role_of, is_lin, is_unt, rule_by}
 use Rattle.verdict.proofs.roles.RoleTags.{role_rule}
-
--- a component as a count
-module _ (n : ℕ) (t : List ℕ) (k : Count) (counted : k ≡ count_of t) where
-  pub count-is : (m : ℕ) → k ≡ Is m → eqb m n ≡ is n (count_of t)
-  count-is m h = ap (is n) (sym h ∙ counted)
-
-  pub count_none : k ≡ Nothing → false ≡ is n (count_of t)
-  count_none h = ap (is n) (sym h ∙ counted)
 
 -- the first one behind the tag
 pub numbered : (n : ℕ) (t own : List ℕ) (c : Bool) → c ≡ is n (count_of t) → t ≡ own → c ≡ is n (count_of own)

@@ -28,24 +28,23 @@ module _ (y : Syntax) (d t : List ℕ) (s : Found) (k : Kept) where
   Keeps r t' = (r ≡ kept_after y d s k r.doubt) × (r.doubt ≡ false → UndoubtedBy y d s k t t')
 
   pub after_line
-      : s.role ≡ Lin → (b : Bool) (t' : List ℕ) → (b ≡ false → Undoubted true k.doubt t t' (spanned y s.third d)) → (r : Kept)
-      → r ≡ record { last = s.node; positions = k.positions + 1; reference = k.reference; intervals = k.intervals; doubt = b } → Keeps r t'
-  after_line l b t' u r g = rw g (rw l, rw l u)
+      : s.role ≡ Lin → (b : Bool) (t' : List ℕ) → (b ≡ false → Undoubted true k.doubt t t' (spanned y s.third d))
+      → Keeps (record { last = s.node; positions = k.positions + 1; reference = k.reference; intervals = k.intervals; doubt = b }) t'
+  after_line l b t' u = (rw l, rw l u)
 
   pub after_document
-      : s.role ≡ Bgm → (z : Bool) → z ≡ k.intervals || same (spanned y s.first d) (bytes_of "Z04") → (r : Kept)
-      → r ≡ record { last = s.node; positions = k.positions; reference = k.reference; intervals = z; doubt = k.doubt } → Keeps r t
-  after_document l z e r g = rw g (rw (l, e), rw l (λ h. record { before = h; table = refl }))
+      : s.role ≡ Bgm → (z : Bool) → z ≡ k.intervals || same (spanned y s.first d) (bytes_of "Z04")
+      → Keeps (record { last = s.node; positions = k.positions; reference = k.reference; intervals = z; doubt = k.doubt }) t
+  after_document l z e = (rw (l, e), rw l (λ h. record { before = h; table = refl }))
 
   pub after_beginning
-      : s.role ≡ Unh → (r : Kept)
-      → r ≡ record { last = s.node; positions = k.positions; reference = s.first; intervals = k.intervals; doubt = k.doubt } → Keeps r t
-  after_beginning l r g = rw g (rw l, rw l (λ h. record { before = h; table = refl }))
+      : s.role ≡ Unh → Keeps (record { last = s.node; positions = k.positions; reference = s.first; intervals = k.intervals; doubt = k.doubt }) t
+  after_beginning l = (rw l, rw l (λ h. record { before = h; table = refl }))
 
   pub after_another
-      : is_lin s.role ≡ false → is_unh s.role ≡ false → is_bgm s.role ≡ false → (r : Kept)
-      → r ≡ record { last = s.node; positions = k.positions; reference = k.reference; intervals = k.intervals; doubt = k.doubt } → Keeps r t
-  after_another l u b r g = rw g (rw (l, u, b), rw l (λ h. record { before = h; table = refl }))
+      : is_lin s.role ≡ false → is_unh s.role ≡ false → is_bgm s.role ≡ false
+      → Keeps (record { last = s.node; positions = k.positions; reference = k.reference; intervals = k.intervals; doubt = k.doubt }) t
+  after_another l u b = (rw (l, u, b), rw l (λ h. record { before = h; table = refl }))
 
 -- none of these articles may have come, by the table t
 unfoldable pub clear : List ℕ → List (List ℕ) → Bool

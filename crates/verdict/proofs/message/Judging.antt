@@ -7,12 +7,11 @@ use native.Mathlib.Omega.{arith}
 use lib.Dec.{eqb}
 use lib.ListN.{length, replicate, length-replicate}
 use borrow.Author.Tests.{eq-eqb, ne_eqb}
-use Rattle.cut.specs.declared.scan.Cut.TheVariants as cut
 use Rattle.cut.specs.declared.service.Syntax.{Syntax}
 use Rattle.bytewise.specs.Bytes.{bytes_of, begins, part}
-use Rattle.cut.specs.Calls.{cut_at}
+use Rattle.cut.specs.Calls.{cut_at, some_cut}
 use Rattle.cut.specs.Segments.{Segment, end_of, segments_of, segments_at, last_end}
-use Rattle.messages.specs.Held.{unless, held}
+use Rattle.messages.specs.Held.{held}
 use Rattle.cut.proofs.First.{Cutting, cutting}
 use Rattle.messages.proofs.Holding.{held_alone}
 use Rattle.bytewise.proofs.Parts.{length_part}
@@ -30,31 +29,30 @@ use Rattle.guide.specs.Tree.{one}
 use Rattle.guide.specs.Views.{view_of}
 use Rattle.agree.specs.Articles.{articles_in}
 use Rattle.agree.specs.Positions.{positions_of, first_agreeing}
-use Rattle.agree.specs.declared.first.Agreeing.TheVariants.{Nothing}
+use Rattle.std.specs.Prelude.{None, Result, Ok, Err}
 use Rattle.agree.proofs.Apart.{articles_apart}
 use Rattle.bytewise.proofs.Booleans.{or_assoc}
 use Rattle.page.specs.Reading.{segment_in}
 use Rattle.verdict.specs.declared.answers.Judged.{Judged}
-use Rattle.verdict.specs.declared.answers.Verdict.{Verdict as Told}
-use Rattle.verdict.specs.declared.answers.Verdict.TheVariants.{Refused}
 use Rattle.verdict.specs.declared.kept.Kept.{Kept}
 use Rattle.verdict.specs.declared.message.Walked.{Walked}
-use Rattle.verdict.specs.declared.message.Walked.TheVariants as walked
-use Rattle.verdict.specs.declared.segment.Answered.{Answered}
-use Rattle.verdict.specs.declared.segment.Answered.TheVariants as outcome
 use Rattle.verdict.specs.declared.segment.Found.{Found}
-use Rattle.verdict.specs.Answers.{declared, judged_as}
+use Rattle.verdict.specs.Answers.{told, judged_as}
 use Rattle.verdict.specs.workers.Until.{decide_until, judge_until}
 use Rattle.verdict.specs.Verdicts.{nodes_of, for_intervals, settled, verdict_from}
 use Rattle.verdict.specs.workers.Ends.{NoneAgrees, agreement_at, ended_with, closed_by, fitted, told_by, Closable}
 use Rattle.verdict.specs.workers.Kept.{kept_first, kept_after, UndoubtedBy}
-use Rattle.verdict.specs.workers.Segments.{spanned, noted, is_lin, found_at, answered, cut_answer, placed_answer, CountedOn}
+use Rattle.verdict.specs.workers.Segments.{Blame, spanned, noted, is_lin, found_at, answered, cut_answer, placed_answer, CountedOn}
+use Rattle.verdict.proofs.ended.Ends.{told_with}
 use Rattle.verdict.proofs.segment.Answering.{answered_refused, answered-fits, then_placed, place_placed}
 use Rattle.verdict.proofs.kept.Noting.{Apart, none_apart, still_apart, still_sized}
 use Rattle.verdict.proofs.kept.Remembering.{KeptAfter, kept-after}
 use Rattle.verdict.proofs.roles.RoleTags.{role_lin}
 use Rattle.verdict.proofs.segment.TagGiven.{given-begins}
 use Rattle.verdict.proofs.segment.Texts.{spanned-text}
+
+abbrev pub first_of : Verdict × ℕ → Verdict
+first_of p = p.0
 
 one-few : (b : Bool) → one b ≤ 1
 one-few true = omega arith
@@ -85,10 +83,10 @@ module _ (ed : Edition) (y : Syntax) (d : List ℕ) (start stop : ℕ) where
   until_stop = judge_until y (guide_of ed) (pages_of ed) stop 0 start fresh all
 
   -- what the walk w promises
-  abbrev Promised : Walked → Type 0
+  abbrev pub Promised : Result Walked Judged → Type 0
   Promised w =
-      (length d ≤ stop → closed_by ed y d start w ≡ judged_as (declared (verdict_from y (guide_of ed) (pages_of ed) start all)) (last_end start all))
-      × (Closable ed y d start w × (told_by ed w ≡ declared until_stop))
+      (length d ≤ stop → closed_by ed y d start w ≡ (verdict_from y (guide_of ed) (pages_of ed) start all, last_end start all))
+      × (Closable ed y d start w × (told_by ed w ≡ until_stop))
 
   -- n segments have been judged without a fault, up to the place `at`, ss are the message's others, and t is the table of the articles that came; none of
   -- those judged begins at `stop`
@@ -97,7 +95,7 @@ module _ (ed : Edition) (y : Syntax) (d : List ℕ) (start stop : ℕ) where
     pub until : judge_until y (guide_of ed) (pages_of ed) stop n at (noted y k cs d) ss ≡ until_stop
     pub document : k.intervals || ahead_for ss k cs ≡ for_intervals y (guide_of ed) (nodes_of y (guide_of ed) all) all
     pub size : k.doubt ≡ false → length t ≡ 256
-    pub apart : k.doubt ≡ false → Apart t (articles_in y ss) → first_agreeing y (positions_of all) ≡ Nothing
+    pub apart : k.doubt ≡ false → Apart t (articles_in y ss) → first_agreeing y (positions_of all) ≡ None
     pub closes : last_end at ss ≡ last_end start all
     pub few : n ≤ at
     pub short : n ≤ length d
@@ -160,11 +158,11 @@ module _ (ed : Edition) (y : Syntax) (d : List ℕ) (start stop : ℕ) where
           go false = refl
 
       -- what the walk promises where all segments fit
-      pub all_fit : suc n < 2 ^ 64 → Promised (walked.Fits k n at)
-      all_fit h = (λ far. ap₂ judged_as (ap declared is_ended) is_end, ((h, (none-agree, (alone, is-judged))), ap declared (sym is_until)))
+      pub all_fit : suc n < 2 ^ 64 → Promised (Ok (record { kept = k; segments = n; end = at }))
+      all_fit h = (λ far. ap₂ told_with is_ended is_end, ((h, (none-agree, (alone, is-judged))), sym is_until))
 
     -- the next segment, and the message's others after it, which its end tells
-    module _ (s e : ℕ) (piece : Bool) (cuts : cut_at y d s ≡ cut.Segment s e piece) (later : at ≤ s)
+    module _ (s e : ℕ) (piece : Bool) (cuts : cut_at y d s ≡ some_cut s e piece) (later : at ≤ s)
         (rest : ℕ → List Segment) (next : ss ≡ segment_in s e piece d ∷ rest e) where
       abbrev here : Segment
       here = segment_in s e piece d
@@ -199,7 +197,7 @@ module _ (ed : Edition) (y : Syntax) (d : List ℕ) (start stop : ℕ) where
       unfolding last_end
       more_closes = ap (λ (a : ℕ). last_end a (rest e)) (sym ends) ∙ (rw next at p.closes)
 
-      module _ (r : Answered) (is : r ≡ cut_answer ed y d s (placed_answer ed y d (n + 1) k cs) (cut_at y d s)) where
+      module _ (r : Result Found Blame) (is : r ≡ cut_answer ed y d s (placed_answer ed y d (n + 1) k cs) (cut_at y d s)) where
         is-answer : r ≡ answered ed y d s e answer
         unfolding cut_answer segment_answer
         is-answer =
@@ -207,43 +205,40 @@ module _ (ed : Edition) (y : Syntax) (d : List ℕ) (start stop : ℕ) where
             is ∙ rw (cuts, z)
 
         is_refused
-            : (j m : ℕ) → answer ≡ refused j m → Refused j (n + 1) s (number_of (guide_of ed) m)
-            ≡ declared (verdict_from y (guide_of ed) (pages_of ed) start all)
+            : (j m : ℕ) → answer ≡ refused j m → refuses j (n + 1) s (number_of (guide_of ed) m) ≡ verdict_from y (guide_of ed) (pages_of ed) start all
         unfolding verdict_from settled
         is_refused j m a =
             let z : n + 1 ≡ suc n = omega arith in
             rw (← judged-here, a, z)
 
         pub passed_refused
-            : (j m t : ℕ) → r ≡ outcome.Refused j m t → (v : Told) → v ≡ Refused j (n + 1) s (number_of (guide_of ed) m) → (c : ℕ)
-            → c ≡ last_end t (rest t) → (o : Judged)
-            → o ≡ judged_as v c → Promised (walked.Refused o)
-        passed_refused j m t h v u c l o g =
-            let a = answered_refused ed y d s e answer j m t (sym is-answer ∙ h) in
+            : (b : Blame) → r ≡ Err b → (c : ℕ) → c ≡ last_end b.end (rest b.end) → (o : Judged)
+            → judged_as o ≡ (refuses b.number (n + 1) s (number_of (guide_of ed) b.node), c) → Promised (Err o)
+        passed_refused b h c l o g =
+            let a = answered_refused ed y d s e answer b (sym is-answer ∙ h) in
             let i : n + 1 ≡ suc n = omega arith in (
-              λ far. g ∙ ap₂ judged_as (u ∙ is_refused j m a.0) (l ∙ ap (λ (x : ℕ). last_end x (rest x)) (sym a.1) ∙ more_closes),
-              (tt, ap (λ (x : Judged). x.verdict) g ∙ u ∙ rw (← until_here, a.0, i)),
+              λ far. g ∙ ap₂ told_with (is_refused b.number b.node a.0) (l ∙ ap (λ (x : ℕ). last_end x (rest x)) (sym a.1) ∙ more_closes),
+              (tt, ap first_of g ∙ rw (← until_here, a.0, i)),
             )
 
         -- the walk ends at this one, which fits
         pub passed_stopped
-            : (f : Found) (u : ℕ) → r ≡ outcome.Fits f u → s ≡ stop → (w : Walked)
-            → w ≡ walked.Refused (judged_as (Refused 23 (n + 1) s (number_of (guide_of ed) f.node)) u)
-            → Promised w
-        passed_stopped f u h b w g =
-            let a = answered-fits ed y d s e answer f u (sym is-answer ∙ h) in
+            : (f : Found) → r ≡ Ok f → s ≡ stop → (o : Judged) → told o.verdict ≡ refuses 23 (n + 1) s (number_of (guide_of ed) f.node)
+            → Promised (Err o)
+        passed_stopped f h b o g =
+            let a = answered-fits ed y d s e answer f (sym is-answer ∙ h) in
             let i : n + 1 ≡ suc n = omega arith in
             let some = q.some in
             let fits = q.fits in
-            rw g (λ far. absurd (omega (arith, b)), (tt, rw (← until_here, a.0, eq-eqb s stop b, i)))
+            (λ far. absurd (omega (arith, b)), (tt, g ∙ rw (← until_here, a.0, eq-eqb s stop b, i)))
 
-        module _ (f : Found) (u : ℕ) (taken : r ≡ outcome.Fits f u) (cs' t' : List ℕ) (k' : Kept) (keeps : k' ≡ kept_after y d f k k'.doubt)
+        module _ (f : Found) (taken : r ≡ Ok f) (cs' t' : List ℕ) (k' : Kept) (keeps : k' ≡ kept_after y d f k k'.doubt)
             (notes : k'.doubt ≡ false → UndoubtedBy y d f k t t') (left : CountedOn ed r cs cs') (goes : s ≡ stop → ⊥) where
           abbrev m : ℕ
           m = f.node
 
-          fits : (answer ≡ placed m) × (f ≡ found_at ed y d s e m) × (e ≡ u)
-          fits = answered-fits ed y d s e answer f u (sym is-answer ∙ taken)
+          fits : (answer ≡ placed m) × (f ≡ found_at ed y d s e m)
+          fits = answered-fits ed y d s e answer f (sym is-answer ∙ taken)
 
           is_placed : answer ≡ placed m
           is_placed = fits.0
@@ -255,7 +250,7 @@ module _ (ed : Edition) (y : Syntax) (d : List ℕ) (start stop : ℕ) where
           sound = answer_placed ed y (suc n) (noted y k cs d) here m is_placed
 
           is-left : cs' ≡ counts_after (guide_of ed) (placed m) cs
-          is-left = left f u taken
+          is-left = left f taken
 
           is-kept : remember y (guide_of ed) (pages_of ed) (placed m) here (noted y k cs d) ≡ noted y k' cs' d
           unfolding last_after
@@ -290,7 +285,7 @@ module _ (ed : Edition) (y : Syntax) (d : List ℕ) (start stop : ℕ) where
               let a = notes h in
               still_sized y t t' (spanned y f.third d) here (rest e) (p.size a.before) (is_lin f.role) a.table
 
-          more_apart : k'.doubt ≡ false → Apart t' (articles_in y (rest e)) → first_agreeing y (positions_of all) ≡ Nothing
+          more_apart : k'.doubt ≡ false → Apart t' (articles_in y (rest e)) → first_agreeing y (positions_of all) ≡ None
           more_apart h j =
               let a = notes h in
               p.apart a.before
@@ -317,18 +312,9 @@ module _ (ed : Edition) (y : Syntax) (d : List ℕ) (start stop : ℕ) where
               }
 
           -- behind it, which is further on
-          pub passed_on : Passed (rest u) cs' t' k' u (n + 1) × (at < u) × (u ≤ length d)
+          pub passed_on : Passed (rest f.end) cs' t' k' f.end (n + 1) × (at < f.end) × (f.end ≤ length d)
           passed_on =
               let h = q.some in
-              let f = q.fits in
-              let z = fits.2 in
+              let within = q.fits in
+              let z : e ≡ f.end = sym (ap (λ (x : Found). x.end) fits.1) in
               (subst (λ (x : ℕ). Passed (rest x) cs' t' k' x (n + 1)) z passed_here, omega arith, omega arith)
-
--- a message whose UNT has been judged has no other segment; any other goes on with what its body takes
-module _ (ed : Edition) (y : Syntax) (d : List ℕ) (start stop : ℕ) (l : Bool) (ss : List Segment) (cs t : List ℕ) (k : Kept) (at n : ℕ)
-    (p : Passed ed y d start stop (unless l ss) cs t k at n) where
-  pub none_left : l ≡ true → unless l ss ≡ []
-  none_left h = rw h
-
-  pub passed_more : l ≡ false → Passed ed y d start stop ss cs t k at n
-  passed_more h = rw h at p

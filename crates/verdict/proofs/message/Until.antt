@@ -20,8 +20,9 @@ use Rattle.guide.specs.Views.{view_of}
 use Rattle.guide.proofs.judging.Answering.{free_iff}
 use Rattle.guide.proofs.judging.Verdicts.{accepts_refuses}
 use Rattle.agree.specs.Agreement.{Heading}
-use Rattle.agree.specs.Positions.{Listed, heading_from, positions_from, positions_of, agrees_any, first_after, first_agreeing}
-use Rattle.agree.specs.declared.first.Agreeing.TheVariants.{At}
+use Rattle.agree.proofs.Distinct.{agreeing-same}
+use Rattle.agree.specs.Positions.{Listed, agreeing_at, heading_from, positions_from, positions_of, agrees_any, first_after, first_agreeing}
+use Rattle.std.specs.Prelude.{Some}
 use Rattle.verdict.specs.workers.Until.{judge_until}
 use Rattle.verdict.specs.Verdicts.{nodes_of, node_of}
 
@@ -51,29 +52,31 @@ module _ (y : Syntax) (n : ℕ) (s : Segment) (ss : List Segment) (i p : ℕ) wh
   others = positions_from (n + 1) ss
 
   abbrev Others : Type 0
-  Others = (es : List Heading) → first_after y es others ≡ At i p → Listing (n + 1) ss i p
+  Others = (es : List Heading) → first_after y es others ≡ Some (agreeing_at i p) → Listing (n + 1) ss i p
 
   later : Listing (n + 1) ss i p → Listing n (s ∷ ss) i p
   unfolding StartsAt
   later f = (suc f.0, omega (arith, f.1), f.2)
 
   listed_here
-      : (es : List Heading) (b : Bool) → cond b (At n s.start) (first_after y (es ++ (heading ∷ [])) others) ≡ At i p → Others → Listing n (s ∷ ss) i p
+      : (es : List Heading) (b : Bool)
+      → cond b (Some (agreeing_at n s.start)) (first_after y (es ++ (heading ∷ [])) others) ≡ Some (agreeing_at i p) → Others → Listing n (s ∷ ss) i p
   unfolding StartsAt
   listed_here es true e ih =
-      let a : n ≡ i = cc in
-      let b : s.start ≡ p = cc in
-      (0, omega (arith, a), b)
+      let same = agreeing-same n s.start i p e in
+      (0, omega (arith, same.0), same.1)
   listed_here es false e ih = later (ih (es ++ (heading ∷ [])) e)
 
   listed_step
-      : (es : List Heading) (b : Bool) → first_after y es (cond b (record { number = n; place = s.start; heading = heading } ∷ others) others) ≡ At i p
+      : (es : List Heading) (b : Bool)
+      → first_after y es (cond b (record { number = n; place = s.start; heading = heading } ∷ others) others) ≡ Some (agreeing_at i p)
       → Others → Listing n (s ∷ ss) i p
   unfolding first_after
   listed_step es true e ih = listed_here es (agrees_any y heading es) e ih
   listed_step es false e ih = later (ih es e)
 
-listed_start : (y : Syntax) (ss : List Segment) (n i p : ℕ) (es : List Heading) → first_after y es (positions_from n ss) ≡ At i p → Listing n ss i p
+listed_start : (y : Syntax) (ss : List Segment) (n i p : ℕ) (es : List Heading)
+    → first_after y es (positions_from n ss) ≡ Some (agreeing_at i p) → Listing n ss i p
 unfolding first_after positions_from
 listed_start y [] n i p es h = absurd (let z : ◌≡◌ {A = ℕ} 0 1 = cc in omega arith)
 listed_start y (s ∷ ss) n i p es h = listed_step y n s ss i p es (begins (bytes_of "LIN") s.bytes) h (listed_start y ss (n + 1) i p)
@@ -136,7 +139,8 @@ module _ (y : Syntax) (g : Guide) (pages : ℕ → Page) where
 
   -- the segments of a message that is accepted but for 23: the walk up to the position that agrees with an earlier one tells 23
   pub until_agrees
-      : (ss : List Segment) (k a q e i p : ℕ) → Rising q ss → judge_from y g pages 0 e fresh ss ≡ accepts k a → first_agreeing y (positions_of ss) ≡ At i p
+      : (ss : List Segment) (k a q e i p : ℕ) → Rising q ss → judge_from y g pages 0 e fresh ss ≡ accepts k a
+      → first_agreeing y (positions_of ss) ≡ Some (agreeing_at i p)
       → judge_until y g pages p 0 e fresh ss ≡ refuses 23 i p (number_of g (node_of y g ss i))
   unfolding first_agreeing positions_of node_of nodes_of
   until_agrees ss k a q e i p r v h =

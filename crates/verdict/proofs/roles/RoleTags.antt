@@ -2,12 +2,10 @@
 use Prim.Native.Nat.{ℕ, zero, suc}
 use mathlib.Core.Path.{◌≡◌, refl, sym}
 use mathlib.Core.Bool.{Bool, true, false, cond, not, ◌&&◌, ◌||◌, false≢true}
+use mathlib.Core.Logic.{◌⊎◌, inl, inr}
 use mathlib.Core.List.{List, [], ◌∷◌}
-use lib.Dec.{T, eqb}
+use lib.Dec.{eqb}
 use borrow.Author.Tests.{ne_eqb}
-use denote.Enum.Declared.{tag_of}
-use mir.Val.{has_key}
-use types.Run.{OneOf, miss}
 use Rattle.cut.specs.declared.service.Syntax.{Syntax}
 use Rattle.bytewise.specs.Bytes.{bytes_of}
 use Rattle.cut.specs.Segments.{Segment}
@@ -17,12 +15,12 @@ use Rattle.guide.specs.workers.Judging.{Memory, rule_fault}
 use Rattle.guide.specs.Editions.{guide_of, pages_of}
 use Rattle.guide.specs.Nodes.{Node, Guide, node}
 use Rattle.guide.specs.declared.edition.Edition.{Edition}
+use Rattle.guide.specs.declared.edition.Edition.TheVariants.{D, C}
 use Rattle.guide.specs.Sheet.{is_tag}
 use Rattle.bytewise.proofs.Booleans.{and_both}
 use Rattle.verdict.specs.declared.roles.Role.{Role}
 use Rattle.verdict.specs.declared.roles.Role.TheVariants.{Lin, Unt, Unh, Bgm, Other}
 use Rattle.verdict.specs.workers.Segments.{role_of, is_lin, is_unt, is_unh, is_bgm, rule_by}
-use Rattle.verdict.specs.contracts.roles.Role.{the_type}
 
 -- whether a row has none of the four tags
 abbrev bare : Node → Bool
@@ -55,54 +53,44 @@ is-other ed n h =
     bare_picked (is_tag (guide_of ed) (bytes_of "LIN") n) (is_tag (guide_of ed) (bytes_of "UNT") n) (is_tag (guide_of ed) (bytes_of "UNH") n)
     (is_tag (guide_of ed) (bytes_of "BGM") n) h
 
--- n is none of five numbers, as the last arm of a match has it
-module _ (a b c e f n : ℕ) (none : (((((Unit {0} × (n ≡ a → ⊥)) × (n ≡ b → ⊥)) × (n ≡ c → ⊥)) × (n ≡ e → ⊥)) × (n ≡ f → ⊥))) where
-  abbrev one_of : ℕ → Bool
-  one_of m = eqb m a || (eqb m b || (eqb m c || (eqb m e || eqb m f)))
+-- the rows that a match names: one of an edition, one of two, and one of both editions
+pub role-at : (ed t : Edition) (n m : ℕ) (r : Role) → ed ≡ t → n ≡ m → r ≡ role_of t m → r ≡ role_of ed n
+role-at ed t n m r e k h = rw (e, k) h
 
-  pub other-by : (ed : Edition) → bare_but one_of (guide_of ed) ≡ true → Other ≡ role_of ed n
-  other-by ed t =
-      let k : one_of n ≡ false = rw (
-        ne_eqb n a none.0.0.0.0.1,
-        ne_eqb n b none.0.0.0.1,
-        ne_eqb n c none.0.0.1,
-        ne_eqb n e none.0.1,
-        ne_eqb n f none.1,
-      ) in
-      is-other ed n (bare-at one_of (guide_of ed) n t k)
+pub role-either
+    : (ed t : Edition) (n a b : ℕ) (r : Role) → ed ≡ t → (n ≡ a) ⊎ (n ≡ b) → r ≡ role_of t a → r ≡ role_of t b → r ≡ role_of ed n
+role-either ed t n a b r e (inl k) h j = rw (e, k) h
+role-either ed t n a b r e (inr k) h j = rw (e, k) j
 
--- a role among those of an arm of a match, which are told by their places in the enum
-module _ (ks : List ℕ) where
-  abbrev Among : Role → Type 0
-  Among r = OneOf ks (tag_of the_type r)
+pub role-both : (ed : Edition) (n m : ℕ) (r : Role) → n ≡ m → r ≡ role_of D m → r ≡ role_of C m → r ≡ role_of ed n
+role-both D n m r k h j = rw k h
+role-both C n m r k h j = rw k j
 
-  pub not-lin : T (not (has_key ks 0)) → (r : Role) → Among r → is_lin r ≡ false
-  not-lin t Lin h = absurd (miss ks 0 t h)
-  not-lin t Unt h = refl
-  not-lin t Unh h = refl
-  not-lin t Bgm h = refl
-  not-lin t Other h = refl
+-- ... and any other row
+abbrev one_of : ℕ → Bool
+one_of m = eqb m 1 || (eqb m 2 || (eqb m 16 || (eqb m 23 || (eqb m 15 || (eqb m 21 || (eqb m 26 || eqb m 24))))))
 
-  pub not_unt : T (not (has_key ks 1)) → (r : Role) → Among r → is_unt r ≡ false
-  not_unt t Lin h = refl
-  not_unt t Unt h = absurd (miss ks 1 t h)
-  not_unt t Unh h = refl
-  not_unt t Bgm h = refl
-  not_unt t Other h = refl
+pub other-by
+    : (n : ℕ)
+    → (((((Unit {0} × (n ≡ 1 → ⊥)) × (n ≡ 2 → ⊥)) × ((n ≡ 16) ⊎ (n ≡ 23) → ⊥)) × ((n ≡ 15) ⊎ (n ≡ 21) → ⊥)) × (n ≡ 26 → ⊥)) × (n ≡ 24 → ⊥)
+    → bare_but one_of (guide_of D) ≡ true → bare_but one_of (guide_of C) ≡ true → (ed : Edition) → Other ≡ role_of ed n
+other-by n none d c ed = is-other ed n (go ed)
+  where
+    k : one_of n ≡ false
+    k = rw (
+      ne_eqb n 1 none.0.0.0.0.0.1,
+      ne_eqb n 2 none.0.0.0.0.1,
+      ne_eqb n 16 (λ e. none.0.0.0.1 (inl e)),
+      ne_eqb n 23 (λ e. none.0.0.0.1 (inr e)),
+      ne_eqb n 15 (λ e. none.0.0.1 (inl e)),
+      ne_eqb n 21 (λ e. none.0.0.1 (inr e)),
+      ne_eqb n 26 none.0.1,
+      ne_eqb n 24 none.1,
+    )
 
-  pub not_unh : T (not (has_key ks 2)) → (r : Role) → Among r → is_unh r ≡ false
-  not_unh t Lin h = refl
-  not_unh t Unt h = refl
-  not_unh t Unh h = absurd (miss ks 2 t h)
-  not_unh t Bgm h = refl
-  not_unh t Other h = refl
-
-  pub not_bgm : T (not (has_key ks 3)) → (r : Role) → Among r → is_bgm r ≡ false
-  not_bgm t Lin h = refl
-  not_bgm t Unt h = refl
-  not_bgm t Unh h = refl
-  not_bgm t Bgm h = absurd (miss ks 3 t h)
-  not_bgm t Other h = refl
+    go : (t : Edition) → bare (node (guide_of t) n) ≡ true
+    go D = bare-at one_of (guide_of D) n d k
+    go C = bare-at one_of (guide_of C) n c k
 
 -- a node has one tag
 one_tag : (ed : Edition) (n : ℕ) (s t : List ℕ) → same s t ≡ false → is_tag (guide_of ed) s n ≡ true → is_tag (guide_of ed) t n ≡ false

@@ -1,6 +1,6 @@
 -- What comes of one segment: one law for each answer of the workers, with the counts that it leaves; and what an answer says.
 use Prim.Native.Nat.{ℕ, zero, suc, ◌-◌, ◌≤◌, ◌<◌}
-use mathlib.Core.Path.{◌≡◌, refl, sym, ◌∙◌, ap}
+use mathlib.Core.Path.{◌≡◌, refl, sym, ◌∙◌, ap, ap₂}
 use mathlib.Core.Bool.{Bool, true, false, not, false≢true}
 use mathlib.Core.List.{List, [], ◌∷◌}
 use native.Mathlib.Omega.{arith}
@@ -8,10 +8,10 @@ use lib.Dec.{ltb}
 use lib.ListN.{length}
 use borrow.Author.Tests.{lt-ltb, le-ltb}
 use Rattle.bytewise.specs.Bytes.{part}
-use Rattle.cut.specs.Calls.{cut_at}
+use Rattle.cut.specs.Calls.{cut_at, some_cut}
 use Rattle.cut.specs.Segments.{Segment}
 use Rattle.cut.specs.declared.scan.Cut.{Cut}
-use Rattle.cut.specs.declared.scan.Cut.TheVariants as cut
+use Rattle.std.specs.Prelude.{Option, Some, None, Result, Ok, Err}
 use Rattle.cut.specs.declared.service.Syntax.{Syntax}
 use Rattle.cut.proofs.First.{cutting}
 use Rattle.bytewise.proofs.Parts.{length_part}
@@ -28,42 +28,46 @@ use Rattle.guide.specs.declared.edition.Edition.{Edition}
 use Rattle.guide.specs.Views.{view_of}
 use Rattle.guide.proofs.ViewCuts.{view_cut}
 use Rattle.bytewise.proofs.Booleans.{and_both}
-use Rattle.judge.specs.Answers.{answer_of}
-use Rattle.judge.specs.declared.placing.Placed.{Placed}
-use Rattle.judge.specs.declared.placing.Placed.TheVariants as told
-use Rattle.judge.proofs.Face.{answer-at, answer_refused}
 use Rattle.page.specs.Examined.{examined_by}
-use Rattle.page.specs.Reading.{segment_in, read_to, read_fault, reading_by, reading_of}
+use Rattle.guide.specs.Reasons.{number_of_reason}
+use Rattle.page.specs.Reading.{segment_in, Numbered, numbered_at, numbers_of, read_to, read_fault, reading_by, reading_of}
+use Rattle.page.specs.declared.reads.Faulty.{Faulty}
 use Rattle.page.specs.declared.reads.Reading.{Reading}
 use Rattle.page.proofs.Readings.{Late, page_late, bytes_early, Sound}
 use Rattle.verdict.specs.declared.kept.Kept.{Kept}
 use Rattle.verdict.specs.declared.roles.Role.{Role}
-use Rattle.verdict.specs.declared.segment.Answered.{Answered}
-use Rattle.verdict.specs.declared.segment.Answered.TheVariants.{Fits, Refused}
 use Rattle.verdict.specs.declared.segment.Found.{Found}
-use Rattle.verdict.specs.workers.Segments.{noted, role_of, found_at, answered, cut_answer, placed_answer, CountedOn}
+use Rattle.verdict.specs.workers.Segments.{noted, role_of, found_at, Blame, blamed_at, answered, cut_answer, placed_answer, CountedOn}
+
+abbrev Told : Type 0
+Told = Result Found Blame
+
+-- two answers are the same only if what they tell is
+same-found : (f g : Found) → ◌≡◌ {A = Told} (Ok f) (Ok g) → f ≡ g
+same-found f g h = cc
+
+same-blamed : (b c : Blame) → ◌≡◌ {A = Told} (Err b) (Err c) → b ≡ c
+same-blamed b c h = cc
 
 -- what an answer says
 module _ (ed : Edition) (y : Syntax) (d : List ℕ) (start end : ℕ) where
-  pub answered_refused : (a : Answer) (k n e : ℕ) → answered ed y d start end a ≡ Refused k n e → (a ≡ refused k n) × (end ≡ e)
+  pub answered_refused : (a : Answer) (b : Blame) → answered ed y d start end a ≡ Err b → (a ≡ refused b.number b.node) × (end ≡ b.end)
   unfolding answered
-  answered_refused (placed m) k n e h =
+  answered_refused (placed m) b h =
       let z : ◌≡◌ {A = ℕ} 0 1 = cc in
       absurd (omega arith)
-  answered_refused (refused j m) k n e h =
-      let a : j ≡ k = cc in
-      let b : m ≡ n = cc in
-      (rw (a, b), cc)
+  answered_refused (refused j m) b h =
+      let t : blamed_at j m end ≡ b = same-blamed _ _ h in
+      (ap₂ refused (ap (λ (x : Blame). x.number) t) (ap (λ (x : Blame). x.node) t), ap (λ (x : Blame). x.end) t)
 
   pub answered-fits
-      : (a : Answer) (f : Found) (e : ℕ) → answered ed y d start end a ≡ Fits f e
-      → (a ≡ placed f.node) × (f ≡ found_at ed y d start end f.node) × (end ≡ e)
+      : (a : Answer) (f : Found) → answered ed y d start end a ≡ Ok f → (a ≡ placed f.node) × (f ≡ found_at ed y d start end f.node)
   unfolding answered
-  answered-fits (placed n) f e h =
-      let t : found_at ed y d start end n ≡ f = cc in
+  answered-fits (placed n) f h =
+      let t : found_at ed y d start end n ≡ f = same-found _ _ h in
       let m : n ≡ f.node = ap (λ (x : Found). x.node) t in
-      (ap placed m, sym t ∙ ap (found_at ed y d start end) m, cc)
-  answered-fits (refused k n) f e h =
+      (ap placed m, sym t ∙ ap (found_at ed y d start end) m)
+  answered-fits (refused k n) f h =
       let z : ◌≡◌ {A = ℕ} 0 1 = cc in
       absurd (omega arith)
 
@@ -90,48 +94,51 @@ module _ (ed : Edition) (y : Syntax) (d : List ℕ) (start : ℕ) where
   bytes e p = bytes_fault y (segment_in start e p d)
 
   -- an answer that fits was given to some segment
-  fits-node : (f : Segment → Answer) (c : Cut) (g : Found) (e : ℕ) → cut_answer ed y d start f c ≡ Fits g e → (s : Segment) × (f s ≡ placed g.node)
+  fits-node : (f : Segment → Answer) (c : Option Cut) (g : Found) → cut_answer ed y d start f c ≡ Ok g → (s : Segment) × (f s ≡ placed g.node)
   unfolding cut_answer
-  fits-node f cut.Nothing g e h =
+  fits-node f None g h =
       let z : ◌≡◌ {A = ℕ} 0 1 = cc in
       absurd (omega arith)
-  fits-node f (cut.Segment s k p) g e h =
-      (segment_in start k p d, (place_placed ed y (bytes k p) _ _ (answered-fits ed y d start k _ g e h).0).1)
+  fits-node f (Some k) g h =
+      (segment_in start k.end k.piece d, (place_placed ed y (bytes k.end k.piece) _ _ (answered-fits ed y d start k.end _ g h).0).1)
 
   -- what is said of a segment counts only where its bytes have no fault
   same_cut
-      : (f g : Segment → Answer) (c : Cut)
-      → ((s e : ℕ) (p : Bool) → c ≡ cut.Segment s e p → bytes e p ≡ 0 → f (segment_in start e p d) ≡ g (segment_in start e p d))
+      : (f g : Segment → Answer) (c : Option Cut)
+      → ((s e : ℕ) (p : Bool) → c ≡ some_cut s e p → bytes e p ≡ 0 → f (segment_in start e p d) ≡ g (segment_in start e p d))
       → cut_answer ed y d start f c ≡ cut_answer ed y d start g c
   unfolding cut_answer
-  same_cut f g cut.Nothing h = refl
-  same_cut f g (cut.Segment s e p) h = ap (answered ed y d start e) (go (bytes e p) (h s e p refl))
+  same_cut f g None h = refl
+  same_cut f g (Some k) h = ap (answered ed y d start k.end) (go (bytes k.end k.piece) (h k.start k.end k.piece refl))
     where
+      here : Segment
+      here = segment_in start k.end k.piece d
+
       go
-          : (b : ℕ) → (b ≡ 0 → f (segment_in start e p d) ≡ g (segment_in start e p d))
-          → then_place y (guide_of ed) (pages_of ed) b (f (segment_in start e p d)) ≡ then_place y (guide_of ed) (pages_of ed) b (g (segment_in start e p d))
+          : (b : ℕ) → (b ≡ 0 → f here ≡ g here)
+          → then_place y (guide_of ed) (pages_of ed) b (f here) ≡ then_place y (guide_of ed) (pages_of ed) b (g here)
       go zero h = h refl
       go (suc b) h = refl
 
   -- a segment that placing refuses
-  module _ (k n : ℕ) (c : Cut) (cuts : c ≡ cut_at y d start) where
-    abbrev Misplaced : Answered → Type 0
-    Misplaced r = r ≡ cut_answer ed y d start (λ _. refused k n) (cut_at y d start)
+  module _ (k n : ℕ) (c : Option Cut) (cuts : c ≡ cut_at y d start) where
+    abbrev Displaced : Told → Type 0
+    Displaced r = r ≡ cut_answer ed y d start (λ _. refused k n) (cut_at y d start)
 
-    pub misplaced_nothing : c ≡ cut.Nothing → Misplaced (Refused 12 0 start)
+    pub misplaced_nothing : c ≡ None → Displaced (Err (blamed_at 12 0 start))
     unfolding cut_answer
     misplaced_nothing h = rw (← cuts, h)
 
-    module _ (s e : ℕ) (p : Bool) (at : c ≡ cut.Segment s e p) (f : ℕ) (is : f ≡ bytes e p) where
-      pub misplaced_bytes : (f ≡ 0 → ⊥) → Misplaced (Refused f 0 e)
+    module _ (t : Cut) (at : c ≡ Some t) (f : ℕ) (is : f ≡ bytes t.end t.piece) where
+      pub misplaced_bytes : 0 < f → Displaced (Err (blamed_at f 0 t.end))
       unfolding cut_answer answered
       misplaced_bytes h = rw (← cuts, at, ← is) (go f h)
         where
-          go : (b : ℕ) → (b ≡ 0 → ⊥) → Refused b 0 e ≡ answered ed y d start e (then_place y (guide_of ed) (pages_of ed) b (refused k n))
-          go zero h = absurd (h refl)
+          go : (b : ℕ) → 0 < b → Err (blamed_at b 0 t.end) ≡ answered ed y d start t.end (then_place y (guide_of ed) (pages_of ed) b (refused k n))
+          go zero h = absurd (omega arith)
           go (suc b) h = refl
 
-      pub misplaced_place : f ≡ 0 → Misplaced (Refused k n e)
+      pub misplaced_place : f ≡ 0 → Displaced (Err (blamed_at k n t.end))
       unfolding cut_answer answered
       misplaced_place h = rw (← cuts, at, ← is, h)
 
@@ -140,54 +147,67 @@ module _ (ed : Edition) (y : Syntax) (d : List ℕ) (start : ℕ) where
     abbrev asked : Segment → Answer
     asked s = then_content y (guide_of ed) (pages_of ed) i (noted y kept [] d) s (placed n)
 
-    abbrev pub Contents : Answered → Type 0
+    abbrev pub Contents : Told → Type 0
     Contents r = r ≡ cut_answer ed y d start asked (cut_at y d start)
 
-    module _ (x : Reading) where
+    -- the fault that was read
+    module _ (x : Faulty) where
+      abbrev number : ℕ
+      number = number_of_reason x.reason
+
+      abbrev blamed : Told
+      blamed = Err (blamed_at number (pickℕ (ltb number 13) 0 n) x.end)
+
+      same-read : (k e : ℕ) → ◌≡◌ {A = Result Reading Numbered} (Err (numbered_at number x.end)) (Err (numbered_at k e))
+          → (number ≡ k) × (x.end ≡ e)
+      same-read k e h =
+          let t : numbered_at number x.end ≡ numbered_at k e = cc in
+          (ap (λ (z : Numbered). z.number) t, ap (λ (z : Numbered). z.end) t)
+
       by_faults
-          : (e b f o : ℕ) (s t : Span) → b < 13 → Late f → (x.number ≡ 0 → ⊥) → x ≡ read_to e (examined_by (or_else b f) s t start)
-          → Refused x.number (pickℕ (ltb x.number 13) 0 n) x.end
-          ≡ answered ed y d start e (then_place y (guide_of ed) (pages_of ed) b (unless_fault y (guide_of ed) (pages_of ed) (or_else f o) n))
+          : (e b f o : ℕ) (s t : Span) → b < 13 → Late f → Err (numbered_at number x.end) ≡ read_to e (examined_by (or_else b f) s t)
+          → blamed ≡ answered ed y d start e (then_place y (guide_of ed) (pages_of ed) b (unless_fault y (guide_of ed) (pages_of ed) (or_else f o) n))
       unfolding examined_by answered
-      by_faults e zero zero o s t h k u r = absurd (u (ap (λ (z : Reading). z.number) r))
-      by_faults e zero (suc f) o s t h k u r =
+      by_faults e zero zero o s t h k r = absurd (let z : ◌≡◌ {A = ℕ} 0 1 = cc in omega arith)
+      by_faults e zero (suc f) o s t h k r =
           let l : 13 ≤ suc f = k (λ z. omega arith) in
-          rw (r, le-ltb (suc f) 13 l)
-      by_faults e (suc b) f o s t h k u r = rw (r, lt-ltb (suc b) 13 h)
+          let q = same-read (suc f) e r in
+          rw (q.0, q.1, le-ltb (suc f) 13 l)
+      by_faults e (suc b) f o s t h k r =
+          let q = same-read (suc b) e r in
+          rw (q.0, q.1, lt-ltb (suc b) 13 h)
 
-      -- the fault that was read
-      pub content_read : x ≡ reading_of y ed n d start → (x.number ≡ 0 → ⊥) → Contents (Refused x.number (pickℕ (ltb x.number 13) 0 n) x.end)
-      unfolding reading_of reading_by read_fault examined_by cut_answer content_fault answered
-      content_read reads u = go (cut_at y d start) reads
+      pub content_read : numbers_of (Err x) ≡ reading_of y ed n d start → Contents blamed
+      unfolding reading_of reading_by read_fault cut_answer content_fault answered
+      content_read reads = go (cut_at y d start) reads
         where
-          go
-              : (c : Cut) → x ≡ reading_by y ed n d start c
-              → Refused x.number (pickℕ (ltb x.number 13) 0 n) x.end ≡ cut_answer ed y d start asked c
-          go cut.Nothing r = rw r
-          go (cut.Segment s e p) r =
-              by_faults e (bytes e p) (page_fault y (pages_of ed n) (part start e d))
-              (rule_fault y (guide_of ed) (pages_of ed) i (noted y kept [] d) n (segment_in start e p d))
-              (component_at y d start e 1 0) (component_at y d start e 3 0) (bytes_early y (segment_in start e p d))
-              (page_late y (pages_of ed n) (part start e d)) u r
+          go : (c : Option Cut) → Err (numbered_at number x.end) ≡ reading_by y ed n d start c → blamed ≡ cut_answer ed y d start asked c
+          go None r = let q = same-read 12 start r in rw (q.0, q.1)
+          go (Some k) r =
+              by_faults k.end (bytes k.end k.piece) (page_fault y (pages_of ed n) (part start k.end d))
+              (rule_fault y (guide_of ed) (pages_of ed) i (noted y kept [] d) n (segment_in start k.end k.piece d))
+              (component_at y d start k.end 1 0) (component_at y d start k.end 3 0) (bytes_early y (segment_in start k.end k.piece d))
+              (page_late y (pages_of ed n) (part start k.end d)) r
 
-      -- none, and then 21 or 22
-      module _ (q : Sound y ed n d start x) (w : ℕ)
-          (is-content : w ≡ content_fault y (guide_of ed) (pages_of ed) i (noted y kept [] d) n (segment_in start x.end q.piece d)) where
-        pub content_refused : (w ≡ 0 → ⊥) → Contents (Refused w n x.end)
-        unfolding cut_answer answered
-        content_refused k = rw (q.cut, q.bytes, ← is-content) (go w k)
-          where
-            go : (v : ℕ) → (v ≡ 0 → ⊥) → Refused v n x.end ≡ answered ed y d start x.end (unless_fault y (guide_of ed) (pages_of ed) v n)
-            go zero k = absurd (k refl)
-            go (suc v) k = refl
+    -- none, and then 21 or 22
+    module _ (x : Reading) (q : Sound y ed n d start x) (w : ℕ)
+        (is-content : w ≡ content_fault y (guide_of ed) (pages_of ed) i (noted y kept [] d) n (segment_in start x.end q.piece d)) where
+      pub content_refused : 0 < w → Contents (Err (blamed_at w n x.end))
+      unfolding cut_answer answered
+      content_refused k = rw (q.cut, q.bytes, ← is-content) (go w k)
+        where
+          go : (v : ℕ) → 0 < v → Err (blamed_at v n x.end) ≡ answered ed y d start x.end (unless_fault y (guide_of ed) (pages_of ed) v n)
+          go zero k = absurd (omega arith)
+          go (suc v) k = refl
 
-        pub content-fits : w ≡ 0 → (r : Role) → r ≡ role_of ed n → Contents (Fits (record { node = n; role = r; first = x.first; third = x.third }) x.end)
-        unfolding cut_answer answered
-        content-fits z r o = rw (q.cut, q.bytes, ← is-content, z, o, q.first, q.third)
+      pub content-fits : w ≡ 0 → (r : Role) → r ≡ role_of ed n
+          → Contents (Ok (record { node = n; role = r; first = x.first; third = x.third; end = x.end }))
+      unfolding cut_answer answered
+      content-fits z r o = rw (q.cut, q.bytes, ← is-content, z, o, q.first, q.third)
 
-    pub content-node : (r : Answered) → Contents r → (f : Found) (e : ℕ) → r ≡ Fits f e → placed n ≡ placed f.node
-    content-node r h f e k =
-        let s = fits-node asked _ f e (sym h ∙ k) in
+    pub content-node : (r : Told) → Contents r → (f : Found) → r ≡ Ok f → placed n ≡ placed f.node
+    content-node r h f k =
+        let s = fits-node asked _ f (sym h ∙ k) in
         then_placed ed y i (noted y kept [] d) s.0 (placed n) f.node s.1
 
 -- a segment without a fault of its bytes has the three bytes of a tag
@@ -212,7 +232,7 @@ module _ (ed : Edition) (y : Syntax) (d : List ℕ) (start i : ℕ) (kept : Kept
   sought = place (guide_of ed) (view_of y (part start (length d) d)) kept.last cs
 
   -- what is wanted of the answer r and the counts cs'
-  pub record Answers (r : Answered) (cs' : List ℕ) : Type 0 where
+  pub record Answers (r : Told) (cs' : List ℕ) : Type 0 where
     pub answer : r ≡ cut_answer ed y d start (placed_answer ed y d i kept cs) (cut_at y d start)
     pub counts : CountedOn ed r cs cs'
 
@@ -227,7 +247,7 @@ module _ (ed : Edition) (y : Syntax) (d : List ℕ) (start i : ℕ) (kept : Kept
       go false true true h = refl
 
   same_view
-      : (s e : ℕ) (p : Bool) → cut_at y d start ≡ cut.Segment s e p → bytes ed y d start e p ≡ 0 → view_of y (part start (length d) d)
+      : (s e : ℕ) (p : Bool) → cut_at y d start ≡ some_cut s e p → bytes ed y d start e p ≡ 0 → view_of y (part start (length d) d)
       ≡ view_of y (part start e d)
   same_view s e p c b =
       let q = cutting y d start false s e p c in
@@ -235,31 +255,33 @@ module _ (ed : Edition) (y : Syntax) (d : List ℕ) (start i : ℕ) (kept : Kept
       let n = bytes_long e p b in
       view_cut y d start s e p c (omega arith)
 
-  module _ (p : Placed) (taken : p ≡ answer_of sought) (cs' : List ℕ) (left : cs' ≡ counts_after (guide_of ed) sought cs) where
+  module _ (cs' : List ℕ) (left : cs' ≡ counts_after (guide_of ed) sought cs) where
     -- placing refuses
     pub place_refused
-        : (k n : ℕ) → p ≡ told.Refused k n → (r : Answered) → r ≡ cut_answer ed y d start (λ _. refused k n) (cut_at y d start) → Answers r cs'
-    place_refused k n h r m =
-        let a = answer_refused sought k n (sym taken ∙ h) in
+        : (k n : ℕ) → refused k n ≡ sought → (r : Told) → r ≡ cut_answer ed y d start (λ _. refused k n) (cut_at y d start) → Answers r cs'
+    place_refused k n a r m =
         record {
           answer =
               m
               ∙ same_cut ed y d start (λ _. refused k n) (placed_answer ed y d i kept cs) (cut_at y d start)
-              (λ s e p c b. rw (← same_view s e p c b, a));
+              (λ s e p c b. rw (← same_view s e p c b, ← a));
           counts =
-              λ f e g. absurd (let s = fits-node ed y d start (λ _. refused k n) (cut_at y d start) f e (sym m ∙ g) in let z : ◌≡◌ {A = ℕ} 0
-              1 = cc in omega arith);
+              λ f g.
+              absurd (
+              let s = fits-node ed y d start (λ _. refused k n) (cut_at y d start) f (sym m ∙ g) in
+              let z : ◌≡◌ {A = ℕ} 0 1 = cc in
+              omega arith
+              );
         }
 
     -- placing gives it the node n
-    pub place-answered : (n : ℕ) → p ≡ told.At n → (r : Answered) → Contents ed y d start i n kept r → Answers r cs'
+    pub place-answered : (n : ℕ) → placed n ≡ sought → (r : Told) → Contents ed y d start i n kept r → Answers r cs'
     unfolding content_fault rule_fault end_fault line_fault
-    place-answered n h r m =
-        let a = answer-at sought n (sym taken ∙ h) in
+    place-answered n a r m =
         record {
           answer =
               m
               ∙ same_cut ed y d start (asked ed y d start i n kept) (placed_answer ed y d i kept cs) (cut_at y d start)
-              (λ s e p c b. rw (← same_view s e p c b, a));
-          counts = λ f e g. left ∙ ap (λ (b : Answer). counts_after (guide_of ed) b cs) (a ∙ content-node ed y d start i n kept r m f e g);
+              (λ s e p c b. rw (← same_view s e p c b, ← a));
+          counts = λ f g. left ∙ ap (λ (b : Answer). counts_after (guide_of ed) b cs) (sym a ∙ content-node ed y d start i n kept r m f g);
         }

@@ -1,7 +1,6 @@
 -- What the workers promise each other that judge one segment.
-use Rattle.std.specs.Prelude.{ℕ, suc, ◌≡◌, Bool, true, false, cond, List, []}
+use Rattle.std.specs.Prelude.{ℕ, suc, ◌≡◌, Bool, true, false, cond, List, [], Option, Some, None, Result, Ok, Err}
 use Rattle.cut.specs.declared.scan.Cut.{Cut}
-use Rattle.cut.specs.declared.scan.Cut.TheVariants as cut
 use Rattle.cut.specs.declared.service.Syntax.{Syntax}
 use Rattle.bytewise.specs.Bytes.{bytes_of}
 use Rattle.cut.specs.Calls.{cut_at}
@@ -11,6 +10,7 @@ use Rattle.plain.specs.Plain.{decoded}
 use Rattle.element.specs.declared.components.Span.{Span}
 use Rattle.guide.specs.Answers.{Answer, placed, refused}
 use Rattle.guide.specs.Choices.{pickℕ}
+use Rattle.guide.specs.Reasons.{number_of_reason}
 use Rattle.guide.specs.workers.Judging.{Memory, bytes_fault, end_fault, line_fault, then_content, then_place}
 use Rattle.guide.specs.workers.Placing.{place, counts_after}
 use Rattle.guide.specs.Views.{view_of}
@@ -21,8 +21,7 @@ use Rattle.page.specs.Reading.{segment_in}
 use Rattle.verdict.specs.declared.kept.Kept.{Kept}
 use Rattle.verdict.specs.declared.roles.Role.{Role}
 use Rattle.verdict.specs.declared.roles.Role.TheVariants.{Lin, Unt, Unh, Bgm, Other}
-use Rattle.verdict.specs.declared.segment.Answered.{Answered}
-use Rattle.verdict.specs.declared.segment.Answered.TheVariants.{Fits, Refused}
+use Rattle.verdict.specs.declared.segment.Blamed.{Blamed}
 use Rattle.verdict.specs.declared.segment.Found.{Found}
 
 -- the bytes of a span, releases removed
@@ -87,19 +86,34 @@ rule_by ed y i m r s =
 
 -- the segment from a place up to another that is given the node n
 abbrev pub found_at : Edition → Syntax → List ℕ → ℕ → ℕ → ℕ → Found
-found_at ed y d a e n = record { node = n; role = role_of ed n; first = component_at y d a e 1 0; third = component_at y d a e 3 0 }
+found_at ed y d a e n =
+    record { node = n; role = role_of ed n; first = component_at y d a e 1 0; third = component_at y d a e 3 0; end = e }
+
+-- the refusal of a segment as it is numbered: its first fault, the row of the node that is named, and the byte after it
+pub record Blame : Type 0 where
+  pub number : ℕ
+  pub node : ℕ
+  pub end : ℕ
+
+abbrev pub blamed_at : ℕ → ℕ → ℕ → Blame
+blamed_at k n e = record { number = k; node = n; end = e }
+
+-- what is told of a segment, with the number in place of the reason
+abbrev pub told_of : Result Found Blamed → Result Found Blame
+told_of (Ok f) = Ok f
+told_of (Err b) = Err (blamed_at (number_of_reason b.reason) b.node b.end)
 
 -- the answer for that segment: its node, with what goes with it, or the refusal; and its end
-unfoldable pub answered : Edition → Syntax → List ℕ → ℕ → ℕ → Answer → Answered
-answered ed y d a e (placed n) = Fits (found_at ed y d a e n) e
-answered ed y d a e (refused k n) = Refused k n e
+unfoldable pub answered : Edition → Syntax → List ℕ → ℕ → ℕ → Answer → Result Found Blame
+answered ed y d a e (placed n) = Ok (found_at ed y d a e n)
+answered ed y d a e (refused k n) = Err (blamed_at k n e)
 
 -- the answer for the segment that is cut at a place: 12, 10 or 11, or what f says of it; without a byte it is 12
-unfoldable pub cut_answer : Edition → Syntax → List ℕ → ℕ → (Segment → Answer) → Cut → Answered
-cut_answer ed y d a f cut.Nothing = Refused 12 0 a
-cut_answer ed y d a f (cut.Segment s e p) =
-    answered ed y d a e
-    (then_place y (guide_of ed) (pages_of ed) (bytes_fault y (segment_in a e p d)) (f (segment_in a e p d)))
+unfoldable pub cut_answer : Edition → Syntax → List ℕ → ℕ → (Segment → Answer) → Option Cut → Result Found Blame
+cut_answer ed y d a f None = Err (blamed_at 12 0 a)
+cut_answer ed y d a f (Some c) =
+    answered ed y d a c.end
+    (then_place y (guide_of ed) (pages_of ed) (bytes_fault y (segment_in a c.end c.piece d)) (f (segment_in a c.end c.piece d)))
 
 -- what comes of segment i without a fault of its bytes: placing, and then its components and the rules; the counts are cs
 abbrev pub placed_answer : Edition → Syntax → List ℕ → ℕ → Kept → List ℕ → Segment → Answer
@@ -107,11 +121,11 @@ placed_answer ed y d i k cs s =
     then_content y (guide_of ed) (pages_of ed) i (noted y k cs d) s (place (guide_of ed) (view_of y s.bytes) k.last cs)
 
 -- where a segment fits, the counts cs before it have become cs'
-abbrev pub CountedOn : Edition → Answered → List ℕ → List ℕ → Type 0
-CountedOn ed r cs cs' = (f : Found) (e : ℕ) → r ≡ Fits f e → cs' ≡ counts_after (guide_of ed) (placed f.node) cs
+abbrev pub CountedOn : Edition → Result Found Blame → List ℕ → List ℕ → Type 0
+CountedOn ed r cs cs' = (f : Found) → r ≡ Ok f → cs' ≡ counts_after (guide_of ed) (placed f.node) cs
 
 -- the answer for the segment at a place, where f says what comes of it without a fault of its bytes
-abbrev pub answer_at : Edition → Syntax → List ℕ → ℕ → (Segment → Answer) → Answered
+abbrev pub answer_at : Edition → Syntax → List ℕ → ℕ → (Segment → Answer) → Result Found Blame
 answer_at ed y d a f = cut_answer ed y d a f (cut_at y d a)
 
 -- what comes of segment i without a fault of its bytes, once it has the node n

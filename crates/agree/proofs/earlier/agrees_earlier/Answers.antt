@@ -1,38 +1,17 @@
--- `agree::earlier::agrees_earlier` meets its contract. The loop's invariant: the segments that are left give the answer.
-use mathlib.Core.Path.{refl, sym, ◌∙◌}
-use Rattle.cut.proofs.Ahead.{CutAhead, cut_ahead, none_ahead}
-use Rattle.agree.proofs.earlier.Search.{seeks_agree, any_none, any_found, any_on, any_out}
-use borrow.Author.Rules.{rules}
+-- `agree::earlier::agrees_earlier` meets its contract.
+use Rattle.std.proofs.Common.{rules, ◌∙◌}
+use contract.BorrowLft.{⊑_meet, ⊑_static}
+use Rattle.agree.proofs.earlier.Search.{agrees_listed}
 use Rattle.agree.proofs.earlier.agrees_earlier.Goals as goal
 
-pub loop-left-init : goal.loop-left-init
-loop-left-init c = refl
-
-pub returns-in_default : goal.returns-in_default
-returns-in_default c =
-    sym (any_none (seeks_agree _ _) _ _ (none_ahead _ _ _ (sym c.segment_at-s.ensures ∙ c.in_default.is)))
-    ∙ c.loop-left.invariant
-
-pub agrees_at-requires : goal.agrees_at-requires
-agrees_at-requires c =
-    let took : CutAhead c.args.y c.args.d.now c.loop-left.at c.in-Segment.place c.in-Segment.end c.in-Segment.piece =
-    cut_ahead _ _ _ _ _ _ (sym c.segment_at-s.ensures ∙ c.in-Segment.is) in
-    let q = took in
-    search rules
-
-pub returns-then-agrees_at : goal.returns-then-agrees_at
-returns-then-agrees_at c =
-    let took : CutAhead c.args.y c.args.d.now c.loop-left.at c.in-Segment.place c.in-Segment.end c.in-Segment.piece =
-    cut_ahead _ _ _ _ _ _ (sym c.segment_at-s.ensures ∙ c.in-Segment.is) in
-    sym (any_found (seeks_agree _ _) _ _ _ _ _ _ _ (took) c.loop-left-test.true _
-    c.agrees_at.ensures c.if-agrees_at.true) ∙ c.loop-left.invariant
-
-pub loop-left-preserved : goal.loop-left-preserved
-loop-left-preserved c =
-    let took : CutAhead c.args.y c.args.d.now c.loop-left.at c.in-Segment.place c.in-Segment.end c.in-Segment.piece =
-    cut_ahead _ _ _ _ _ _ (sym c.segment_at-s.ensures ∙ c.in-Segment.is) in
-    sym (any_on (seeks_agree _ _) _ _ _ _ _ _ _ (took) c.loop-left-test.true _
-    c.agrees_at.ensures c.if-agrees_at.false) ∙ c.loop-left.invariant
-
 pub returns : goal.returns
-returns c = sym (any_out (seeks_agree _ _) _ _ c.loop-left-test.false) ∙ c.loop-left.invariant
+returns c = c.any_position.ensures ∙ agrees_listed _ _ _
+
+pub any_position-requires : goal.any_position-requires
+any_position-requires c = λ k l. (
+  let captured =
+      ⊑_meet _ _ _ (⊑_meet _ _ _ l.0 (⊑_static _))
+      (⊑_meet _ _ _ (⊑_meet _ _ _ l.1.0 (⊑_static _)) (⊑_meet _ _ _ (⊑_meet _ _ _ l.1.1.0 (⊑_static _)) (⊑_static _))) in
+      ⊑_meet _ _ _ captured captured,
+  (search rules, λ h b p. search rules),
+)

@@ -1,14 +1,9 @@
--- `agree::runs::meets_run` meets its contract. The loop's invariant: the segments that are left give the answer.
-use mathlib.Core.Path.{◌≡◌}
+-- `agree::runs::meets_run` meets its contract. What passes is a position that agrees with one of the run.
+use Rattle.agree.specs.Agreement.{Heading}
+use Rattle.agree.specs.Positions.{agrees_any}
 use Rattle.cut.specs.Segments.{segments_at}
 use Rattle.agree.specs.workers.Parts.{headings_in}
-use Rattle.agree.specs.workers.Runs.{meets}
 use Rattle.agree.proofs.runs.meets_run.Given as goal
 
-abbrev pub invariant-loop-left : goal.invariant-loop-left
-invariant-loop-left l =
-    meets l.y (headings_in l.left (segments_at l.y l.d l.here)) (headings_in l.count (segments_at l.y l.d l.at))
-    ≡ meets l.y (headings_in l.n (segments_at l.y l.d l.start)) (headings_in l.count (segments_at l.y l.d l.at))
-
-abbrev pub decreases-loop-left : goal.decreases-loop-left
-decreases-loop-left l = l.left
+abbrev pub ghost-any_position : goal.ghost-any_position
+ghost-any_position a = λ (q : Heading). agrees_any a.d.syntax q (headings_in a.test.3.now (segments_at a.d.syntax a.d.bytes.now a.test.2.now))

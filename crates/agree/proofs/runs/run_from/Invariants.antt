@@ -5,7 +5,7 @@ use Rattle.agree.proofs.runs.Running.{Growing}
 use Rattle.agree.proofs.runs.run_from.Given as goal
 
 abbrev pub invariant-loop-room : goal.invariant-loop-room
-invariant-loop-room l = Growing l.y l.d l.at l.t l.n l.here
+invariant-loop-room l = Growing l.d.syntax l.d.bytes.now l.at l.t l.run
 
 abbrev pub decreases-loop-room : goal.decreases-loop-room
-decreases-loop-room l = length l.d - l.here
+decreases-loop-room l = length l.d.bytes.now - l.run.end

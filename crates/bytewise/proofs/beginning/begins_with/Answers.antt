@@ -8,19 +8,15 @@ pub returns-then-d-word : goal.returns-then-d-word
 returns-then-d-word c = sym (begins-short _ _ c.if-d-word.true)
 
 pub loop-i-init : goal.loop-i-init
-loop-i-init c = (search rules, refl)
+loop-i-init c = refl
 
 pub returns-then-d-i : goal.returns-then-d-i
 returns-then-d-i c =
-    sym (c.loop-i.invariant.1
+    sym (c.loop-i.invariant
     ∙ begins-not _ _ _ c.if-d-word.false c.loop-i-test.true c.if-d-i.true)
 
 pub loop-i-preserved : goal.loop-i-preserved
-loop-i-preserved c = (
-  search rules,
-  c.loop-i.invariant.1
-      ∙ begins_on _ _ _ c.if-d-word.false c.loop-i-test.true c.if-d-i.false,
-)
+loop-i-preserved c = c.loop-i.invariant ∙ begins_on _ _ _ c.if-d-word.false c.loop-i-test.true c.if-d-i.false
 
 pub returns : goal.returns
-returns c = sym (c.loop-i.invariant.1 ∙ begins-all _ _ _ c.if-d-word.false c.loop-i-test.false)
+returns c = sym (c.loop-i.invariant ∙ begins-all _ _ _ c.if-d-word.false c.loop-i-test.false)

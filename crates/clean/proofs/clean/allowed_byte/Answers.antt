@@ -1,16 +1,16 @@
--- `clean::clean::allowed_byte` meets its contract: each return by the tests that led there. Assumes nothing.
-use Prim.Native.Nat.{◌≤◌}
+-- `clean::clean::allowed_byte` meets its contract: by the bounds of each arm.
 use native.Mathlib.Omega.{arith}
-use Rattle.clean.proofs.Laws.{byte_low, byte-text, byte_high}
+use Rattle.clean.proofs.Laws.{byte_low, byte-text, byte_between, byte_high}
 use Rattle.clean.proofs.clean.allowed_byte.Goals as goal
 
-pub returns-then-x-lt32 : goal.returns-then-x-lt32
-returns-then-x-lt32 c = byte_low _ c.if-x-lt32.true
+pub returns-in-32-to-126 : goal.returns-in-32-to-126
+returns-in-32-to-126 c = byte-text _ (omega arith) (omega arith)
 
-pub returns-then-x-le126 : goal.returns-then-x-le126
-returns-then-x-le126 c = byte-text _ c.if-x-lt32.false c.if-x-le126.true
+pub returns-in-32-to-126-2 : goal.returns-in-32-to-126-2
+returns-in-32-to-126-2 c = byte_high _ (omega arith) (omega arith)
 
-pub returns : goal.returns
-returns c =
-    let h : c.args.x ≤ 255 = omega arith in
-    byte_high _ c.if-x-le126.false h
+pub returns-in_default : goal.returns-in_default
+returns-in_default c = byte_low _ (omega arith)
+
+pub returns-in_default-2 : goal.returns-in_default-2
+returns-in_default-2 c = byte_between _ (omega arith) (omega arith)

@@ -15,16 +15,16 @@ pub returns-then-follows_end : goal.returns-then-follows_end
 returns-then-follows_end c =
     since-closed _ _ _ _ (search rules) (search rules) (sym c.follows_end.ensures ∙ c.if-follows_end.true)
 
-pub returns-in-Segment : goal.returns-in-Segment
-returns-in-Segment c =
+pub returns-in-Some : goal.returns-in-Some
+returns-in-Some c =
     since_cut _ _ _ _ _ _ _ _ (search rules) (search rules)
     (sym c.follows_end.ensures ∙ c.if-follows_end.false)
     c.released_at.ensures
-    (sym c.cut_from-c.ensures ∙ c.in-Segment.is)
+    (sym c.cut_from.ensures ∙ c.in-Some.is)
 
-pub returns-in-Nothing : goal.returns-in-Nothing
-returns-in-Nothing c =
+pub returns-in-None : goal.returns-in-None
+returns-in-None c =
     since-nothing _ _ _ _ _ (search rules) (search rules)
     (sym c.follows_end.ensures ∙ c.if-follows_end.false)
     c.released_at.ensures
-    (sym c.cut_from-c.ensures ∙ c.in-Nothing.is)
+    (sym c.cut_from.ensures ∙ c.in-None.is)

@@ -6,9 +6,9 @@ use Rattle.element.proofs.components.component_at.Goals as goal
 pub returns-then-limit-start : goal.returns-then-limit-start
 returns-then-limit-start c = walk_none _ _ _ _ _ _ _ c.limit_of-limit.ensures c.if-limit-start.true
 
-pub returns-then-quick : goal.returns-then-quick
-returns-then-quick c =
-    c.quick_at-quick.ensures c.if-quick.true ∙ walk_limited _ _ _ _ _ _ _ c.limit_of-limit.ensures
+pub returns-in-Some : goal.returns-in-Some
+returns-in-Some c =
+    c.in-Some.ensures ∙ walk_limited _ _ _ _ _ _ _ c.limit_of-limit.ensures
 
 pub returns : goal.returns
 returns c = c.each_at.ensures ∙ walk_limited _ _ _ _ _ _ _ c.limit_of-limit.ensures

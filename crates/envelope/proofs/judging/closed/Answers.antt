@@ -1,5 +1,5 @@
 -- `envelope::judging::closed` meets its contract: what the walk found, and the rows by it.
-use mathlib.Core.Path.{sym, ◌∙◌}
+use Rattle.std.proofs.Common.{sym, ◌∙◌}
 use Rattle.envelope.proofs.rows.Answers.{is-not-UNZ, is-matched}
 use Rattle.envelope.proofs.judging.closed.Goals as goal
 

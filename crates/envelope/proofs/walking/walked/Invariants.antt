@@ -4,8 +4,8 @@ use lib.ListN.{length}
 use Rattle.envelope.proofs.walks.Steps.{Passing}
 use Rattle.envelope.proofs.walking.walked.Given as goal
 
-abbrev pub invariant-loop-s : goal.invariant-loop-s
-invariant-loop-s l = Passing l.y l.d l.start l.end l.w
+abbrev pub invariant-loop-segment : goal.invariant-loop-segment
+invariant-loop-segment l = Passing l.d.syntax l.d.bytes.now l.start l.end l.w
 
-abbrev pub decreases-loop-s : goal.decreases-loop-s
-decreases-loop-s l = length l.d - l.w.end
+abbrev pub decreases-loop-segment : goal.decreases-loop-segment
+decreases-loop-segment l = length l.d.bytes.now - l.w.last.end

@@ -2,8 +2,5 @@
 use Rattle.judge.proofs.counting.Counts.{Clearing}
 use Rattle.judge.proofs.counting.clear.Given as goal
 
-abbrev pub invariant-loop-rest : goal.invariant-loop-rest
-invariant-loop-rest l = Clearing l.nodes l.initial.counts l.counts l.rest
-
-abbrev pub decreases-loop-rest : goal.decreases-loop-rest
-decreases-loop-rest l = l.rest
+abbrev pub invariant-loop-m : goal.invariant-loop-m
+invariant-loop-m l = Clearing l.nodes l.initial.counts l.counts l.m-iterator.0

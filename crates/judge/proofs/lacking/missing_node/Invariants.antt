@@ -5,10 +5,7 @@ use Rattle.judge.specs.workers.Searches.{missed}
 use Rattle.judge.proofs.sets.Sought.{Sought, within}
 use Rattle.judge.proofs.lacking.missing_node.Given as goal
 
-abbrev pub invariant-loop-gaps : goal.invariant-loop-gaps
-invariant-loop-gaps l =
+abbrev pub invariant-loop-m : goal.invariant-loop-m
+invariant-loop-m l =
     Sought (guide_of l.edition) (missed (guide_of l.edition) l.counts)
-    (first_node (guide_of l.edition) (within l.initial.gaps (missed (guide_of l.edition) l.counts))) l.gaps
-
-abbrev pub decreases-loop-gaps : goal.decreases-loop-gaps
-decreases-loop-gaps l = l.gaps
+    (first_node (guide_of l.edition) (within l.initial.m-iterator.0 (missed (guide_of l.edition) l.counts))) l.m-iterator.0

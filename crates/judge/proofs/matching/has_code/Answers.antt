@@ -6,8 +6,8 @@ use Rattle.judge.specs.workers.Rows.{codes_of}
 use Rattle.judge.proofs.matching.Codes.{codes_fit, codes-inside, search_begins, search_found, search_next, search_out}
 use Rattle.judge.proofs.matching.has_code.Goals as goal
 
-pub overflow_add-end : goal.overflow_add-end
-overflow_add-end c =
+pub overflow_add-j-end : goal.overflow_add-j-end
+overflow_add-j-end c =
     let a = c.args in
     omega (arith, codes_fit a.edition, codes-inside (guide_of a.edition) a.n c.requires)
 
@@ -16,7 +16,7 @@ loop-j-init c =
     let a = c.args in
     let h = c.requires in (
       omega (arith, codes-inside (guide_of a.edition) a.n h),
-      search_begins (guide_of a.edition) a.n a.key _ _ h c.codes_from-j.ensures (omega arith),
+      search_begins (guide_of a.edition) a.n a.key _ _ h c.codes_from-from.ensures (omega arith),
     )
 
 pub code-requires : goal.code-requires
@@ -28,9 +28,6 @@ returns-then-code-key c =
     sym (search_found (codes_of (guide_of a.edition)) a.key _ _ c.loop-j-test.true c.loop-j.invariant.0
     (sym c.code.ensures ∙ c.if-code-key.true))
     ∙ c.loop-j.invariant.1
-
-pub overflow_add-j : goal.overflow_add-j
-overflow_add-j c = omega (arith, codes_fit c.args.edition)
 
 pub loop-j-preserved : goal.loop-j-preserved
 loop-j-preserved c =

@@ -1,5 +1,5 @@
 -- `judge::matching::has_code` meets its contract. The loop's invariant: the search from here on gives the answer. Assumes nothing.
-use Prim.Native.Nat.{◌-◌, ◌≤◌}
+use Prim.Native.Nat.{◌≤◌}
 use mathlib.Core.Path.{◌≡◌}
 use mathlib.Core.List.{map}
 use lib.ListN.{length}
@@ -12,8 +12,5 @@ use Rattle.judge.proofs.matching.has_code.Given as goal
 
 abbrev pub invariant-loop-j : goal.invariant-loop-j
 invariant-loop-j l =
-    (l.end ≤ length (codes_of (guide_of l.edition)))
-    × (holds l.key (part l.j l.end (codes_of (guide_of l.edition))) ≡ holds l.key (map packed (node (guide_of l.edition) l.n).selector.codes))
-
-abbrev pub decreases-loop-j : goal.decreases-loop-j
-decreases-loop-j l = l.end - l.j
+    (l.j-end ≤ length (codes_of (guide_of l.edition)))
+    × (holds l.key (part l.j l.j-end (codes_of (guide_of l.edition))) ≡ holds l.key (map packed (node (guide_of l.edition) l.n).selector.codes))

@@ -14,9 +14,6 @@ use Rattle.judge.proofs.seeking.found_by.Given as goal
 abbrev pub keyed : Edition → ℕ → ℕ → Bool
 keyed edition key n = picks (map packed (node (guide_of edition) n).selector.codes) key
 
-abbrev pub invariant-loop-likely : goal.invariant-loop-likely
-invariant-loop-likely l =
-    Sought (guide_of l.edition) (keyed l.edition l.key) (first_node (guide_of l.edition) (within l.nodes (keyed l.edition l.key))) l.likely
-
-abbrev pub decreases-loop-likely : goal.decreases-loop-likely
-decreases-loop-likely l = l.likely
+abbrev pub invariant-loop-n : goal.invariant-loop-n
+invariant-loop-n l =
+    Sought (guide_of l.edition) (keyed l.edition l.key) (first_node (guide_of l.edition) (within l.nodes (keyed l.edition l.key))) l.n-iterator.0

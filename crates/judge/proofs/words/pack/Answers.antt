@@ -1,21 +1,20 @@
 -- `judge::words::pack` meets its contract: one return for each number of bytes. Assumes nothing.
 use native.Mathlib.Omega.{arith}
-use mathlib.Core.Path.{◌∙◌}
-use Rattle.judge.proofs.words.Packing.{pack_none, pack_one, pack_two, pack_three}
+use Rattle.judge.proofs.words.Packing.{word_none, word_one, word_two, word_three}
 use Rattle.judge.proofs.words.pack.Goals as goal
 
-pub returns-then-e-a : goal.returns-then-e-a
-returns-then-e-a c = pack_none _ _ _ c.if-e-a.true
+pub returns-in-empty : goal.returns-in-empty
+returns-in-empty c = word_none _ (omega (arith, c.in-empty.len_below))
 
-pub returns-then-more-eq1 : goal.returns-then-more-eq1
-returns-then-more-eq1 c =
-    pack_one c.args.d.now c.args.a c.args.e c.requires.0 _ c.wide-first.ensures.0 c.if-more-eq1.true
+pub returns-in-len1 : goal.returns-in-len1
+returns-in-len1 c =
+    let n = c.in-len1 in
+    omega (arith, c.from_le_bytes.ensures, word_one c.args.bytes.now (omega (arith, n.len_at_least, n.len_below)))
 
-pub returns-then-more-eq2 : goal.returns-then-more-eq2
-returns-then-more-eq2 c =
-    pack_two c.args.d.now c.args.a c.args.e c.requires.0 _ c.wide-first.ensures.0
-    _ c.wide-second.ensures.0 c.if-more-eq2.true
+pub returns-in-len2 : goal.returns-in-len2
+returns-in-len2 c =
+    let n = c.in-len2 in
+    omega (arith, c.from_le_bytes-in-len2.ensures, word_two c.args.bytes.now (omega (arith, n.len_at_least, n.len_below)))
 
-pub returns : goal.returns
-returns c =
-    c.three.ensures ∙ pack_three c.args.d.now c.args.a c.args.e c.requires.0 (omega arith)
+pub returns-in-len3-up : goal.returns-in-len3-up
+returns-in-len3-up c = omega (arith, c.from_le_bytes-in-len3-up.ensures, word_three c.args.bytes.now c.in-len3-up.len_at_least)

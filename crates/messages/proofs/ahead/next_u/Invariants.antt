@@ -4,8 +4,8 @@ use lib.ListN.{length}
 use Rattle.messages.proofs.walks.Skipping.{Plain, upto}
 use Rattle.messages.proofs.ahead.next_u.Given as goal
 
-abbrev pub invariant-loop-y : goal.invariant-loop-y
-invariant-loop-y l = (l.from ≤ l.i) × (l.i ≤ length l.d) × Plain (upto l.y l.d l.from l.i)
+abbrev pub invariant-loop-d : goal.invariant-loop-d
+invariant-loop-d l = (l.from ≤ l.i) × (l.i ≤ length l.d.bytes.now) × Plain (upto l.d.syntax l.d.bytes.now l.from l.i)
 
-abbrev pub decreases-loop-y : goal.decreases-loop-y
-decreases-loop-y l = length l.d - l.i
+abbrev pub decreases-loop-d : goal.decreases-loop-d
+decreases-loop-d l = length l.d.bytes.now - l.i

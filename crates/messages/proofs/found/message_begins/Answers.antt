@@ -14,11 +14,11 @@ returns-in_default c =
     (ap is_found
     (at_none _ _ _
     (sym c.begins_segment.ensures ∙ c.if-not-begins_segment.false)
-    (sym c.spot_at-s.ensures ∙ c.in_default.is)))
+    (sym c.spot_at.ensures ∙ c.in_default.is)))
 
 pub returns : goal.returns
 returns c =
-    let q = spotted _ _ _ _ _ _ (sym c.spot_at-s.ensures ∙ c.in-At.is) in
+    let q = spotted _ _ _ _ _ _ (sym c.spot_at.ensures ∙ c.in-Some.is) in
     at-begins _ _ _ _ _ _
     (sym c.begins_segment.ensures ∙ c.if-not-begins_segment.false)
     q _ c.begins_message.ensures

@@ -8,7 +8,7 @@ use Rattle.messages.proofs.found.message_end.Given as goal
 
 abbrev pub invariant-loop-tag : goal.invariant-loop-tag
 invariant-loop-tag l =
-    last_end l.from (body (segments_at l.y l.d l.from)) ≡ last_end l.next (body (segments_at l.y l.d l.next))
+    last_end l.from (body (segments_at l.d.syntax l.d.bytes.now l.from)) ≡ last_end l.next (body (segments_at l.d.syntax l.d.bytes.now l.next))
 
 abbrev pub decreases-loop-tag : goal.decreases-loop-tag
-decreases-loop-tag l = length l.d - l.next
+decreases-loop-tag l = length l.d.bytes.now - l.next

@@ -9,7 +9,7 @@ use Rattle.messages.proofs.found.next_from.Given as goal
 
 abbrev pub invariant-loop-start : goal.invariant-loop-start
 invariant-loop-start l =
-    head_found (messages_in (segments_at l.y l.d l.from)) ≡ head_found (messages_in (segments_at l.y l.d l.at))
+    head_found (messages_in (segments_at l.d.syntax l.d.bytes.now l.from)) ≡ head_found (messages_in (segments_at l.d.syntax l.d.bytes.now l.at))
 
 abbrev pub decreases-loop-start : goal.decreases-loop-start
-decreases-loop-start l = length l.d - l.at
+decreases-loop-start l = length l.d.bytes.now - l.at

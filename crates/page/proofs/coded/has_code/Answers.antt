@@ -7,9 +7,6 @@ use Rattle.page.proofs.coded.has_code.Goals as goal
 pub loop-n-init : goal.loop-n-init
 loop-n-init c = refl
 
-pub loop-n-smaller : goal.loop-n-smaller
-loop-n-smaller c = omega arith
-
 pub loop-n-preserved : goal.loop-n-preserved
 loop-n-preserved c =
     search_next c.args.key c.loop-n.n c.args.next c.loop-n.found (omega arith) _ c.code_word.ensures ∙ c.loop-n.invariant

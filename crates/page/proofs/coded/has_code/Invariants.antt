@@ -10,6 +10,3 @@ use Rattle.page.proofs.coded.has_code.Given as goal
 
 abbrev pub invariant-loop-n : goal.invariant-loop-n
 invariant-loop-n l = l.found || key_among l.key (span all_codes [] l.n (l.next - l.n)) ≡ key_among l.key (span all_codes [] l.from (l.next - l.from))
-
-abbrev pub decreases-loop-n : goal.decreases-loop-n
-decreases-loop-n l = l.next - l.n

@@ -9,7 +9,7 @@ use Rattle.page.proofs.formed.is_formed.Goals as goal
 pub returns-then-kind-ge2 : goal.returns-then-kind-ge2
 returns-then-kind-ge2 c =
     let a = c.args in
-    c.fits.ensures ∙ ap (λ (f : Format). fits_format a.y f (decoded a.y a.a a.b a.d.now)) c.number_format.ensures
+    c.fits.ensures ∙ ap (λ (f : Format). fits_format a.d.syntax f (decoded a.d.syntax a.a a.b a.d.bytes.now)) c.number_format.ensures
 
 pub returns-then-kind-eq0 : goal.returns-then-kind-eq0
 returns-then-kind-eq0 c = formed_up_to _ _ _ _ c.requires.0 c.requires.1 c.if-kind-eq0.true

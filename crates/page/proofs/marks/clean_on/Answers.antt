@@ -2,91 +2,59 @@
 use Prim.Native.Nat.{◌+◌}
 use mathlib.Core.Path.{refl, sym, ap, ◌∙◌}
 use native.Mathlib.Omega.{arith}
-use Rattle.page.specs.workers.Marks.{MarkSought}
-use Rattle.page.specs.declared.scan.Scan.{Scan}
+use Rattle.clean.specs.Clean.{between}
+use Rattle.element.specs.declared.ahead.Scan.{Scan}
 use Rattle.page.proofs.marks.Clean.{Clean, clean-first, clean_found, clean-mark}
 use Rattle.page.proofs.marks.clean_on.Goals as goal
+use Rattle.page.proofs.marks.clean_on.Goals.{After-untested-from}
 
-pub loop-y-init : goal.loop-y-init
-loop-y-init c = clean-first _ _ _ c.requires.1 c.requires.2
+-- it goes on behind the byte that is released
+goes : (c : After-untested-from) → Clean c.args.d.syntax c.args.d.bytes.now c.args.scan.at c.untested-from.result (c.loop-behind.removed + 1)
+goes c =
+    let found = c.in_ok-released.ensures.lookup.3 in
+    clean-mark _ c.requires.0 _ _ _ _ c.loop-behind.invariant _ (c.in_ok-behind.ensures c.loop-behind.invariant.scanned) _ refl c.if-d-end.false
+    (omega (arith, found.0))
+    (sym c.marks.ensures ∙ c.if-not-marks.false)
+    (sym (ap (between 32 126) (found.1 0)) ∙ sym c.is_text.ensures ∙ c.if-not-is_text.false) _ c.untested-from.ensures
 
-pub mark_on-behind-requires : goal.mark_on-behind-requires
-mark_on-behind-requires c = c.loop-y.invariant.scanned
-
-pub returns-then-behind-eq0 : goal.returns-then-behind-eq0
-returns-then-behind-eq0 c = λ n. absurd (n c.untold.ensures)
+pub loop-behind-init : goal.loop-behind-init
+loop-behind-init c = clean-first _ _ _ c.requires.1 c.requires.2
 
 pub bounds-d-end : goal.bounds-d-end
 bounds-d-end c =
-    let sought : let a = c.args in MarkSought a.d.now c.loop-y.from.at c.mark_on-behind.result =
-    c.mark_on-behind.ensures c.if-behind-eq0.false in
-    omega (arith, (sought).onward, (sought).inside)
+    let s = c.in_ok-behind.ensures c.loop-behind.invariant.scanned in
+    omega (arith, s.onward, s.scanned.ahead, s.scanned.within)
 
 pub overflow_sub-result : goal.overflow_sub-result
 overflow_sub-result c =
-    let sought : let a = c.args in MarkSought a.d.now c.loop-y.from.at c.mark_on-behind.result =
-    c.mark_on-behind.ensures c.if-behind-eq0.false in
-    omega (arith, (sought).onward, c.loop-y.invariant.past.onward)
+    let s = c.in_ok-behind.ensures c.loop-behind.invariant.scanned in
+    omega (arith, s.onward, c.loop-behind.invariant.past.onward)
 
 pub overflow_sub-result-then-d-end : goal.overflow_sub-result-then-d-end
 overflow_sub-result-then-d-end c =
-    let sought : let a = c.args in MarkSought a.d.now c.loop-y.from.at c.mark_on-behind.result =
-    c.mark_on-behind.ensures c.if-behind-eq0.false in
-    omega (arith, (sought).onward, c.loop-y.invariant.past.onward)
+    let s = c.in_ok-behind.ensures c.loop-behind.invariant.scanned in
+    omega (arith, s.onward, c.loop-behind.invariant.past.onward)
 
 pub returns-then-d-end : goal.returns-then-d-end
-returns-then-d-end c =
-    let sought : let a = c.args in MarkSought a.d.now c.loop-y.from.at c.mark_on-behind.result =
-    c.mark_on-behind.ensures c.if-behind-eq0.false in
-    λ n. clean_found _ c.requires.0 _ _ _ _ c.loop-y.invariant _
-    (sought) _ refl c.if-d-end.true
+returns-then-d-end c = clean_found _ c.requires.0 _ _ _ _ c.loop-behind.invariant _
+    (c.in_ok-behind.ensures c.loop-behind.invariant.scanned) _ refl c.if-d-end.true
 
 pub overflow_add-end : goal.overflow_add-end
 overflow_add-end c =
-    let sought : let a = c.args in MarkSought a.d.now c.loop-y.from.at c.mark_on-behind.result =
-    c.mark_on-behind.ensures c.if-behind-eq0.false in
-    omega (arith, (sought).inside)
-
-pub returns-then-d-end-2 : goal.returns-then-d-end-2
-returns-then-d-end-2 c = λ n. absurd (n c.untold-then-d-end-2.ensures)
-
-pub returns-then-not-is_text : goal.returns-then-not-is_text
-returns-then-not-is_text c = λ n. absurd (n c.untold-then-not-is_text.ensures)
-
-pub returns-then-not-marks : goal.returns-then-not-marks
-returns-then-not-marks c = λ n. absurd (n c.untold-then-not-marks.ensures)
-
-pub overflow_add-end-in-loop-y-2 : goal.overflow_add-end-in-loop-y-2
-overflow_add-end-in-loop-y-2 c =
-    omega (arith, c.if-d-end-2.false)
+    let s = c.in_ok-behind.ensures c.loop-behind.invariant.scanned in
+    omega (arith, s.scanned.ahead, s.scanned.within)
 
 pub overflow_add-removed : goal.overflow_add-removed
 overflow_add-removed c =
-    let sought : let a = c.args in MarkSought a.d.now c.loop-y.from.at c.mark_on-behind.result =
-    c.mark_on-behind.ensures c.if-behind-eq0.false in
-    let goes : let a = c.args in Clean a.y a.d.now a.scan.at c.untested-from.result (c.loop-y.removed + 1) =
-    clean-mark _ c.requires.0 _ _ _ _ c.loop-y.invariant _ sought _ refl c.if-d-end.false (omega (arith, c.if-d-end-2.false))
-    (sym c.marks.ensures ∙ c.if-not-marks.false)
-    (sym c.is_text.ensures ∙ c.if-not-is_text.false) _ c.untested-from.ensures in
-    omega (arith, (goes).past.onward, (goes).past.within)
+    let g = goes (goal.at.overflow_add-removed c).After-untested-from in
+    omega (arith, g.past.onward, g.past.within)
 
-pub loop-y-smaller : goal.loop-y-smaller
-loop-y-smaller c =
-    let sought : let a = c.args in MarkSought a.d.now c.loop-y.from.at c.mark_on-behind.result =
-    c.mark_on-behind.ensures c.if-behind-eq0.false in
-    let goes : let a = c.args in Clean a.y a.d.now a.scan.at c.untested-from.result (c.loop-y.removed + 1) =
-    clean-mark _ c.requires.0 _ _ _ _ c.loop-y.invariant _ sought _ refl c.if-d-end.false (omega (arith, c.if-d-end-2.false))
-    (sym c.marks.ensures ∙ c.if-not-marks.false)
-    (sym c.is_text.ensures ∙ c.if-not-is_text.false) _ c.untested-from.ensures in
+pub loop-behind-smaller : goal.loop-behind-smaller
+loop-behind-smaller c =
+    let g = goes (goal.at.loop-behind-smaller c).After-untested-from in
+    let s = c.in_ok-behind.ensures c.loop-behind.invariant.scanned in
     let z = ap (λ (x : Scan). x.at) c.untested-from.ensures in
-    omega (arith, (sought).onward, (goes).past.within)
+    omega (arith, s.onward, g.past.within)
 
-pub loop-y-preserved : goal.loop-y-preserved
-loop-y-preserved c =
-    let sought : let a = c.args in MarkSought a.d.now c.loop-y.from.at c.mark_on-behind.result =
-    c.mark_on-behind.ensures c.if-behind-eq0.false in
-    let goes : let a = c.args in Clean a.y a.d.now a.scan.at c.untested-from.result (c.loop-y.removed + 1) =
-    clean-mark _ c.requires.0 _ _ _ _ c.loop-y.invariant _ sought _ refl c.if-d-end.false (omega (arith, c.if-d-end-2.false))
-    (sym c.marks.ensures ∙ c.if-not-marks.false)
-    (sym c.is_text.ensures ∙ c.if-not-is_text.false) _ c.untested-from.ensures in
-    goes
+pub loop-behind-preserved : goal.loop-behind-preserved
+loop-behind-preserved c = goes (goal.at.loop-behind-preserved c).After-untested-from

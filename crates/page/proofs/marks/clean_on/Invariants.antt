@@ -4,8 +4,8 @@ use lib.ListN.{length}
 use Rattle.page.proofs.marks.Clean.{Clean}
 use Rattle.page.proofs.marks.clean_on.Given as goal
 
-abbrev pub invariant-loop-y : goal.invariant-loop-y
-invariant-loop-y l = Clean l.y l.d l.a l.from l.removed
+abbrev pub invariant-loop-behind : goal.invariant-loop-behind
+invariant-loop-behind l = Clean l.d.syntax l.d.bytes.now l.a l.from l.removed
 
-abbrev pub decreases-loop-y : goal.decreases-loop-y
-decreases-loop-y l = length l.d - l.from.at
+abbrev pub decreases-loop-behind : goal.decreases-loop-behind
+decreases-loop-behind l = length l.d.bytes.now - l.from.at

@@ -6,9 +6,10 @@ use Rattle.page.specs.workers.Quick.{Begun}
 use Rattle.page.proofs.quick.Loop.{Walked, OnPages}
 use Rattle.page.proofs.quick.faultless_from.Given as goal
 
-abbrev pub invariant-loop-y : goal.invariant-loop-y
-invariant-loop-y l =
-    Begun l.y l.d l.start × Walked l.y l.d l.start l.scan.at l.scan.next l.scan.left × OnPages l.y l.d l.start (l.first % 0x1_0000_0000) l.places l.scan.at l.s
+abbrev pub invariant-loop-p : goal.invariant-loop-p
+invariant-loop-p l =
+    Begun l.d.syntax l.d.bytes.now l.start × Walked l.d.syntax l.d.bytes.now l.start l.scan.at l.scan.next l.scan.left
+    × OnPages l.d.syntax l.d.bytes.now l.start (l.first % 0x1_0000_0000) l.places l.scan.at l.s
 
-abbrev pub decreases-loop-y : goal.decreases-loop-y
-decreases-loop-y l = length l.d - l.scan.at
+abbrev pub decreases-loop-p : goal.decreases-loop-p
+decreases-loop-p l = length l.d.bytes.now - l.scan.at

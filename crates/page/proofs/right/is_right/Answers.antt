@@ -14,7 +14,7 @@ returns-then-b-a c h count =
 pub is_sized-requires : goal.is_sized-requires
 is_sized-requires c =
     let p = c.requires in
-    (bytes_there c.args.y _ _ _ _ p c.if-b-a.false, p.2)
+    (bytes_there c.args.d.syntax _ _ _ _ p c.if-b-a.false, p.2)
 
 pub returns-then-not-is_sized : goal.returns-then-not-is_sized
 returns-then-not-is_sized c h count = absurd (false≢true h)

@@ -1,11 +1,7 @@
--- `plain::plain::copy_plain` meets its contract. The loop's invariant is `Copying`: what is written, and what is left to write.
-use Rattle.std.proofs.Common.{◌-◌}
-use Rattle.plain.specs.Plain.{decoded}
+-- `plain::plain::copy_plain` meets its contract. The loop's invariant: so many bytes are copied, and the iterator has the others.
+use Rattle.plain.specs.Plain.{decoded, literals_left}
 use Rattle.plain.proofs.Copying.{Copying}
 use Rattle.plain.proofs.plain.copy_plain.Given as goal
 
-abbrev pub invariant-loop-y : goal.invariant-loop-y
-invariant-loop-y l = Copying (decoded l.y l.a l.e l.d) l.initial.out l.out l.n (decoded l.y l.i l.end l.d)
-
-abbrev pub decreases-loop-y : goal.decreases-loop-y
-decreases-loop-y l = l.end - l.i
+abbrev pub invariant-loop-x : goal.invariant-loop-x
+invariant-loop-x l = Copying (decoded l.fn.d.syntax l.a l.e l.d.bytes.now) l.fn.out l.out l.n (literals_left l.x-iterator)

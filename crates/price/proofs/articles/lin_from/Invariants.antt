@@ -4,8 +4,8 @@ use lib.ListN.{length}
 use Rattle.price.proofs.articles.Seeking.{Seeking}
 use Rattle.price.proofs.articles.lin_from.Given as goal
 
-abbrev pub invariant-loop-place : goal.invariant-loop-place
-invariant-loop-place l = Seeking l.y l.d l.start l.k l.at l.left l.p
+abbrev pub invariant-loop-spot : goal.invariant-loop-spot
+invariant-loop-spot l = Seeking l.d.syntax l.d.bytes.now l.start l.k l.at l.left l.p
 
-abbrev pub decreases-loop-place : goal.decreases-loop-place
-decreases-loop-place l = length l.d - l.at
+abbrev pub decreases-loop-spot : goal.decreases-loop-spot
+decreases-loop-spot l = length l.d.bytes.now - l.at

@@ -6,8 +6,9 @@ use Rattle.cut.specs.Segments.{segments_at}
 use Rattle.price.specs.Cursors.{next_in}
 use Rattle.price.proofs.cursor.next_from.Given as goal
 
-abbrev pub invariant-loop-start : goal.invariant-loop-start
-invariant-loop-start l = (l.p.number ≤ l.at) × (next_in l.y l.d l.p (segments_at l.y l.d l.at) ≡ next_in l.y l.d l.initial.p (segments_at l.y l.d l.from))
+abbrev pub invariant-loop-spot : goal.invariant-loop-spot
+invariant-loop-spot l = (l.p.number ≤ l.at) × (next_in l.d.syntax l.d.bytes.now l.p (segments_at l.d.syntax l.d.bytes.now l.at)
+    ≡ next_in l.d.syntax l.d.bytes.now l.initial.p (segments_at l.d.syntax l.d.bytes.now l.from))
 
-abbrev pub decreases-loop-start : goal.decreases-loop-start
-decreases-loop-start l = length l.d - l.at
+abbrev pub decreases-loop-spot : goal.decreases-loop-spot
+decreases-loop-spot l = length l.d.bytes.now - l.at

@@ -1,14 +1,12 @@
 -- `price::filling::fill` meets its contract.
-use Rattle.price.proofs.inside.Parted.{fills_all, fills_front}
-use borrow.Author.Rules.{rules}
+use mathlib.Core.Path.{◌∙◌}
+use Rattle.price.proofs.moves.Moved.{row-own, filled-own}
 use Rattle.price.proofs.filling.fill.Goals as goal
 
-pub returns-then-d-end : goal.returns-then-d-end
-returns-then-d-end c =
-    let each = fills_all _ _ _ _ _ _ _ _ c.if-d-end.true (c.fill_from.ensures.value, c.fill_from.ensures.row_after) in
-    record { value = each.0; row_after = each.1 }
+pub returns-clause-value : goal.returns-clause-value
+returns-clause-value c =
+    c.fill_message.ensures.value ∙ filled-own _ _ _ _ _ _ c.min-end.ensures c.min.ensures _ _
 
-pub returns : goal.returns
-returns c =
-    let each = fills_front _ _ _ _ _ _ _ _ (search rules) (c.fill_from-2.ensures.value, c.fill_from-2.ensures.row_after) in
-    record { value = each.0; row_after = each.1 }
+pub returns-clause-row_after : goal.returns-clause-row_after
+returns-clause-row_after c =
+    c.fill_message.ensures.row_after ∙ row-own _ _ _ _ _ _ c.min-end.ensures c.min.ensures _ _

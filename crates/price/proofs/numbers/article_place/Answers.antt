@@ -1,9 +1,12 @@
 -- `price::numbers::article_place` meets its contract.
-use Rattle.price.proofs.numbers.Answers.{kept, article-stands, article-absent}
+use mathlib.Core.Path.{◌∙◌}
+use mir.Syntax.{w64}
+use mir.Facts.{to_z_pos}
+use Rattle.price.proofs.numbers.Answers.{article-stands, article-absent}
 use Rattle.price.proofs.numbers.article_place.Goals as goal
 
 pub returns-then-a : goal.returns-then-a
-returns-then-a c = article-stands _ _ _ c.if-a.true (kept _ _ (record { sfits = c.from_start.type_inv }) c.from_start.ensures)
+returns-then-a c = to_z_pos w64 c.requires ∙ article-stands _ c.if-a.true
 
 pub returns : goal.returns
-returns c = article-absent _ _ c.if-a.false
+returns c = article-absent _ c.if-a.false

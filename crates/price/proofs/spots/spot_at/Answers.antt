@@ -1,22 +1,22 @@
 -- `price::spots::spot_at` meets its contract.
 use mathlib.Core.Path.{sym, ◌∙◌}
-use Rattle.cut.proofs.Ahead.{CutAhead, cut_ahead}
-use Rattle.price.proofs.spots.Heads.{spot-none, spot-here}
-use borrow.Author.Rules.{rules}
+use Rattle.bytewise.specs.Bytes.{part}
+use Rattle.cut.proofs.Ahead.{cut_ahead}
+use Rattle.price.proofs.spots.Heads.{cut-lies, spot-none, spot-here}
 use Rattle.price.proofs.spots.spot_at.Goals as goal
 
-pub returns-in_default : goal.returns-in_default
-returns-in_default c = spot-none _ _ _ (sym c.segment_at-c.ensures ∙ c.in_default.is)
+pub returns-in_err-cut : goal.returns-in_err-cut
+returns-in_err-cut c = c.from_residual.ensures ∙ spot-none _ _ _ (sym c.segment_at.ensures ∙ c.in_err-cut.was)
 
-pub kind_of-requires : goal.kind_of-requires
-kind_of-requires c =
-    let took : CutAhead c.args.y c.args.d.now c.args.at c.in-Segment.start c.in-Segment.end c.in-Segment.piece =
-    cut_ahead _ _ _ _ _ _ (sym c.segment_at-c.ensures ∙ c.in-Segment.is) in
-    let q = took in
-    search rules
+pub slice_bounds-kind_of-count : goal.slice_bounds-kind_of-count
+slice_bounds-kind_of-count c = (cut-lies _ _ _ _ (sym c.segment_at.ensures ∙ c.in_ok-cut.was)).ordered
+
+pub slice_bounds-kind_of-start : goal.slice_bounds-kind_of-start
+slice_bounds-kind_of-start c = (cut-lies _ _ _ _ (sym c.segment_at.ensures ∙ c.in_ok-cut.was)).ordered
+
+pub slice_bounds-kind_of-end : goal.slice_bounds-kind_of-end
+slice_bounds-kind_of-end c = (cut-lies _ _ _ _ (sym c.segment_at.ensures ∙ c.in_ok-cut.was)).inside
 
 pub returns : goal.returns
-returns c =
-    let took : CutAhead c.args.y c.args.d.now c.args.at c.in-Segment.start c.in-Segment.end c.in-Segment.piece =
-    cut_ahead _ _ _ _ _ _ (sym c.segment_at-c.ensures ∙ c.in-Segment.is) in
-    spot-here _ _ _ _ _ _ _ (took) c.kind_of.ensures
+unfolding part
+returns c = spot-here _ _ _ _ _ _ _ (cut_ahead _ _ _ _ _ _ (sym c.segment_at.ensures ∙ c.in_ok-cut.was)) c.kind_of.ensures

@@ -1,5 +1,6 @@
 -- `print::message_lines::counted_after` meets its contract.
+use Rattle.schaumtruhe.proofs.places.Begun.{ok-one}
 use Rattle.print.proofs.message_lines.counted_after.Goals as goal
 
 pub returns : goal.returns
-returns c = rw c.one_if-more.ensures.0
+returns c = rw (c.from.ensures, c.is_ok.ensures.value, ok-one _)

@@ -8,7 +8,8 @@ counted_after-counts-requires c = message-few _ _ _ c.requires.2 c.requires.1 (o
 
 pub returns : goal.returns
 returns c =
-    message_wrote _ _ _ c.requires.2 _ c.past_breaks-start.ensures _
+    rw c.new.ensures
+    (message_wrote _ _ _ c.requires.2 _ c.past_breaks-start.ensures _
     c.judged-j.ensures _ _ _ _ _ c.counted_after-counts.ensures
-    c.stage_after-stage.ensures c.message_line-n.ensures.value c.message_line-n.ensures.out_after
-    c.requires.1 c.requires.0
+    c.stage_after.ensures c.message_line-n.ensures.value c.message_line-n.ensures.out_after
+    c.requires.1 c.requires.0)

@@ -2,12 +2,8 @@
 use Rattle.print.proofs.Opened.{opened_refused, opened-left}
 use Rattle.print.proofs.steps.printer.Goals as goal
 
-pub returns-then-number-ne0 : goal.returns-then-number-ne0
-returns-then-number-ne0 c =
-    opened_refused _ _ _ c.characters-syntax.ensures _ c.admission-number.ensures _ c.if-number-ne0.true _
-    c.from.ensures
+pub returns-in-Err : goal.returns-in-Err
+returns-in-Err c = opened_refused _ _ _ c.characters-syntax.ensures _ _ c.in-Err.ensures _ c.starting-in-Err.ensures
 
-pub returns : goal.returns
-returns c =
-    opened-left _ _ _ c.characters-syntax.ensures _ c.admission-number.ensures _
-    c.if-number-ne0.false _ c.opening-at.ensures c.from-2.ensures
+pub returns-in-Ok : goal.returns-in-Ok
+returns-in-Ok c = opened-left _ _ _ c.characters-syntax.ensures _ c.in-Ok.ensures _ c.opening.ensures c.starting.ensures

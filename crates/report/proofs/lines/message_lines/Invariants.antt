@@ -2,8 +2,8 @@
 use Rattle.std.proofs.Common.{length, ◌-◌, ◌≤◌}
 use Rattle.report.proofs.lines.message_lines.Given as goal
 
-abbrev pub invariant-loop-start : goal.invariant-loop-start
-invariant-loop-start g l = (l.number ≤ l.from) × (l.from ≤ length l.d)
+abbrev pub invariant-loop-m : goal.invariant-loop-m
+invariant-loop-m g l = (l.number ≤ l.from) × (l.from ≤ length l.d)
 
-abbrev pub decreases-loop-start : goal.decreases-loop-start
-decreases-loop-start g l = length l.d - l.from
+abbrev pub decreases-loop-m : goal.decreases-loop-m
+decreases-loop-m g l = length l.d - l.from

@@ -3,4 +3,4 @@ use Rattle.schaumtruhe.proofs.pricing.Filling.{is_total}
 use Rattle.schaumtruhe.proofs.articles.total.Goals as goal
 
 pub returns : goal.returns
-returns c = is_total _ _ _ _ _ c.fill-filled.ensures.value
+returns c = is_total _ _ _ _ _ c.fill.ensures.value

@@ -4,8 +4,8 @@ use lib.ListN.{length}
 use Rattle.schaumtruhe.proofs.surveys.Steps.{Passed}
 use Rattle.schaumtruhe.proofs.surveys.counted.Given as goal
 
-abbrev pub invariant-loop-at : goal.invariant-loop-at
-invariant-loop-at l = Passed l.y l.d l.messages l.accepted l.outside l.at
+abbrev pub invariant-loop-outer : goal.invariant-loop-outer
+invariant-loop-outer l = Passed l.d.syntax l.d.bytes.now l.counts.messages l.counts.accepted l.counts.outside l.at
 
-abbrev pub decreases-loop-at : goal.decreases-loop-at
-decreases-loop-at l = length l.d - l.at
+abbrev pub decreases-loop-outer : goal.decreases-loop-outer
+decreases-loop-outer l = length l.d.bytes.now - l.at

@@ -1,5 +1,5 @@
 -- `schaumtruhe_c::calls::schaumtruhe_article` meets its contract.
-use mathlib.Core.Path.{ap₂}
+use mathlib.Core.Path.{ap₂, ◌∙◌}
 use Rattle.schaumtruhe.proofs.ArticlePlaces.{article-within}
 use Rattle.schaumtruhe_c.specs.Answers.{article_of}
 use Rattle.schaumtruhe_c.proofs.calls.schaumtruhe_article.Goals as goal
@@ -8,5 +8,4 @@ pub overflow_sub-length : goal.overflow_sub-length
 overflow_sub-length c = rw c.article_at-s.ensures (article-within _ _ _ _).0
 
 pub returns : goal.returns
-unfolding article_of
-returns c = ap₂ article_of c.article_refusal-number.ensures c.article_at-s.ensures
+returns c = ap₂ article_of (c.number_of-number.ensures ∙ c.article_refusal.ensures) c.article_at-s.ensures

@@ -16,7 +16,7 @@ pub loop-i-preserved : goal.loop-i-preserved
 loop-i-preserved c = (
   c.gather-g.ensures.1,
   c.loop-i.invariant.1
-      ∙ gathering_on _ _ _ _ _ _ _ _ c.loop-i-test.true (search rules) c.is_mark-released.ensures c.gather-g.ensures.0,
+      ∙ gathering_on _ _ _ _ _ _ _ _ c.loop-i-test.true (search rules) c.frees_next-released.ensures c.gather-g.ensures.0,
 )
 
 pub returns : goal.returns

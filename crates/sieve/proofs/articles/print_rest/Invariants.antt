@@ -1,5 +1,4 @@
 -- `sieve::articles::print_rest` meets its contract. The loop's invariant: the print of what is left, behind what is gathered, is the whole one.
-use Prim.Native.Nat.{◌-◌}
 use mathlib.Core.Bool.{false}
 use mathlib.Core.Path.{◌≡◌}
 use Rattle.sieve.specs.workers.Words.{begun, Gathering}
@@ -8,6 +7,3 @@ use Rattle.sieve.proofs.articles.print_rest.Given as goal
 
 abbrev pub invariant-loop-i : goal.invariant-loop-i
 invariant-loop-i l = Gathering l.g × (gathering l.y l.d l.end l.from false (begun l.before) ≡ gathering l.y l.d l.end l.i l.released l.g)
-
-abbrev pub decreases-loop-i : goal.decreases-loop-i
-decreases-loop-i l = l.end - l.i

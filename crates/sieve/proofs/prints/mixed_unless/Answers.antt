@@ -1,15 +1,12 @@
 -- `sieve::prints::mixed_unless` meets its contract.
+use mathlib.Core.Logic.{inl, inr}
 use Rattle.sieve.specs.workers.Prints.{mixed_unless}
 use Rattle.sieve.proofs.prints.mixed_unless.Goals as goal
 
-pub returns-then-skips : goal.returns-then-skips
-unfolding mixed_unless
-returns-then-skips c = rw c.if-skips.true
-
 pub returns-then-mark : goal.returns-then-mark
 unfolding mixed_unless
-returns-then-mark c = rw (c.if-skips.false, c.if-mark.true)
+returns-then-mark c = elim c.if-mark.either [ inl h ↦ rw h | inr h ↦ rw (h.0, h.1) ]
 
-pub returns : goal.returns
+pub returns-else-mark : goal.returns-else-mark
 unfolding mixed_unless
-returns c = rw (c.if-skips.false, c.if-mark.false) c.mixed.ensures
+returns-else-mark c = rw (c.if-mark.false.0, c.if-mark.false.1) c.mixed.ensures

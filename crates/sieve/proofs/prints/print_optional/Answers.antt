@@ -1,10 +1,11 @@
 -- `sieve::prints::print_optional` meets its contract.
-use mathlib.Core.Path.{◌∙◌}
-use Rattle.sieve.proofs.prints.Printing.{print_missing, print_stands}
+use Rattle.sieve.specs.workers.Prints.{print_in}
 use Rattle.sieve.proofs.prints.print_optional.Goals as goal
 
-pub returns-then-s : goal.returns-then-s
-returns-then-s c = print_missing _ _ _ _ c.if-s.true
+pub returns-in-Some : goal.returns-in-Some
+unfolding print_in
+returns-in-Some c = rw c.in-Some.is (rw c.part.ensures at c.print_segment.ensures)
 
-pub returns : goal.returns
-returns c = c.print_segment.ensures ∙ print_stands _ _ _ _ c.if-s.false
+pub returns-in-None : goal.returns-in-None
+unfolding print_in
+returns-in-None c = rw c.in-None.is

@@ -1,12 +1,10 @@
 -- `value::text::put_digits` meets its contract. The loop's invariant is `Putting`: the digits that are written, and the number that is left.
 use native.Mathlib.Omega.{arith}
-use mathlib.Core.Path.{sym, ◌∙◌}
-use lib.ListN.{length-set}
 use Rattle.value.proofs.Texts.{put-start, put_more, put_end}
 use Rattle.value.proofs.text.put_digits.Goals as goal
 
 pub loop-left-init : goal.loop-left-init
-loop-left-init c = put-start _ _ c.requires (omega arith)
+loop-left-init c = put-start _ _ c.told-out (omega arith)
 
 pub overflow_sub-at : goal.overflow_sub-at
 overflow_sub-at c = omega arith
@@ -19,9 +17,6 @@ overflow_add-out c = omega arith
 
 pub bounds-out-at : goal.bounds-out-at
 bounds-out-at c = omega arith
-
-pub shape_of-out-then-left-eq0 : goal.shape_of-out-then-left-eq0
-shape_of-out-then-left-eq0 c = simp length-set (c.loop-left.invariant.size ∙ sym c.requires)
 
 pub returns-then-left-eq0 : goal.returns-then-left-eq0
 returns-then-left-eq0 c =

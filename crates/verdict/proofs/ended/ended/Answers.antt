@@ -1,37 +1,34 @@
 -- `verdict::ended::ended` meets its contract.
 use borrow.Author.Tests.{not-true}
 use mathlib.Core.Path.{refl}
-use Rattle.verdict.proofs.ended.Ends.{told_as, no_end, not-compared, undoubted, agreeing}
+use Rattle.verdict.proofs.ended.Ends.{no_end, not-compared, undoubted, agreeing}
 use Rattle.verdict.proofs.ended.ended.Goals as goal
+use Rattle.verdict.proofs.ended.ended.Goals.{then-kept-via-then-kept, then-kept-via-else-kept+then-not-kept}
 
 pub returns-then-not-has_tag : goal.returns-then-not-has_tag
 returns-then-not-has_tag c =
     let a = c.args in
-    no_end a.edition a.y a.d.now a.start _ _ a.kept _ c.has_tag.ensures c.if-not-has_tag.true
+    no_end a.edition a.d.syntax a.d.bytes.now a.start _ _ a.walked.kept _ c.has_tag.ensures c.if-not-has_tag.true
 
 pub returns-then-kept : goal.returns-then-kept
 returns-then-kept c =
     let a = c.args in
-    told_as a.edition a.y a.d.now a.start _ _ a.kept _ c.has_tag.ensures _ _ c.accepted.ensures
-    (not-compared a.edition a.y a.d.now a.start _ _ a.kept _ c.has_tag.ensures
-    c.if-not-has_tag.false c.if-kept.true)
+    elim c.then-kept.branch [
+      | then-kept-via-then-kept w ↦
+          not-compared a.edition a.d.syntax a.d.bytes.now a.start _ _ a.walked.kept _ c.has_tag.ensures c.if-not-has_tag.false w.if-kept.true
+      | then-kept-via-else-kept+then-not-kept w ↦
+          undoubted a.edition a.d.syntax a.d.bytes.now a.start _ _ a.walked.kept _ c.has_tag.ensures c.if-not-has_tag.false w.if-kept.false _ refl
+          (c.requires.none_agrees (not-true _ w.if-not-kept.true))
+    ]
 
-pub returns-then-not-kept : goal.returns-then-not-kept
-returns-then-not-kept c =
+pub returns-in-Some : goal.returns-in-Some
+returns-in-Some c =
     let a = c.args in
-    told_as a.edition a.y a.d.now a.start _ _ a.kept _ c.has_tag.ensures _ _ c.accepted-then-not-kept.ensures
-    (undoubted a.edition a.y a.d.now a.start _ _ a.kept _ c.has_tag.ensures
-    c.if-not-has_tag.false c.if-kept.false _ refl (c.requires.none_agrees (not-true _ c.if-not-kept.true)))
+    agreeing a.edition a.d.syntax a.d.bytes.now a.start a.walked.segments a.walked.end a.walked.kept _ c.has_tag.ensures
+    c.if-not-has_tag.false c.if-kept.false _ c.first_agreeing.ensures _ _ c.in-Some.is
 
-pub returns-in-At : goal.returns-in-At
-returns-in-At c =
+pub returns-in-None : goal.returns-in-None
+returns-in-None c =
     let a = c.args in
-    agreeing a.edition a.y a.d.now a.start a.n a.at a.kept _ c.has_tag.ensures
-    c.if-not-has_tag.false c.if-kept.false _ c.first_agreeing.ensures _ _ c.in-At.is
-
-pub returns-in-Nothing : goal.returns-in-Nothing
-returns-in-Nothing c =
-    let a = c.args in
-    told_as a.edition a.y a.d.now a.start _ _ a.kept _ c.has_tag.ensures _ _ c.accepted-in-Nothing.ensures
-    (undoubted a.edition a.y a.d.now a.start _ _ a.kept _ c.has_tag.ensures
-    c.if-not-has_tag.false c.if-kept.false _ c.first_agreeing.ensures c.in-Nothing.is)
+    undoubted a.edition a.d.syntax a.d.bytes.now a.start _ _ a.walked.kept _ c.has_tag.ensures
+    c.if-not-has_tag.false c.if-kept.false _ c.first_agreeing.ensures c.in-None.is

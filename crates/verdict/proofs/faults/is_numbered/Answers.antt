@@ -1,12 +1,18 @@
 -- `verdict::faults::is_numbered` meets its contract: a count, or none.
+use Prim.Native.Nat.{ℕ}
+use mathlib.Core.Path.{◌≡◌, refl, ◌∙◌, ap}
+use lib.Dec.{eqb}
+use Rattle.std.specs.Option.{option_eq}
+use Rattle.std.specs.Prelude.{Option, Some, None}
+use Rattle.guide.specs.workers.Judging.{is}
 use Rattle.verdict.specs.workers.Segments.{spanned}
-use Rattle.verdict.proofs.faults.Numbers.{count-is, count_none}
 use Rattle.verdict.proofs.faults.is_numbered.Goals as goal
 
-pub returns-in-Is : goal.returns-in-Is
-unfolding spanned
-returns-in-Is c = count-is _ _ _ c.count_of.ensures _ c.in-Is.is
+-- the library's test of a count is that of the papers
+counted : (n : ℕ) (k : Option ℕ) → option_eq eqb k (Some n) ≡ is n k
+counted n (Some k) = refl
+counted n None = refl
 
-pub returns-in-Nothing : goal.returns-in-Nothing
+pub returns : goal.returns
 unfolding spanned
-returns-in-Nothing c = count_none _ _ _ c.count_of.ensures c.in-Nothing.is
+returns c = c.eq.ensures ∙ counted c.args.n c.count_of.result ∙ ap (is c.args.n) c.count_of.ensures

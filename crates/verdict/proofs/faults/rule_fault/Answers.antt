@@ -6,19 +6,18 @@ use Rattle.verdict.specs.workers.Segments.{is_lin, is_unt}
 use Rattle.verdict.proofs.faults.Numbers.{numbered, rule_end, rule_line, no_line-fault, no_rule}
 use Rattle.verdict.proofs.faults.rule_fault.Goals as goal
 
-pub returns-then-is_numbered : goal.returns-then-is_numbered
-returns-then-is_numbered c =
-    no_line-fault c.args.edition _ _ _ _ _ c.in-Lin.is _ (numbered _ _ _ _ c.is_numbered.ensures c.requires.d_value)
-    c.if-is_numbered.true
-
 pub returns-in-Unt : goal.returns-in-Unt
-returns-in-Unt c =
-    rule_end c.args.edition _ _ _ _ _ c.in-Unt.is _ c.end_fault.ensures
+returns-in-Unt c = rule_end c.args.edition _ _ _ _ _ c.in-Unt.is _ c.end_fault.ensures
 
-pub returns-else-is_numbered : goal.returns-else-is_numbered
-returns-else-is_numbered c =
+pub returns-then-not-is_numbered : goal.returns-then-not-is_numbered
+returns-then-not-is_numbered c =
     rule_line c.args.edition _ _ _ _ _ c.in-Lin.is _ (numbered _ _ _ _ c.is_numbered.ensures c.requires.d_value)
-    c.if-is_numbered.false
+    c.if-not-is_numbered.true
+
+pub returns-else-not-is_numbered : goal.returns-else-not-is_numbered
+returns-else-not-is_numbered c =
+    no_line-fault c.args.edition _ _ _ _ _ c.in-Lin.is _ (numbered _ _ _ _ c.is_numbered.ensures c.requires.d_value)
+    c.if-not-is_numbered.false
 
 -- of the other roles none has a rule
 without_rule : (r : Role) → (r ≡ Unh) ⊎ ((r ≡ Bgm) ⊎ (r ≡ Other)) → (is_unt r ≡ false) × (is_lin r ≡ false)

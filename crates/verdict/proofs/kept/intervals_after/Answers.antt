@@ -2,6 +2,6 @@
 use Rattle.verdict.specs.workers.Segments.{spanned}
 use Rattle.verdict.proofs.kept.intervals_after.Goals as goal
 
-pub returns : goal.returns
+pub returns-else-intervals : goal.returns-else-intervals
 unfolding spanned
-returns c = rw c.if-intervals.false c.is_code.ensures
+returns-else-intervals c = rw c.if-intervals.false c.is_code.ensures

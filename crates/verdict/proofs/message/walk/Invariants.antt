@@ -1,14 +1,11 @@
--- `verdict::message::walk` meets its contract. The loop's invariant: `Passed`.
+-- `verdict::message::walk` meets its contract. The loop's invariant: `Standing`.
 use Prim.Native.Nat.{◌-◌}
 use lib.ListN.{length}
-use Rattle.messages.specs.Held.{members}
-use Rattle.cut.specs.Segments.{segments_at}
-use Rattle.verdict.proofs.message.Judging.{Passed}
+use Rattle.verdict.proofs.message.Onward.{Standing}
 use Rattle.verdict.proofs.message.walk.Given as goal
 
-abbrev pub invariant-loop-place : goal.invariant-loop-place
-invariant-loop-place l =
-    Passed l.edition l.y l.d l.start l.stop (members l.first (segments_at l.y l.d l.at)) l.counts l.came l.kept l.at l.n
+abbrev pub invariant-loop-head : goal.invariant-loop-head
+invariant-loop-head l = Standing l.edition l.d.syntax l.d.bytes.now l.start l.stop l.counts l.came l.kept l.end l.segments
 
-abbrev pub decreases-loop-place : goal.decreases-loop-place
-decreases-loop-place l = length l.d - l.at
+abbrev pub decreases-loop-head : goal.decreases-loop-head
+decreases-loop-head l = length l.d.bytes.now - l.end

@@ -1,27 +1,29 @@
 -- `cut::Cursor::step` meets its contract.
 use mathlib.Core.Path.{sym, ◌∙◌}
+use Rattle.cut.proofs.Refusing.{read_some, read_none}
 use Rattle.cut.proofs.Stepping.{step_refused, step_cut}
 use Rattle.cut.proofs.steps.Cursor.step.Goals as goal
 
-pub returns-then-admission-ne0 : goal.returns-then-admission-ne0
-returns-then-admission-ne0 c = sym (step_refused _ _ (λ e. c.if-admission-ne0.true (c.admission.ensures ∙ e)))
+pub returns-in_err-ok : goal.returns-in_err-ok
+returns-in_err-ok c =
+    c.from_residual.ensures ∙ sym (step_refused _ _ (λ e. read_none _ (sym c.ok.ensures.value ∙ c.in_err-ok.was) (c.admission.ensures ∙ e)))
 
-pub returns-in-Segment : goal.returns-in-Segment
-returns-in-Segment c =
+pub returns : goal.returns
+returns c =
     sym
     (step_cut _ _ _ _ _ _
-    (sym c.admission.ensures ∙ c.if-admission-ne0.false)
-    c.opening-first.ensures
-    c.later.ensures
-    c.segment_at-c.ensures
-    c.in-Segment.is)
+    (sym c.admission.ensures ∙ read_some _ _ (sym c.ok.ensures.value ∙ c.in_ok-ok.was))
+    c.opening.ensures
+    c.max.ensures
+    c.segment_at.ensures
+    c.in_ok-found.was)
 
-pub returns-in-Nothing : goal.returns-in-Nothing
-returns-in-Nothing c =
-    sym
+pub returns-in_err-found : goal.returns-in_err-found
+returns-in_err-found c =
+    c.from_residual-in_err-found.ensures ∙ sym
     (step_cut _ _ _ _ _ _
-    (sym c.admission.ensures ∙ c.if-admission-ne0.false)
-    c.opening-first.ensures
-    c.later.ensures
-    c.segment_at-c.ensures
-    c.in-Nothing.is)
+    (sym c.admission.ensures ∙ read_some _ _ (sym c.ok.ensures.value ∙ c.in_ok-ok.was))
+    c.opening.ensures
+    c.max.ensures
+    c.segment_at.ensures
+    c.in_err-found.was)

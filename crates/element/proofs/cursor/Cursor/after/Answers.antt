@@ -1,32 +1,40 @@
--- `element::cursor::Cursor::after` meets its contract: each return by the law of its tests. Assumes nothing.
+-- `element::cursor::Cursor::after` meets its contract: by what ends where the component does. Assumes nothing.
+use Prim.Native.Nat.{◌<◌}
 use mathlib.Core.Path.{sym, ◌∙◌}
 use native.Mathlib.Omega.{arith}
 use Rattle.element.proofs.cursor.Standing.{stands}
-use Rattle.element.proofs.cursor.Onward.{next_by, after_none, after-segment, after-element, after-component}
+use Rattle.element.proofs.cursor.Onward.{next_by, after-ending}
+use Rattle.element.proofs.scan.Endings.{inside-element, inside-component}
 use Rattle.element.proofs.cursor.Cursor.after.Goals as goal
 
-pub returns-then-limit-stop : goal.returns-then-limit-stop
-returns-then-limit-stop c = c.spent.ensures ∙ sym (after_none _ _ _ _ _ c.requires c.if-limit-stop.true)
-
-pub returns-then-x-y : goal.returns-then-x-y
+pub returns-in-Segment : goal.returns-in-Segment
 unfolding next_by
-returns-then-x-y c =
-    c.spent-then-x-y.ensures ∙ sym (after-segment _ _ _ _ _ c.requires c.if-limit-stop.false c.if-x-y.true)
+returns-in-Segment c = c.spent.ensures ∙ sym (after-ending _ _ _ _ _ c.requires _ (sym c.ending_at.ensures ∙ c.in-Segment.is))
 
 pub overflow_add-result : goal.overflow_add-result
 overflow_add-result c =
+    let l : c.args.stop < c.args.limit = inside-element _ _ _ _ (sym c.ending_at.ensures ∙ c.in-Element.is) in
     omega (arith, stands _ _ c.requires.stands, c.requires)
 
-pub returns-then-x-y-2 : goal.returns-then-x-y-2
-unfolding next_by
-returns-then-x-y-2 c =
-    sym (after-element _ _ _ _ _ c.requires c.if-limit-stop.false c.if-x-y.false c.if-x-y-2.true)
+pub overflow_add-result-in-Element : goal.overflow_add-result-in-Element
+overflow_add-result-in-Element c =
+    let l : c.args.stop < c.args.limit = inside-element _ _ _ _ (sym c.ending_at.ensures ∙ c.in-Element.is) in
+    omega arith
 
-pub overflow_add-result-2 : goal.overflow_add-result-2
-overflow_add-result-2 c =
+pub returns-in-Element : goal.returns-in-Element
+unfolding next_by
+returns-in-Element c = sym (after-ending _ _ _ _ _ c.requires _ (sym c.ending_at.ensures ∙ c.in-Element.is))
+
+pub overflow_add-result-in-Component : goal.overflow_add-result-in-Component
+overflow_add-result-in-Component c =
+    let l : c.args.stop < c.args.limit = inside-component _ _ _ _ (sym c.ending_at.ensures ∙ c.in-Component.is) in
     omega (arith, stands _ _ c.requires.stands, c.requires)
 
-pub returns : goal.returns
+pub overflow_add-result-in-Component-2 : goal.overflow_add-result-in-Component-2
+overflow_add-result-in-Component-2 c =
+    let l : c.args.stop < c.args.limit = inside-component _ _ _ _ (sym c.ending_at.ensures ∙ c.in-Component.is) in
+    omega arith
+
+pub returns-in-Component : goal.returns-in-Component
 unfolding next_by
-returns c =
-    sym (after-component _ _ _ _ _ c.requires c.if-limit-stop.false c.if-x-y.false c.if-x-y-2.false)
+returns-in-Component c = sym (after-ending _ _ _ _ _ c.requires _ (sym c.ending_at.ensures ∙ c.in-Component.is))

@@ -1,8 +1,0 @@
--- `price::numbers::from_start` meets its contract.
-use native.Mathlib.Omega.{arith}
-use mir.Syntax.{w64}
-use mir.Facts.{to_z_pos}
-use Rattle.price.proofs.numbers.from_start.Goals as goal
-
-pub returns : goal.returns
-returns c = to_z_pos w64 (omega arith)
