@@ -14,6 +14,7 @@ pub(crate) fn segments_agree(d: Delivery<'_>, a: Span, b: Span, skip: usize) -> 
 {
     let mut u = Cursor::new(d.bytes, a.start, a.end).step(d);
     let mut v = Cursor::new(d.bytes, b.start, b.end).step(d);
+    // Two walks side by side, of which one may wait, so no `for` counts it.
     while u.is_some() || v.is_some() {
         let s = shown(u, v, skip);
         let t = shown(v, u, skip);

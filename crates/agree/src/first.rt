@@ -33,6 +33,7 @@ fn first_from(d: Delivery<'_>, start: usize) -> Option<Agreeing>
     let mut at = start;
     let mut n = 0;
     let mut most = 1024;
+    // A turn goes on where its run ended, so no `for` counts it.
     while at < d.bytes.len() {
         match fresh_run(d, start, at, n, most) {
             Some(run) => {

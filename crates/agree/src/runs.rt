@@ -46,6 +46,7 @@ fn run_from(d: Delivery<'_>, at: usize, most: usize, t: &mut [u8; 8192]) -> Run
         stopped: false,
     };
     let mut room = most;
+    // Room falls only where a position is marked, so no `for` counts it.
     while 0 < room {
         let Some(entry) = entry_at(d, run.end) else {
             return run;

@@ -28,6 +28,7 @@ pub fn first_that<T: ByteTest>(test: &T, d: &[u8], from: usize, limit: usize) ->
     // Before this place eight bytes stand, of which the first is before the end.
     let words = end.min(d.len().saturating_sub(7));
     let mut i = from;
+    // Eight bytes at a time; the last few are left to a `for`.
     while i < words {
         let m = test.flags(eight_from(d, i));
         if m != 0 {

@@ -34,7 +34,7 @@ unbroken y d = drop (past_at y d 0) d
 unfoldable pub admission_of : Syntax → List ℕ → ℕ
 admission_of y d = admits y (length d) (unbroken y d)
 
--- the number of a refusal: "1: longer than the limit", 2 for the service characters
+-- the number of a refusal: 1, "delivery longer than the limit"; 2 for the service characters
 abbrev pub number_of : Inadmissible → ℕ
 number_of TooLong = 1
 number_of Characters = 2

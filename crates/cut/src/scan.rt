@@ -38,6 +38,7 @@ pub(crate) fn cut_from(d: Delivery<'_>, at: usize, released: bool) -> Option<Cut
     }
     let marks = Marks(d.syntax);
     let mut i = at + usize::from(released);
+    // From mark to mark: the search says where the next turn begins.
     loop {
         let k = first_that(&marks, d.bytes, i, d.bytes.len());
         if d.bytes.len() <= k {

@@ -33,6 +33,7 @@ impl Scan {
         let last = d.len().checked_sub(8)?;
         let mut n = self.next;
         let mut m = self.left;
+        // From word to word, up to the first that has a flag.
         while m == 0 {
             if last < n {
                 return None;

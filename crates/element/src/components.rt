@@ -50,6 +50,7 @@ fn quick_at(
     let mut c = component;
     let services = Services(d.syntax);
     let mut scan = Scan::untested(start);
+    // From service character to service character: the scan says where the next turn begins.
     loop {
         let behind = scan.step(&services, d.bytes)?;
         let stop = behind.at - 1;
@@ -91,6 +92,7 @@ fn each_at(d: Delivery<'_>, start: usize, limit: usize, element: usize, componen
     let mut e = 0;
     let mut c = 0;
     let mut i = start;
+    // From component to component: each says where the next turn begins.
     loop {
         let stop = component_from(d, i, limit).end;
         if e == element && c == component {

@@ -31,6 +31,7 @@ pub(crate) fn next_u(d: Delivery<'_>, from: usize) -> usize
         return from;
     }
     let mut i = from;
+    // From U to U: the search says where the next turn begins.
     loop {
         let k = first_that(&LetterU, d.bytes, i, d.bytes.len());
         if follows_end(d, from, k) {

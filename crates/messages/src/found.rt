@@ -59,6 +59,7 @@ fn next_from(d: Delivery<'_>, from: usize) -> Option<Message>
     ensures { result ≡ head_found (messages_in (segments_at d.entry.syntax d.entry.bytes.now from)) }
 {
     let mut at = from;
+    // From segment to segment: each says where the next turn begins.
     loop {
         let Spot { start, tag, end } = spot_at(d, at)?;
         if tag.begins_message() {
@@ -76,6 +77,7 @@ pub fn message_end(d: Delivery<'_>, from: usize) -> usize
     ensures { result ≡ last_end from (body (segments_at d.entry.syntax d.entry.bytes.now from)) }
 {
     let mut next = from;
+    // From one segment with U to the next: each says where the next turn begins.
     loop {
         let at = next_u(d, next);
         let Some(Spot { tag, end, .. }) = spot_at(d, at) else {

@@ -40,6 +40,7 @@ pub(crate) fn clean_on(d: Delivery<'_>, scan: Scan) -> Option<Ahead>
     let a = scan.at;
     let mut from = scan;
     let mut removed = 0;
+    // From mark to mark: the scan says where the next turn begins.
     loop {
         let behind = from.step(&UsualMarks, d.bytes)?;
         let end = behind.at - 1;

@@ -105,7 +105,7 @@ fn mood_after(n: usize, row: usize, mood: Mood) -> Mood
     }
 }
 
-// The pass over a part that has a byte, against the page that has a word.
+// The pass over a part that has a byte, against the page that has a word. Each component says where the next turn begins, so no `for` counts it.
 pub(crate) fn pass(
     d: Delivery<'_>,
     start: usize,

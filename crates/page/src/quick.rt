@@ -91,6 +91,7 @@ fn is_begun(y: Syntax, d: &[u8], start: usize, tag: u64) -> bool
 }
 
 // The segment that begins at `start`, against the tag and the page of a first word; none, where it is not told that there is no fault.
+// Each component says where the next turn begins, so no `for` counts it.
 pub(crate) fn faultless_from(d: Delivery<'_>, start: usize, first: u64) -> Option<Reading>
     requires { is_tag_word (first / 0x1_0000_0000) ≡ true }
     ensures { (page : Page) → FirstCell (first % 0x1_0000_0000) page → IfSome result (FaultlessAt d.entry.syntax page d.entry.bytes.now start) }

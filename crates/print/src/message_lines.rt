@@ -123,6 +123,7 @@ pub(crate) fn between(d: Delivery<'_>, c: Counts, out: &mut [u8]) -> Chunk
 {
     let mut at = c.at;
     let mut outside = c.outside;
+    // From segment to segment: each says where the next turn begins.
     loop {
         let here = Counts { at, outside, ..c };
         match outer_at(d, at) {

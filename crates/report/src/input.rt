@@ -18,6 +18,7 @@ fn read_full(input: &mut impl Read, buffer: &mut [u8]) -> usize
     ensures { result ≤ length buffer.new }
 {
     let mut done = 0;
+    // What a read gives says where the next one goes.
     while done < buffer.len() {
         match input.read(&mut buffer[done..]) {
             Ok(n) if n > 0 => done += n,

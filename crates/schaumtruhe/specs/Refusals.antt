@@ -27,7 +27,7 @@ abbrev pub refusal_number : {T : Type 0} → Result T Refusal → ℕ
 refusal_number (Ok a) = 0
 refusal_number (Err e) = number_of e
 
--- "number, segment, the place of the segment's first byte and node"; "1, 2 and 30 to 32 give 0 for the last three"
+-- "number, segment, the place of the segment's first byte, node; 1, 2 and 30 to 32 give 0 for the last three"
 abbrev pub refusal_told : Unaccepted → Verdict
 refusal_told (Call r) = refuses (number_of r) 0 0 0
 refusal_told (Message r) = refuses (number_of_reason r.reason) r.segment r.place r.node

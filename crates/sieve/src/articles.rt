@@ -106,6 +106,7 @@ fn print_article(y: Syntax, d: &[u8], a: usize, e: usize) -> u32
     }
     let mut i = a;
     let mut print = 0;
+    // Eight bytes at a time, up to a release mark.
     while i <= end - 8 {
         let w = eight_at(d, i);
         if alike(w, y.release) != 0 {

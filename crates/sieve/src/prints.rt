@@ -76,6 +76,7 @@ fn print_segment(y: Syntax, bytes: &[u8], skip: usize, before: u32) -> u32
     let mut i = 0;
     let mut element = 0;
     let mut component = 0;
+    // From component to component: each says where the next turn begins.
     loop {
         let own = print_own(y, bytes, i, element, component, skip, print);
         print = own.print;

@@ -6,7 +6,7 @@ use Rattle.verdict.specs.declared.answers.Judged.{Judged}
 use Rattle.verdict.specs.declared.answers.Accepted.{Accepted}
 use Rattle.verdict.specs.declared.answers.Refused.{Refused}
 
--- "accepted" with the count of its segments and the byte after it; refused "with number, segment, the place of the segment's first byte and node"
+-- "accepted" with the count of its segments and the byte after it; refused: "number, segment, the place of the segment's first byte, node"
 abbrev pub told : Result Accepted Refused → Verdict
 told (Ok a) = accepts a.segments a.end
 told (Err r) = refuses (number_of_reason r.reason) r.segment r.place r.node

@@ -112,6 +112,7 @@ fn judged_by(edition: Edition, d: Delivery<'_>, start: usize) -> Judged
 {
     let mut stop = d.bytes.len();
     let mut close = None;
+    // Once, or twice where positions agree.
     loop {
         match walk(edition, d, start, stop) {
             Err(told) => {

@@ -26,7 +26,7 @@ use Rattle.agree.specs.declared.first.Agreeing.{Agreeing}
 abbrev pub is_lin : List ℕ → Bool
 is_lin b = begins (bytes_of "LIN") b
 
--- "agrees with one of these" and "meets" are searches
+-- agreeing with one of some positions is a search, and so is meeting one of them
 pub agrees_listed : (y : Syntax) (h : Heading) (qs : List Heading) → list_any (λ q. agree y q h) qs ≡ agrees_any y h qs
 unfolding agrees_any
 agrees_listed y h [] = refl
