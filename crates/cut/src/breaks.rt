@@ -6,12 +6,12 @@ ghost use Rattle.cut.specs.Calls.{back_at};
 use crate::service::{Delivery, Syntax};
 use bytewise::limit_of;
 
-// CR or LF, where the reading skips them.
+// CR or LF, where the reading skips them. Almost every byte is told by the first test.
 #[tactic(auto, using(std::proofs::lemmas::Bool::Decides::nat_tests), unfolding(crate::specs::Segments::is_break))]
 pub(crate) fn is_break(y: Syntax, x: u8) -> bool
     ensures { result ≡ is_break y x }
 {
-    matches!(x, b'\r' | b'\n') && y.skips && x != y.terminator && x != y.release
+    x <= b'\r' && y.skips && x != y.terminator && x != y.release && matches!(x, b'\r' | b'\n')
 }
 
 // The place behind the line breaks at `at`.
