@@ -2,6 +2,8 @@
 use Rattle.std.proofs.Common.{
   ◌≡◌,
   ℕ,
+  zero,
+  suc,
   ◌+◌,
   ◌-◌,
   ◌<◌,
@@ -19,14 +21,18 @@ use Rattle.std.proofs.Common.{
   get_or,
   take,
   drop,
+  sym,
+  ap,
   ◌∙◌,
   arith,
   length-take,
   ne_eqb,
 }
 use mathlib.Core.Bool.{and-false}
+use Rattle.std.proofs.lemmas.Bool.{eqb-false}
 use Rattle.cut.specs.declared.service.Syntax.{Syntax}
 use Rattle.bytewise.specs.Bytes.{part}
+use Rattle.bytewise.specs.Search.{FirstThat}
 use Rattle.cut.specs.Segments.{frees}
 use Rattle.bytewise.proofs.Parts.{part_none, part-next}
 use Rattle.plain.specs.Plain.{unless_mark, plain, decoded}
@@ -112,10 +118,36 @@ module _ (y : Syntax) (d : List ℕ) where
         none = λ n. decoded-next i e true h k f ∙ released_none (i + 1) e n;
       }
 
+  -- up to the first release character each byte counts
+  pub count-front
+      : (n a e : ℕ) → a + n ≤ e → e ≤ length d → ((k : ℕ) → a ≤ k → k < a + n → eqb (get_or d k 0) y.release ≡ false)
+      → length (decoded y a e d) ≡ n + length (decoded y (a + n) e d)
+  count-front zero a e h k f = let z : a + 0 ≡ a = omega arith in rw z (omega arith)
+  count-front (suc n) a e h k f =
+      let z : a + suc n ≡ (a + 1) + n = omega arith in
+      let u = unmarked y (get_or d a 0) (eqb-false _ _ (f a (omega arith) (omega arith))) in
+      let r = count-front n (a + 1) e (omega arith) k (λ j l m. f j (omega arith) (omega arith)) in
+      rw (decoded-byte a e (omega arith) k u, z) (omega (arith, r))
+
   -- an end past the delivery counts as the delivery's end
   pub decoded_limited : (a e r : ℕ) → r ≡ min e (length d) → decoded y a r d ≡ decoded y a e d
   unfolding decoded
   decoded_limited a e r h = rw (limited d a e r h)
+
+-- the bytes of a part are those before its first release character and those that are decoded from there on
+module _ (y : Syntax) (d : List ℕ) (a e r : ℕ) (lim : r ≡ min e (length d)) where
+  pub counted-none : r ≤ a → 0 ≡ length (decoded y a e d)
+  counted-none h = ap length (sym (decoded-none y d a r h) ∙ decoded_limited y d a e r lim)
+
+  pub counted-behind
+      : (i n : ℕ) → a < r → FirstThat (λ x. eqb x y.release) d a (min r (length d)) i → n ≡ length (decoded y i r d)
+      → i - a + n ≡ length (decoded y a e d)
+  counted-behind i n h f q =
+      let within = f.within in
+      let onward = f.onward in
+      let z : a + (i - a) ≡ i = omega arith in
+      let k = count-front y d (i - a) a r (omega arith) (omega arith) (λ j l m. f.before j l (omega arith)) in
+      ap (λ (m : ℕ). i - a + m) (q ∙ ap (λ (j : ℕ). length (decoded y j r d)) (sym z)) ∙ sym k ∙ ap length (decoded_limited y d a e r lim)
 
 -- no more bytes are left than stood there
 plain_fits : (y : Syntax) (r : Bool) (xs : List ℕ) → length (plain y r xs) ≤ length xs

@@ -4,13 +4,44 @@ ghost use Rattle.plain.specs.Plain.{decoded, same, fitting, copied};
 
 use crate::literals::Literals;
 use crate::words::word_at_once;
-use cut::Delivery;
+use bytewise::{ByteTest, alike, first_that, limit_of};
+use cut::{Delivery, Syntax};
 
-// How many bytes the part has, release marks not counted.
+// How many bytes the part has, release marks not counted. Up to the first release character each byte counts.
 pub fn plain_length(d: Delivery<'_>, a: usize, e: usize) -> usize
     ensures { result ≡ length (decoded d.entry.syntax a e d.entry.bytes.now) }
 {
+    let end = limit_of(d.bytes, e);
+    if end <= a {
+        return 0;
+    }
+    let i = first_that(&Releases(d.syntax), d.bytes, a, end);
+    i - a + literal_count(d, i, end)
+}
+
+// The same, byte by byte.
+fn literal_count(d: Delivery<'_>, a: usize, e: usize) -> usize
+    ensures { result ≡ length (decoded d.entry.syntax a e d.entry.bytes.now) }
+{
     Literals::of(d, a, e).count()
+}
+
+// The release character.
+#[derive(Clone, Copy)]
+struct Releases(Syntax);
+
+impl ByteTest for Releases {
+    ghost use Rattle.std.specs.Prelude.{eqb};
+
+    ghost holds = { λ releases x. eqb x releases.0.release };
+
+    fn flags(&self, w: u64) -> u64 {
+        alike(w, self.0.release)
+    }
+
+    fn passes(&self, x: u8) -> bool {
+        x == self.0.release
+    }
 }
 
 // Whether the part, decoded, is just the bytes of word: a code, a tag, an edition.

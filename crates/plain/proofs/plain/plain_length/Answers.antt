@@ -1,11 +1,15 @@
 -- `plain::plain::plain_length` meets its contract.
-use mathlib.Core.Logic.{inl}
-use mathlib.Core.Path.{refl, ap}
 use native.Mathlib.Omega.{arith}
-use lib.ListN.{length}
-use Rattle.plain.proofs.Decoding.{count-within}
+use Rattle.plain.proofs.Decoding.{count-within, counted-none, counted-behind}
 use Rattle.plain.proofs.plain.plain_length.Goals as goal
 
-pub count-requires-clause-fits : goal.count-requires-clause-fits
-count-requires-clause-fits c =
-    inl (omega (arith, count-within c.args.d.syntax c.args.d.bytes.now c.args.a c.args.e _ refl, ap length c.of.ensures))
+pub returns-then-end-a : goal.returns-then-end-a
+returns-then-end-a c = counted-none _ _ _ _ _ c.limit_of-end.ensures c.if-end-a.true
+
+pub overflow_add-result : goal.overflow_add-result
+overflow_add-result c =
+    let k = count-within _ _ _ _ _ c.literal_count.ensures in
+    omega (arith, c.first_that-i.ensures.within)
+
+pub returns : goal.returns
+returns c = counted-behind _ _ _ _ _ c.limit_of-end.ensures _ _ c.if-end-a.false c.first_that-i.ensures c.literal_count.ensures
