@@ -15,7 +15,7 @@ pub use ahead::Scan;
 pub use components::{Span, component_at};
 pub use cursor::{Cursor, Visit};
 pub use endings::{Ending, ending_at, ending_of, frees_next};
-pub use marks::UsualMarks;
+pub use marks::{UsualMarks, marks_in};
 pub use scan::{Extent, component_from};
 pub use services::{Services, services_in};
 pub use usual::has_usual_services;

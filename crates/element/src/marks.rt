@@ -29,7 +29,7 @@ const LOW: u64 = 0x7f7f_7f7f_7f7f_7f7f;
 // Which of eight bytes are a usual service character or are not allowed, and with these which are `;` or `>`: they differ from `:` and `?` in two bits
 // only, and
 // one test without these bits takes less time than two. A byte with its high bit set is no service character.
-fn marks_in(w: u64) -> u64
+pub fn marks_in(w: u64) -> u64
     ensures { Flagged w is_mark result }
 {
     let low = w & LOW;
