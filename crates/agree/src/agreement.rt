@@ -26,12 +26,18 @@ pub(crate) fn segments_agree(d: Delivery<'_>, a: Span, b: Span, skip: usize) -> 
     true
 }
 
-// Whether a component does not stand behind the next one of the other segment.
+// Whether a component does not stand behind the next one of the other segment. Two tests: std's order of pairs takes longer.
 fn not_past(u: Visit, v: Option<Visit>) -> bool
     ensures { result ≡ not_past u v }
 {
     match v {
-        Some(v) => (u.element, u.component) <= (v.element, v.component),
+        Some(v) => {
+            if u.element == v.element {
+                u.component <= v.component
+            } else {
+                u.element < v.element
+            }
+        }
         None => true,
     }
 }

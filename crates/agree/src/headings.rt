@@ -26,7 +26,8 @@ pub(crate) struct Entry {
     pub position: Option<Head>,
 }
 
-// The first segment from `at` on.
+// The first segment from `at` on. Made part of its callers, so that the entry is not handed over in memory.
+#[inline(always)]
 pub(crate) fn entry_at(d: Delivery<'_>, at: usize) -> Option<Entry>
     ensures { MatchOption result (segments_at d.entry.syntax d.entry.bytes.now at ≡ []) (λ r. EntryAt d.entry.syntax d.entry.bytes.now at r) }
 {
@@ -50,6 +51,7 @@ fn span_of(segment: Cut) -> Span
 }
 
 // The first segment from `at` on, if it has this tag. Only one that begins so is cut.
+#[inline(always)]
 fn optional_at(d: Delivery<'_>, at: usize, tag: &[u8]) -> Option<Span>
     ensures { Optional d.entry.syntax d.entry.bytes.now at tag.now result }
 {
@@ -69,6 +71,7 @@ fn optional_at(d: Delivery<'_>, at: usize, tag: &[u8]) -> Option<Span>
 }
 
 // The position whose LIN this is.
+#[inline(always)]
 fn head_at(d: Delivery<'_>, lin: Span) -> Head
     ensures { heading_in result d.entry.bytes.now
         ≡ heading_from (part lin.start lin.end d.entry.bytes.now) (segments_at d.entry.syntax d.entry.bytes.now lin.end) }

@@ -81,10 +81,8 @@ fn meets_run(
         ≡ meets d.entry.syntax (headings_in n (segments_at d.entry.syntax d.entry.bytes.now start)) (headings_in count
         (segments_at d.entry.syntax d.entry.bytes.now at)) }
 {
-    let Delivery { syntax, bytes } = d;
     any_position(d, start, n, |h| {
-        let own = Delivery { syntax, bytes };
-        agrees_marked(own, at, count, h, print_head(own, h), t)
+        agrees_marked(d, at, count, h, print_head(d, h), t)
     })
 }
 

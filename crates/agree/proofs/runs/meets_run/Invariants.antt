@@ -6,4 +6,4 @@ use Rattle.agree.specs.workers.Parts.{headings_in}
 use Rattle.agree.proofs.runs.meets_run.Given as goal
 
 abbrev pub ghost-any_position : goal.ghost-any_position
-ghost-any_position a = λ (q : Heading). agrees_any a.d.syntax q (headings_in a.test.3.now (segments_at a.d.syntax a.d.bytes.now a.test.2.now))
+ghost-any_position a = λ (q : Heading). agrees_any a.d.syntax q (headings_in a.test.2.now (segments_at a.d.syntax a.d.bytes.now a.test.1.now))
