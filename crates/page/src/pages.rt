@@ -74,17 +74,19 @@ fn known_fault(
     requires { n ≡ length (decoded d.syntax a b d.bytes.now) }
     ensures { fault_number result ≡ stand_fault d.entry.syntax (stand_in mood) (row_in row) (decoded d.entry.syntax a b d.entry.bytes.now) }
 {
-    match mood {
-        Mood::Asking => text_fault(d, a, b, n, row, true),
-        Mood::Idle => text_fault(d, a, b, n, row, false),
+    let asked = match mood {
+        Mood::Asking => true,
+        Mood::Idle => false,
         Mood::Owing => {
             if 0 < n {
                 return Err(Reason::ComponentMissing);
             }
-            Ok(())
+            return Ok(());
         }
-        Mood::Tag => Ok(()),
-    }
+        Mood::Tag => return Ok(()),
+    };
+    // One call, so that the compiler makes it part of the pass.
+    text_fault(d, a, b, n, row, asked)
 }
 
 // The mood after a component of n bytes.
