@@ -1,5 +1,5 @@
 // The P lines of an accepted message.
-ghost use Rattle.std.specs.Prelude.{◌≤◌, ◌≡◌, length};
+ghost use Rattle.std.specs.Prelude.{◌*◌, ◌≤◌, ◌≡◌, length};
 
 use crate::articles::put_article;
 use crate::writing::{Missing, put_signed};
@@ -17,6 +17,16 @@ fn price_line(rt: &impl Print, message: Delivery<'_>, price: &[i64]) -> io::Resu
     put_signed(rt, price[3])?;
     put_signed(rt, price[4])?;
     rt.write_all(b"\n")
+}
+
+// One line for each of the prices that were written: eight numbers each, and nothing behind them.
+fn row_lines(rt: &impl Print, message: Delivery<'_>, row: &[i64], written: usize) -> io::Result<()>
+    requires { length row.now ≡ written * 8 }
+{
+    for price in row.chunks_exact(8).take(written) {
+        price_line(rt, message, price)?;
+    }
+    Ok(())
 }
 
 // The price from which to go on, if any of `total` is left where `written` from the k-th on have come.
@@ -47,10 +57,9 @@ fn some_lines(
     };
     let mut row = [0i64; 512];
     let filled = prices(how, d, start, k, &mut row)?;
-    for price in row.chunks_exact(8).take(filled.written) {
-        price_line(rt, message, price)?;
-    }
-    left_of(k, filled.written, filled.total)
+    let written = filled.written;
+    row_lines(rt, message, &row[..written * 8], written)?;
+    left_of(k, written, filled.total)
 }
 
 // The prices of the message from start to end. Each turn writes one line or more, and a price takes more than one byte, so that there are
