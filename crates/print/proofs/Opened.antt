@@ -38,10 +38,10 @@ refuses_all y d (suc n) s h = refl
 
 module _ (how : Reading) (d : List ℕ) (y : Syntax) (used : y ≡ used_in how d) (c : Counts) where
   pub opened_refused
-      : (e : Inadmissible) → number_of e ≡ admission_of y d → (at : ℕ) → c ≡ none at
-      → (left_to d (record { syntax = y; counts = c; stage = stage.Refused e }) ≡ report_of how d) × (sound c ≡ true)
+      : (e : Inadmissible) → number_of e ≡ admission_of y d → (n : ℕ) → n ≡ number_of e → (at : ℕ) → c ≡ none at
+      → (left_to d (record { syntax = y; counts = c; stage = stage.Refused n }) ≡ report_of how d) × (sound c ≡ true)
   unfolding left_to left_in report_of survey_of
-  opened_refused e admits at k = (rw (← used, ← admits) (refuses_all y d (number_of e) _ (some_reason e)), rw k (none-sound at))
+  opened_refused e admits n same at k = (rw (← used, ← admits, same) (refuses_all y d (number_of e) _ (some_reason e)), rw k (none-sound at))
 
   module _ (admits : 0 ≡ admission_of y d) (at : ℕ) (opens : at ≡ opening_of y d) where
     all : segments y d ≡ segments_at y d at

@@ -1,6 +1,6 @@
 -- A part of the delivery into a lent row, release marks removed.
 use Prim.Native.Nat.{ℕ, ◌+◌, ◌≤◌, ◌<◌, min}
-use mathlib.Core.Path.{◌≡◌, refl, sym, ap, ◌∙◌}
+use mathlib.Core.Path.{◌≡◌, refl, sym, ap, ◌∙◌, subst}
 use Rattle.std.specs.Prelude.{Some, None}
 use mathlib.Core.List.{List, [], ◌∷◌, ◌++◌}
 use native.Mathlib.Nat.{zero-add}
@@ -32,18 +32,6 @@ module _ (y : Syntax) (d : List ℕ) (from to end stop : ℕ) (row : List ℕ) w
       pub pouring_length : length out ≡ length row
       pouring_length = ap length p.put ∙ put-length 0 p.text row
 
-      -- the row is full
-      pub pouring_full : stop ≤ n → Poured y d from to stop row out (record { length = stop; left = Some i })
-      pouring_full h =
-          record {
-            text = p.text;
-            parts = p.parts ∙ ap (λ (t : List ℕ). p.text ++ t) (decoded_limited y d i to end ends);
-            put = p.put;
-            count = omega (arith, p.count, p.room);
-            room = omega arith;
-            full = λ _. refl;
-          }
-
       module _ (r : ℕ) (lit : r ≡ literal_of y d i end) where
         found : Literal y d i end r
         found = literal-is lit (omega arith)
@@ -57,6 +45,27 @@ module _ (y : Syntax) (d : List ℕ) (from to end stop : ℕ) (row : List ℕ) w
               count = p.count;
               room = p.room;
               full = λ t. absurd (cc);
+              more = λ t. absurd (cc);
+            }
+
+        -- the row is full, and that was all
+        pub pouring_whole : stop ≤ n → end ≤ r → Poured y d from to stop row out (record { length = stop; left = None })
+        pouring_whole h e =
+            let s : n ≡ stop = omega (arith, p.room) in
+            subst (λ (m : ℕ). Poured y d from to stop row out (record { length = m; left = None })) s (pouring_all e)
+
+        -- the row is full, and a byte is left
+        pub pouring_full : stop ≤ n → r < end → Poured y d from to stop row out (record { length = stop; left = Some i })
+        pouring_full h k =
+            let l = decoded_limited y d i to end ends in
+            record {
+              text = p.text;
+              parts = p.parts ∙ ap (λ (t : List ℕ). p.text ++ t) l;
+              put = p.put;
+              count = omega (arith, p.count, p.room);
+              room = omega arith;
+              full = λ _. refl;
+              more = λ _ e. let z = sym (found.found k) ∙ (l ∙ e) in absurd (cc);
             }
 
         pub pouring_on : r < end → n < stop → Pouring (set out n (get_or d r 0)) (r + 1) (n + 1)

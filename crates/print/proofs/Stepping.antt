@@ -4,8 +4,6 @@ use mathlib.Core.Path.{◌≡◌, refl, sym, ◌∙◌, subst}
 use mathlib.Core.Bool.{Bool, true, false}
 use mathlib.Core.List.{List, [], ◌∷◌}
 use lib.ListN.{length}
-use Rattle.cut.specs.Admission.{number_of}
-use Rattle.cut.specs.declared.admit.Inadmissible.{Inadmissible}
 use Rattle.price.specs.declared.cursor.Cursor.{Cursor}
 use Rattle.print.specs.declared.state.Rest.{Rest}
 use Rattle.print.specs.declared.state.Stage.TheVariants as stage
@@ -38,10 +36,9 @@ module _ (d : List ℕ) (p : Printer) (row : List ℕ) where
     by_left left h w = subst (λ (t : List ℕ). Wrote d t row row' r) h w
 
     pub stepped_refused
-        : (e : Inadmissible) → p.stage ≡ stage.Refused e → Wrote d (line_of 88 (number_of e ∷ [])) row row' r
-        → Stepped d p row row' (Ok (Some r))
+        : (n : ℕ) → p.stage ≡ stage.Refused n → Wrote d (line_of 88 (n ∷ [])) row row' r → Stepped d p row row' (Ok (Some r))
     unfolding left_to left_in
-    stepped_refused e h w = by_left (line_of 88 (number_of e ∷ [])) (rw h) w
+    stepped_refused n h w = by_left (line_of 88 (n ∷ [])) (rw h) w
 
     pub stepped-between
         : p.stage ≡ stage.Between → Wrote d (left_from p.syntax d p.counts) row row' r → Stepped d p row row' (Ok (Some r))

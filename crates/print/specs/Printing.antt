@@ -2,7 +2,6 @@
 use Rattle.std.specs.Prelude.{ℕ, ◌+◌, ◌≤◌, ◌<◌, ◌≡◌, Bool, true, false, ◌&&◌, List, [], ◌∷◌, ◌++◌, leb, length, take, drop, Option, Some, None, Result, Ok, Err}
 use Rattle.bytewise.specs.Bytes.{part}
 use Rattle.cut.specs.declared.service.Syntax.{Syntax}
-use Rattle.cut.specs.Admission.{number_of}
 use Rattle.cut.specs.Segments.{Segment, segments_at}
 use Rattle.plain.specs.Plain.{decoded}
 use Rattle.messages.specs.Messages.{messages_in}
@@ -45,7 +44,7 @@ module _ (y : Syntax) (d : List ℕ) where
   left_within c cursor r = (decoded y r.from r.to d ++ behind r.amount r.decimals) ++ left_among c cursor
 
   unfoldable pub left_in : Counts → Stage → List ℕ
-  left_in c (Refused e) = line_of 88 (number_of e ∷ [])
+  left_in c (Refused n) = line_of 88 (n ∷ [])
   left_in c Between = left_from c
   left_in c (Prices cursor) = left_among c cursor
   left_in c (Article cursor r) = left_within c cursor r

@@ -1,6 +1,5 @@
 // The lines of messages, and the last two lines.
 ghost use Rattle.std.specs.Prelude.{◌^◌, ◌≤◌, ◌<◌, true, [], ◌∷◌, ◌≡◌, length, Some};
-ghost use Rattle.cut.specs.Admission.{number_of};
 ghost use Rattle.cut.specs.Segments.{segments_at};
 ghost use Rattle.messages.specs.Held.{head_outer};
 ghost use Rattle.messages.specs.declared.outer.Outer.TheVariants as outer;
@@ -13,18 +12,18 @@ ghost use Rattle.print.specs.workers.Stages.{stage_after, counted_after};
 
 use crate::rows::{put_line, put_line_at};
 use crate::state::{Chunk, Counts, Stage};
-use cut::{Delivery, Inadmissible, past_breaks};
+use cut::{Delivery, past_breaks};
 use envelope::Incomplete;
 use messages::{Outer, outer_at};
 use price::first_price;
 use verdict::{Verdict, judged};
 
 // X and the number of a delivery that is refused as a whole.
-pub(crate) fn refused(d: Delivery<'_>, c: Counts, reason: Inadmissible, out: &mut [u8]) -> Chunk
+pub(crate) fn refused(d: Delivery<'_>, c: Counts, number: u32, out: &mut [u8]) -> Chunk
     requires { (least ≤ length out.old) × (sound c ≡ true) }
-    ensures { Wrote d.entry.bytes.now (line_of 88 (number_of reason ∷ [])) out.old out.new result }
+    ensures { Wrote d.entry.bytes.now (line_of 88 (number ∷ [])) out.old out.new result }
 {
-    let ns = [u32::from(reason) as usize];
+    let ns = [number as usize];
     let n = put_line(b'X', &ns, b'\n', out);
     Chunk::new(n, d.syntax, c, Stage::Ended)
 }

@@ -115,6 +115,14 @@ pub(crate) fn put_plain(d: Delivery<'_>, from: usize, to: usize, out: &mut [u8])
         out[n] = d.bytes[at];
         i = at + 1;
     }
+    // The row is full: that may be all.
+    let rest = literal(d, i, end);
+    if end <= rest {
+        return Copied {
+            length: stop,
+            left: None,
+        };
+    }
     Copied {
         length: stop,
         left: Some(i),

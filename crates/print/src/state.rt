@@ -2,7 +2,7 @@
 ghost use Rattle.std.specs.Prelude.{◌≡◌};
 ghost use Rattle.print.specs.Printing.{sound};
 
-use cut::{Inadmissible, Syntax};
+use cut::Syntax;
 use price::Cursor;
 
 // How far the walk over the delivery has come, and what it has counted. Anyone can make one, so that its soundness is tested and no invariant.
@@ -48,7 +48,7 @@ pub struct Rest {
 // of an article; nothing.
 #[derive(Clone, Copy)]
 pub enum Stage {
-    Refused(Inadmissible),
+    Refused { number: u32 },
     Between,
     Prices { cursor: Cursor },
     Article { cursor: Cursor, rest: Rest },

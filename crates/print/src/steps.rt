@@ -24,7 +24,9 @@ pub fn printer(how: Reading, d: &[u8]) -> Printer
         Err(reason) => Printer {
             syntax,
             counts: Counts::starting(0),
-            stage: Stage::Refused(reason),
+            stage: Stage::Refused {
+                number: u32::from(reason),
+            },
         },
     }
 }
@@ -45,7 +47,7 @@ pub fn step(d: &[u8], p: Printer, out: &mut [u8]) -> Result<Option<Chunk>, Unpri
         bytes: d,
     };
     match p.stage {
-        Stage::Refused(reason) => Ok(Some(refused(delivery, c, reason, out))),
+        Stage::Refused { number } => Ok(Some(refused(delivery, c, number, out))),
         Stage::Between => Ok(Some(between(delivery, c, out))),
         Stage::Prices { cursor } => Ok(Some(among(delivery, c, cursor, out))),
         Stage::Article { cursor, rest } => Ok(Some(within(delivery, c, cursor, rest, out))),

@@ -19,7 +19,7 @@ abbrev pub decoded_from : Syntax → List ℕ → Option ℕ → ℕ → List �
 decoded_from y d None to = []
 decoded_from y d (Some from) to = decoded y from to d
 
--- some of the bytes of a part were put to the front of a row, as many as there is room for; what is left of the part
+-- some of the bytes of a part were put to the front of a row, as many as there is room for; what is left of the part, which is none where all were put
 pub record Poured (y : Syntax) (d : List ℕ) (from to stop : ℕ) (row row' : List ℕ) (r : Copied) : Type 0 where
   pub text : List ℕ
   pub parts : decoded y from to d ≡ text ++ decoded_from y d r.left to
@@ -27,6 +27,7 @@ pub record Poured (y : Syntax) (d : List ℕ) (from to stop : ℕ) (row row' : L
   pub count : r.length ≡ length text
   pub room : r.length ≤ stop
   pub full : IsSome r.left → r.length ≡ stop
+  pub more : IsSome r.left → decoded_from y d r.left to ≡ [] → ⊥
 
 -- what is put before the article from the place `from` to the place `to`: `-` stands for an absent one
 unfoldable pub opened : ℕ → ℕ → ℕ → List ℕ
